@@ -10,6 +10,8 @@ pub mod Exprs
 pub mod StmtParts
 pub mod Assigns
 pub mod Leads
+pub mod Following
+pub mod Closings
 pub mod Nested
 pub mod Members
 pub mod Decls

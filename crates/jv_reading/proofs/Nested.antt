@@ -1,44 +1,40 @@
 -- Statements are read exactly, those that hold others too.
 use Rattle.std.proofs.Common.{◌≡◌, ℕ, zero, suc, ◌+◌, ◌-◌, ◌<◌, ◌≤◌, List, [], ◌∷◌, ◌++◌, length, Bool, true, false, Option, Some, None}
 use Rattle.std.proofs.Common.{refl, sym, ap, ◌∙◌, subst, append_assoc, append-nil, length-append, arith, inl, inr, ◌⊎◌, true≢false}
-use Rattle.std.specs.Prelude.{◌&&◌, ◌||◌, leb, codes, if◌then◌else◌}
+use Rattle.std.specs.Prelude.{◌||◌, codes, if◌then◌else◌}
 use Rattle.mg_text.specs.Call.{Name}
 use Rattle.mg_text.specs.declared.place.Place.{Place}
 use Rattle.mg_read.specs.Reader.{Reader, all_of}
 use Rattle.mg_read.proofs.Steps.{bind_some, some_is, none_is_not, chosen, Takes}
 use Rattle.mg_read.proofs.Lists.{Each, IsExact, Starts, all_sound, all_complete}
-use Rattle.jv_tree.specs.declared.tree.Op.{Op}
-use Rattle.jv_tree.specs.declared.token.Sign.{Sign}
 use Rattle.jv_tree.specs.declared.token.Sign.TheVariants as signs
 use Rattle.jv_tree.specs.declared.token.Token.{Token}
-use Rattle.jv_tree.specs.Source.{Expr, place_of}
+use Rattle.jv_tree.specs.Source.{Expr}
 use Rattle.jv_tree.specs.Source.{Stmt, Block, Empty, Local, Assign, If, IfElse, While, Do, Switch, Break, Continue, Return, Print, Eval}
 use Rattle.jv_tree.specs.Source.{Stmts, NoStmt, Then, Groups, NoGroup, Group}
 use Rattle.jv_tree.specs.Depth.{depth, depth_of_stmt, depth_of_stmts, depth_of_groups}
 use Rattle.jv_tree.specs.Tokens.{word, sign, IsName, first_place}
-use Rattle.jv_reading.specs.Base.{same_sign, sign_at, is_sign, word_at, is_word, name_at}
+use Rattle.jv_reading.specs.Base.{sign_at, is_sign, word_at, is_word, name_at}
 use Rattle.mg_read.specs.Reader.{many}
-use Rattle.jv_tree.specs.Expressions.{IsPost, IsInner}
-use Rattle.jv_tree.specs.Sugar.{compound, counter, changed, one_at, printed, is_call, takes_else, is_one_group}
-use Rattle.jv_tree.specs.Statements.{IsCondition, IsTarget, IsLabel, IsLocal, IsAssign, AreCases, IsStmt, AreItems, AreGroups}
+use Rattle.jv_tree.specs.Sugar.{takes_else, is_one_group}
+use Rattle.jv_tree.specs.Statements.{IsCondition, IsLabel, IsLocal, AreCases, IsStmt, AreItems, AreGroups}
 use Rattle.jv_tree.specs.View.{stmts_of, OneGroup, groups_of}
-use Rattle.jv_reading.specs.Exprs.{post_at}
-use Rattle.jv_reading.specs.Stmts.{case_at, cond_at, ended_at, is_decl, is_case, goes_on, cases_at, place_ahead, jump_at, break_at}
-use Rattle.jv_reading.specs.Stmts.{continue_at, return_at, empty_at, compound_at, counter_at, is_counter, is_change, assigned, change_at}
-use Rattle.jv_reading.specs.Stmts.{target_at, assign_at, is_assign, is_label, evaluated_by, evaluated, evaluation_at, item_with, items_with}
+use Rattle.jv_reading.specs.Stmts.{case_at, cond_at, is_decl, is_case, goes_on, cases_at, place_ahead}
+use Rattle.jv_reading.specs.Stmts.{assign_at, is_assign, is_label, evaluation_at, item_with, items_with}
 use Rattle.jv_reading.specs.Stmts.{block_with, else_with, if_with, loop_place, loop_label, while_with, do_with, loop_with, labelled_with}
 use Rattle.jv_reading.specs.Stmts.{group_with, groups_with, switch_with, simple_with, stmt_with, stmt_at}
 use Rattle.jv_reading.proofs.Steps.{after, glue, sign_is, word_is, name_is, name_is_not}
-use Rattle.jv_reading.proofs.Primaries.{no_name_this, depth_pos}
-use Rattle.jv_reading.proofs.Beginnings.{Begins, begins_more, begins_no_sign, begins_no_word, post_begins}
-use Rattle.jv_reading.proofs.StmtParts.{cond_exact, local_sound, local_complete, cases_exact, cases_go, cases_some, final_no_name}
-use Rattle.jv_reading.proofs.StmtParts.{no_name_int, no_name_boolean, DeepStmt, break_sound, break_complete, continue_sound}
+use Rattle.jv_reading.proofs.Primaries.{depth_pos}
+use Rattle.jv_reading.proofs.StmtParts.{cond_exact, local_sound, local_complete, cases_exact, cases_go, cases_some}
+use Rattle.jv_reading.proofs.StmtParts.{DeepStmt, break_sound, break_complete, continue_sound}
 use Rattle.jv_reading.proofs.StmtParts.{continue_complete, return_sound, return_complete, empty_sound, empty_complete}
-use Rattle.jv_reading.proofs.Assigns.{TargetHead, Named, Own, target_head, compound_alone, counter_alone, assign_sound, assign_complete}
+use Rattle.jv_reading.proofs.Assigns.{assign_sound, assign_complete}
 use Rattle.jv_reading.proofs.Assigns.{free_call, printed_call, evaluation_sound, print_complete, eval_complete}
 use Rattle.jv_reading.proofs.Leads.{Starting, starting_more, starting_some, starting_no_else, starting_goes, starting_no_case, stmt_starts}
-use Rattle.jv_reading.proofs.Leads.{local_starts, local_decl, post_quiet, after_semicolon, no_name_if, no_name_while, no_name_do}
+use Rattle.jv_reading.proofs.Leads.{local_starts, local_decl, no_name_if, no_name_while, no_name_do}
 use Rattle.jv_reading.proofs.Leads.{no_name_switch, no_name_break, no_name_continue, no_name_return}
+use Rattle.jv_reading.proofs.Following.{assign_simple, evaluated_led, stmt_undeclared, Simple}
+use Rattle.jv_reading.proofs.Closings as closings
 
 abbrev pub NotElse : List Token → Type 0
 NotElse ts = is_word (codes "else") ts ≡ false
@@ -49,273 +45,6 @@ pub record StmtExact (f : Reader Token Stmt) (d : ℕ) : Type 0 where
   pub greedy : (ts : List Token) (x : Stmt × List Token) → f ts ≡ Some x → is_word (codes "else") x.1 ≡ true → takes_else x.0 ≡ false
   pub complete : (s : Stmt) (ts rest : List Token) → (takes_else s ≡ true → NotElse rest) → DeepStmt d s ts →
       f (ts ++ rest) ≡ Some (s, rest)
-
--- ---- which statement comes next
-
-compound_colon : (s : Sign) (o : Op) → compound s ≡ Some o → same_sign s signs.Colon ≡ false
-compound_colon signs.OpenBrace o h = absurd (none_is_not o h)
-compound_colon signs.CloseBrace o h = absurd (none_is_not o h)
-compound_colon signs.OpenParen o h = absurd (none_is_not o h)
-compound_colon signs.CloseParen o h = absurd (none_is_not o h)
-compound_colon signs.OpenBracket o h = absurd (none_is_not o h)
-compound_colon signs.CloseBracket o h = absurd (none_is_not o h)
-compound_colon signs.Semicolon o h = absurd (none_is_not o h)
-compound_colon signs.Comma o h = absurd (none_is_not o h)
-compound_colon signs.Dot o h = absurd (none_is_not o h)
-compound_colon signs.Assign o h = absurd (none_is_not o h)
-compound_colon signs.Equal o h = absurd (none_is_not o h)
-compound_colon signs.NotEqual o h = absurd (none_is_not o h)
-compound_colon signs.Less o h = absurd (none_is_not o h)
-compound_colon signs.LessEqual o h = absurd (none_is_not o h)
-compound_colon signs.Greater o h = absurd (none_is_not o h)
-compound_colon signs.GreaterEqual o h = absurd (none_is_not o h)
-compound_colon signs.Plus o h = absurd (none_is_not o h)
-compound_colon signs.Minus o h = absurd (none_is_not o h)
-compound_colon signs.Star o h = absurd (none_is_not o h)
-compound_colon signs.Slash o h = absurd (none_is_not o h)
-compound_colon signs.Percent o h = absurd (none_is_not o h)
-compound_colon signs.PlusPlus o h = absurd (none_is_not o h)
-compound_colon signs.MinusMinus o h = absurd (none_is_not o h)
-compound_colon signs.PlusAssign o h = refl
-compound_colon signs.MinusAssign o h = refl
-compound_colon signs.StarAssign o h = refl
-compound_colon signs.SlashAssign o h = refl
-compound_colon signs.PercentAssign o h = refl
-compound_colon signs.Bang o h = absurd (none_is_not o h)
-compound_colon signs.AndAnd o h = absurd (none_is_not o h)
-compound_colon signs.OrOr o h = absurd (none_is_not o h)
-compound_colon signs.Colon o h = absurd (none_is_not o h)
-compound_colon signs.At o h = absurd (none_is_not o h)
-compound_colon signs.Question o h = absurd (none_is_not o h)
-compound_colon signs.Ampersand o h = absurd (none_is_not o h)
-compound_colon signs.Bar o h = absurd (none_is_not o h)
-compound_colon signs.Caret o h = absurd (none_is_not o h)
-compound_colon signs.Tilde o h = absurd (none_is_not o h)
-
-counter_colon : (s : Sign) (o : Op) → counter s ≡ Some o → same_sign s signs.Colon ≡ false
-counter_colon signs.OpenBrace o h = absurd (none_is_not o h)
-counter_colon signs.CloseBrace o h = absurd (none_is_not o h)
-counter_colon signs.OpenParen o h = absurd (none_is_not o h)
-counter_colon signs.CloseParen o h = absurd (none_is_not o h)
-counter_colon signs.OpenBracket o h = absurd (none_is_not o h)
-counter_colon signs.CloseBracket o h = absurd (none_is_not o h)
-counter_colon signs.Semicolon o h = absurd (none_is_not o h)
-counter_colon signs.Comma o h = absurd (none_is_not o h)
-counter_colon signs.Dot o h = absurd (none_is_not o h)
-counter_colon signs.Assign o h = absurd (none_is_not o h)
-counter_colon signs.Equal o h = absurd (none_is_not o h)
-counter_colon signs.NotEqual o h = absurd (none_is_not o h)
-counter_colon signs.Less o h = absurd (none_is_not o h)
-counter_colon signs.LessEqual o h = absurd (none_is_not o h)
-counter_colon signs.Greater o h = absurd (none_is_not o h)
-counter_colon signs.GreaterEqual o h = absurd (none_is_not o h)
-counter_colon signs.Plus o h = absurd (none_is_not o h)
-counter_colon signs.Minus o h = absurd (none_is_not o h)
-counter_colon signs.Star o h = absurd (none_is_not o h)
-counter_colon signs.Slash o h = absurd (none_is_not o h)
-counter_colon signs.Percent o h = absurd (none_is_not o h)
-counter_colon signs.PlusPlus o h = refl
-counter_colon signs.MinusMinus o h = refl
-counter_colon signs.PlusAssign o h = absurd (none_is_not o h)
-counter_colon signs.MinusAssign o h = absurd (none_is_not o h)
-counter_colon signs.StarAssign o h = absurd (none_is_not o h)
-counter_colon signs.SlashAssign o h = absurd (none_is_not o h)
-counter_colon signs.PercentAssign o h = absurd (none_is_not o h)
-counter_colon signs.Bang o h = absurd (none_is_not o h)
-counter_colon signs.AndAnd o h = absurd (none_is_not o h)
-counter_colon signs.OrOr o h = absurd (none_is_not o h)
-counter_colon signs.Colon o h = absurd (none_is_not o h)
-counter_colon signs.At o h = absurd (none_is_not o h)
-counter_colon signs.Question o h = absurd (none_is_not o h)
-counter_colon signs.Ampersand o h = absurd (none_is_not o h)
-counter_colon signs.Bar o h = absurd (none_is_not o h)
-counter_colon signs.Caret o h = absurd (none_is_not o h)
-counter_colon signs.Tilde o h = absurd (none_is_not o h)
-
-counter_led : (s : Sign) (o : Op) → counter s ≡ Some o → (same_sign s signs.OpenBrace ≡ false) × (same_sign s signs.Semicolon ≡ false)
-counter_led signs.OpenBrace o h = absurd (none_is_not o h)
-counter_led signs.CloseBrace o h = absurd (none_is_not o h)
-counter_led signs.OpenParen o h = absurd (none_is_not o h)
-counter_led signs.CloseParen o h = absurd (none_is_not o h)
-counter_led signs.OpenBracket o h = absurd (none_is_not o h)
-counter_led signs.CloseBracket o h = absurd (none_is_not o h)
-counter_led signs.Semicolon o h = absurd (none_is_not o h)
-counter_led signs.Comma o h = absurd (none_is_not o h)
-counter_led signs.Dot o h = absurd (none_is_not o h)
-counter_led signs.Assign o h = absurd (none_is_not o h)
-counter_led signs.Equal o h = absurd (none_is_not o h)
-counter_led signs.NotEqual o h = absurd (none_is_not o h)
-counter_led signs.Less o h = absurd (none_is_not o h)
-counter_led signs.LessEqual o h = absurd (none_is_not o h)
-counter_led signs.Greater o h = absurd (none_is_not o h)
-counter_led signs.GreaterEqual o h = absurd (none_is_not o h)
-counter_led signs.Plus o h = absurd (none_is_not o h)
-counter_led signs.Minus o h = absurd (none_is_not o h)
-counter_led signs.Star o h = absurd (none_is_not o h)
-counter_led signs.Slash o h = absurd (none_is_not o h)
-counter_led signs.Percent o h = absurd (none_is_not o h)
-counter_led signs.PlusPlus o h = (refl, refl)
-counter_led signs.MinusMinus o h = (refl, refl)
-counter_led signs.PlusAssign o h = absurd (none_is_not o h)
-counter_led signs.MinusAssign o h = absurd (none_is_not o h)
-counter_led signs.StarAssign o h = absurd (none_is_not o h)
-counter_led signs.SlashAssign o h = absurd (none_is_not o h)
-counter_led signs.PercentAssign o h = absurd (none_is_not o h)
-counter_led signs.Bang o h = absurd (none_is_not o h)
-counter_led signs.AndAnd o h = absurd (none_is_not o h)
-counter_led signs.OrOr o h = absurd (none_is_not o h)
-counter_led signs.Colon o h = absurd (none_is_not o h)
-counter_led signs.At o h = absurd (none_is_not o h)
-counter_led signs.Question o h = absurd (none_is_not o h)
-counter_led signs.Ampersand o h = absurd (none_is_not o h)
-counter_led signs.Bar o h = absurd (none_is_not o h)
-counter_led signs.Caret o h = absurd (none_is_not o h)
-counter_led signs.Tilde o h = absurd (none_is_not o h)
-
--- none of the statements that a word or a sign of their own tells
-record Simple (ts : List Token) : Type 0 where
-  brace : is_sign signs.OpenBrace ts ≡ false
-  semicolon : is_sign signs.Semicolon ts ≡ false
-  no_if : is_word (codes "if") ts ≡ false
-  no_while : is_word (codes "while") ts ≡ false
-  no_do : is_word (codes "do") ts ≡ false
-  no_switch : is_word (codes "switch") ts ≡ false
-  no_break : is_word (codes "break") ts ≡ false
-  no_continue : is_word (codes "continue") ts ≡ false
-  no_return : is_word (codes "return") ts ≡ false
-  no_label : is_label ts ≡ false
-
-simple_begins : (ts : List Token) → Begins ts → is_label ts ≡ false → Simple ts
-simple_begins ts b label = record {
-  brace = begins_no_sign signs.OpenBrace ts refl b;
-  semicolon = begins_no_sign signs.Semicolon ts refl b;
-  no_if = begins_no_word (codes "if") ts (rw no_name_if refl) b;
-  no_while = begins_no_word (codes "while") ts (rw no_name_while refl) b;
-  no_do = begins_no_word (codes "do") ts (rw no_name_do refl) b;
-  no_switch = begins_no_word (codes "switch") ts (rw no_name_switch refl) b;
-  no_break = begins_no_word (codes "break") ts (rw no_name_break refl) b;
-  no_continue = begins_no_word (codes "continue") ts (rw no_name_continue refl) b;
-  no_return = begins_no_word (codes "return") ts (rw no_name_return refl) b;
-  no_label = label;
-}
-
-target_begins : (t : Expr) (us : List Token) → IsTarget t us → Begins us
-target_begins t us h = by_head (target_head t us h) where
-  by_head : TargetHead t us → Begins us
-  by_head (Named p n name parts) = record { token = word p n; others = []; parts = parts; kind = rw name refl }
-  by_head (Own p a b n name parts) = record { token = word p (codes "this"); others = _; parts = parts; kind = rw no_name_this refl }
-
--- a target and the sign of an assignment
-assign_led : (t : Expr) (us : List Token) (a : Place) (s : Sign) (rest : List Token) → IsTarget t us → same_sign s signs.Colon ≡ false →
-    is_change (sign a s ∷ rest) ≡ true
-    → Simple (us ++ sign a s ∷ rest) × (is_assign (us ++ sign a s ∷ rest) ≡ true)
-assign_led t us a s rest h colon change = (
-  simple_begins (us ++ sign a s ∷ rest) (begins_more us (sign a s ∷ rest) (target_begins t us h))
-      (unlabelled (target_head t us h)),
-  assigns (target_head t us h),
-) where
-  unlabelled : TargetHead t us → is_label (us ++ sign a s ∷ rest) ≡ false
-  unlabelled (Named p n name parts) = rw (parts, name, colon) refl
-  unlabelled (Own p b c n name parts) = rw (parts, no_name_this) refl
-
-  assigns : TargetHead t us → is_assign (us ++ sign a s ∷ rest) ≡ true
-  assigns (Named p n name parts) = rw (parts, name, change) refl
-  assigns (Own p b c n name parts) = rw (parts, no_name_this, name, change) refl
-
-assign_simple : (p : Place) (t v : Expr) (us rest : List Token) → IsAssign p t v us → Simple (us ++ rest) × (is_assign (us ++ rest) ≡ true)
-assign_simple p t v us rest (inl (place, a, b, vs, ws, parts, target, free)) =
-    rw (parts, append_assoc) (assign_led t vs a signs.Assign _ target refl refl)
-assign_simple p t v us rest (inr (inl (place, s, o, e, a, b, vs, ws, parts, comp, is, target, free))) =
-    let alone = compound_alone s o comp in
-    rw (parts, append_assoc) (assign_led t vs a s _ target (compound_colon s o comp) (rw (alone.0, alone.1, comp) refl))
-assign_simple p t v us rest (inr (inr (inl (place, s, o, a, b, vs, parts, count, is, target)))) =
-    let alone = counter_alone s o count in
-    rw (parts, append_assoc) (assign_led t vs a s _ target (counter_colon s o count) (rw (alone.0, count) refl))
-assign_simple p t v us rest (inr (inr (inr (s, o, b, vs, parts, count, is, target)))) =
-    let led = counter_led s o count in
-    rw parts (
-      record {
-        brace = led.0;
-        semicolon = led.1;
-        no_if = refl;
-        no_while = refl;
-        no_do = refl;
-        no_switch = refl;
-        no_break = refl;
-        no_continue = refl;
-        no_return = refl;
-        no_label = refl;
-      },
-      rw count refl,
-    )
-
--- the tokens of an expression, as a statement begins with them
-evaluated_led : (c : Expr) (us : List Token) (a : Place) (rest : List Token) → IsPost 400 (IsInner 400) c us
-    → Simple (us ++ sign a signs.Semicolon ∷ rest) × (is_assign (us ++ sign a signs.Semicolon ∷ rest) ≡ false)
-    × (is_decl (us ++ sign a signs.Semicolon ∷ rest) ≡ false)
-evaluated_led c us a rest h =
-    let quiet = post_quiet 400 (IsInner 400) c us (sign a signs.Semicolon ∷ rest) (after_semicolon a rest) h in (
-      simple_begins (us ++ sign a signs.Semicolon ∷ rest)
-          (begins_more us (sign a signs.Semicolon ∷ rest) (post_begins 400 (IsInner 400) c us h)) quiet.unlabelled,
-      quiet.unassigned,
-      quiet.undeclared,
-    )
-
--- a target in front is no declaration
-target_undeclared : (t : Expr) (us : List Token) (a : Place) (s : Sign) (rest : List Token) → IsTarget t us →
-    is_decl (us ++ sign a s ∷ rest) ≡ false
-target_undeclared t us a s rest h = by_head (target_head t us h) where
-  by_head : TargetHead t us → is_decl (us ++ sign a s ∷ rest) ≡ false
-  by_head (Named p n name parts) = rw (
-    parts,
-    name_is_not n (codes "final") name final_no_name,
-    name_is_not n (codes "int") name
-        no_name_int,
-    name_is_not n (codes "boolean") name no_name_boolean,
-    name,
-  ) refl
-  by_head (Own p b c n name parts) = rw (parts, no_name_this) refl
-
-assign_undeclared : (p : Place) (t v : Expr) (us rest : List Token) → IsAssign p t v us → is_decl (us ++ rest) ≡ false
-assign_undeclared p t v us rest (inl (place, a, b, vs, ws, parts, target, free)) =
-    rw (parts, append_assoc) (target_undeclared t vs a signs.Assign _ target)
-assign_undeclared p t v us rest (inr (inl (place, s, o, e, a, b, vs, ws, parts, comp, is, target, free))) =
-    rw (parts, append_assoc) (target_undeclared t vs a s _ target)
-assign_undeclared p t v us rest (inr (inr (inl (place, s, o, a, b, vs, parts, count, is, target)))) =
-    rw (parts, append_assoc) (target_undeclared t vs a s _ target)
-assign_undeclared p t v us rest (inr (inr (inr (s, o, b, vs, parts, count, is, target)))) = rw parts refl
-
-label_undeclared : (p a : Place) (l : Option Name) (w : Name) (us vs : List Token) → IsLabel p a l us → is_decl (word a w ∷ vs) ≡ false →
-    is_decl (us ++ word a w ∷ vs) ≡ false
-label_undeclared p a None w us vs (same, parts) h = rw parts h
-label_undeclared p a (Some n) w us vs (name, b, parts) h =
-    rw (
-      parts,
-      name_is_not n (codes "final") name final_no_name,
-      name_is_not n (codes "int") name no_name_int,
-      name_is_not n (codes "boolean") name no_name_boolean,
-      name,
-    ) refl
-
-stmt_undeclared : (s : Stmt) (us rest : List Token) → IsStmt s us → is_decl (us ++ rest) ≡ false
-stmt_undeclared (Block p body end) us rest (vs, parts, h) = rw parts refl
-stmt_undeclared (Empty p) us rest parts = rw parts refl
-stmt_undeclared (Local p ty n e) us rest h = absurd h
-stmt_undeclared (Assign p t e) us rest h = assign_undeclared p t e us rest h
-stmt_undeclared (If p c s) us rest (vs, ws, parts, cond, h) = rw (parts, no_name_if) refl
-stmt_undeclared (IfElse p c s r) us rest (a, vs, ws, xs, parts, cond, h, closed, g) = rw (parts, no_name_if) refl
-stmt_undeclared (While p l c s) us rest (a, vs, ws, xs, parts, label, cond, h) =
-    rw (parts, append_assoc) (label_undeclared p a l (codes "while") vs _ label (rw no_name_while refl))
-stmt_undeclared (Do p l s c) us rest (a, b, d, vs, ws, xs, parts, label, h, cond) =
-    rw (parts, append_assoc) (label_undeclared p a l (codes "do") vs _ label (rw no_name_do refl))
-stmt_undeclared (Switch p e gs end) us rest (a, vs, ws, parts, cond, h) = rw (parts, no_name_switch) refl
-stmt_undeclared (Break p l) us rest (a, vs, parts, h) = rw (parts, no_name_break) refl
-stmt_undeclared (Continue p l) us rest (a, vs, parts, h) = rw (parts, no_name_continue) refl
-stmt_undeclared (Return p e) us rest (a, vs, parts, h) = rw (parts, no_name_return) refl
-stmt_undeclared (Print p e) us rest (begins, c, a, vs, parts, free, is) =
-    rw (parts, append_assoc) (evaluated_led c vs a rest (free_call c vs (printed_call c e is) free)).2
-stmt_undeclared (Eval p e) us rest (begins, c, a, vs, parts, free, is) =
-    rw (parts, append_assoc) (evaluated_led c vs a rest (free_call c vs is.1 free)).2
 
 -- ---- lists of statements
 
@@ -896,101 +625,6 @@ module _ (d : ℕ) (f : Reader Token Stmt) (exact : StmtExact f d) where
 
   -- ---- all of them
 
-  break_closed : (ts : List Token) (x : Stmt × List Token) → break_at ts ≡ Some x → takes_else x.0 ≡ false
-  unfolding break_at
-  break_closed ts x e =
-      let a = bind_some (word_at (codes "break") ts) _ x e in
-      let l = bind_some (jump_at a.0.1) _ x a.2 in
-      subst (λ (y : Stmt × List Token). takes_else y.0 ≡ false) (some_is (Break a.0.0 l.0.0, l.0.1) x l.2) refl
-
-  continue_closed : (ts : List Token) (x : Stmt × List Token) → continue_at ts ≡ Some x → takes_else x.0 ≡ false
-  unfolding continue_at
-  continue_closed ts x e =
-      let a = bind_some (word_at (codes "continue") ts) _ x e in
-      let l = bind_some (jump_at a.0.1) _ x a.2 in
-      subst (λ (y : Stmt × List Token). takes_else y.0 ≡ false) (some_is (Continue a.0.0 l.0.0, l.0.1) x l.2) refl
-
-  return_closed : (ts : List Token) (x : Stmt × List Token) → return_at d ts ≡ Some x → takes_else x.0 ≡ false
-  unfolding return_at
-  return_closed ts x e =
-      let a = bind_some (word_at (codes "return") ts) _ x e in
-      elim (chosen (is_sign signs.Semicolon a.0.1) _ _ (Some x) a.2) [
-        | inl t ↦
-            let c = bind_some (sign_at signs.Semicolon a.0.1) _ x t.1 in
-            subst (λ (y : Stmt × List Token). takes_else y.0 ≡ false) (some_is (Return a.0.0 None, c.0.1) x c.2) refl
-        | inr t ↦
-            let v = bind_some (ended_at d a.0.1) _ x t.1 in
-            subst (λ (y : Stmt × List Token). takes_else y.0 ≡ false) (some_is (Return a.0.0 (Some v.0.0), v.0.1) x v.2) refl
-      ]
-
-  empty_closed : (ts : List Token) (x : Stmt × List Token) → empty_at ts ≡ Some x → takes_else x.0 ≡ false
-  unfolding empty_at
-  empty_closed ts x e =
-      let a = bind_some (sign_at signs.Semicolon ts) _ x e in
-      subst (λ (y : Stmt × List Token). takes_else y.0 ≡ false) (some_is (Empty a.0.0, a.0.1) x a.2) refl
-
-  assigned_closed : (p : Place) (t v : Expr) (ts : List Token) (x : Stmt × List Token) → assigned d p t v ts ≡ Some x →
-      takes_else x.0 ≡ false
-  assigned_closed p t v ts x e =
-      elim (chosen (leb (depth t) d && leb (depth v) d) _ _ (Some x) e) [
-        | inl h ↦ subst (λ (y : Stmt × List Token). takes_else y.0 ≡ false) (some_is (Assign p t v, ts) x h.1) refl
-        | inr h ↦ absurd (none_is_not x h.1)
-      ]
-
-  change_closed : (t : Expr) (ts : List Token) (x : Stmt × List Token) → change_at d t ts ≡ Some x → takes_else x.0 ≡ false
-  unfolding change_at
-  change_closed t ts x e =
-      elim (chosen (is_sign signs.Assign ts) _ _ (Some x) e) [
-        | inl h ↦
-            let a = bind_some (sign_at signs.Assign ts) _ x h.1 in
-            let v = bind_some (ended_at d a.0.1) _ x a.2 in
-            assigned_closed (place_of t) t v.0.0 v.0.1 x v.2
-        | inr g ↦ elim (chosen (is_counter ts) _ _ (Some x) g.1) [
-          | inl h ↦
-              let o = bind_some (counter_at ts) _ x h.1 in
-              let c = bind_some (sign_at signs.Semicolon o.0.1) _ x o.2 in
-              assigned_closed (place_of t) t (changed o.0.0.1 t (one_at t)) c.0.1 x c.2
-          | inr h ↦
-              let o = bind_some (compound_at ts) _ x h.1 in
-              let v = bind_some (ended_at d o.0.1) _ x o.2 in
-              assigned_closed (place_of t) t (changed o.0.0 t v.0.0) v.0.1 x v.2
-        ]
-      ]
-
-  assign_closed : (ts : List Token) (x : Stmt × List Token) → assign_at d ts ≡ Some x → takes_else x.0 ≡ false
-  unfolding assign_at
-  assign_closed ts x e =
-      elim (chosen (is_counter ts) _ _ (Some x) e) [
-        | inl h ↦
-            let o = bind_some (counter_at ts) _ x h.1 in
-            let t = bind_some (target_at o.0.1) _ x o.2 in
-            let c = bind_some (sign_at signs.Semicolon t.0.1) _ x t.2 in
-            assigned_closed o.0.0.0 t.0.0 (changed o.0.0.1 t.0.0 (one_at t.0.0)) c.0.1 x c.2
-        | inr h ↦ let t = bind_some (target_at ts) _ x h.1 in change_closed t.0.0 t.0.1 x t.2
-      ]
-
-  evaluated_closed : (p : Place) (c : Expr) (o : Option Expr) (s : Stmt) → evaluated_by d p c o ≡ Some s → takes_else s ≡ false
-  evaluated_closed p c None s e =
-      elim (chosen (is_call c && leb (depth c) d) _ _ (Some s) e) [
-        | inl h ↦ subst (λ (z : Stmt). takes_else z ≡ false) (some_is (Eval p c) s h.1) refl
-        | inr h ↦ absurd (none_is_not s h.1)
-      ]
-  evaluated_closed p c (Some v) s e =
-      elim (chosen (leb (depth v) d) _ _ (Some s) e) [
-        | inl h ↦ subst (λ (z : Stmt). takes_else z ≡ false) (some_is (Print p v) s h.1) refl
-        | inr h ↦ absurd (none_is_not s h.1)
-      ]
-
-  evaluation_closed : (ts : List Token) (x : Stmt × List Token) → evaluation_at d ts ≡ Some x → takes_else x.0 ≡ false
-  unfolding evaluation_at
-  evaluation_closed ts x e =
-      let p = bind_some (place_ahead ts) _ x e in
-      let c = bind_some (post_at 400 (d + 2) ts) _ x p.2 in
-      let a = bind_some (sign_at signs.Semicolon c.0.1) _ x c.2 in
-      let s = bind_some (evaluated d p.0 c.0.0) _ x a.2 in
-      subst (λ (y : Stmt × List Token). takes_else y.0 ≡ false) (some_is (s.0, a.0.1) x s.2)
-      (evaluated_closed p.0 c.0.0 (printed c.0.0) s.0 s.1)
-
   -- what is read, with each `else` that belongs to it
   abbrev Result : (Stmt × List Token) → List Token → Type 0
   Result x ts = Deeper x ts × (is_word (codes "else") x.1 ≡ true → takes_else x.0 ≡ false)
@@ -1002,14 +636,14 @@ module _ (d : ℕ) (f : Reader Token Stmt) (exact : StmtExact f d) where
   unfolding simple_with
   simple_sound ts x e =
       elim (chosen (is_word (codes "break") ts) _ _ (Some x) e) [
-        | inl h ↦ closed x ts (break_sound d ts x h.1) (break_closed ts x h.1)
+        | inl h ↦ closed x ts (break_sound d ts x h.1) (closings.break_closed d ts x h.1)
         | inr g ↦ elim (chosen (is_word (codes "continue") ts) _ _ (Some x) g.1) [
-          | inl h ↦ closed x ts (continue_sound d ts x h.1) (continue_closed ts x h.1)
+          | inl h ↦ closed x ts (continue_sound d ts x h.1) (closings.continue_closed d ts x h.1)
           | inr g ↦ elim (chosen (is_word (codes "return") ts) _ _ (Some x) g.1) [
-            | inl h ↦ closed x ts (return_sound d ts x h.1) (return_closed ts x h.1)
+            | inl h ↦ closed x ts (return_sound d ts x h.1) (closings.return_closed d ts x h.1)
             | inr g ↦ elim (chosen (is_assign ts) _ _ (Some x) g.1) [
-              | inl h ↦ closed x ts (assign_sound d ts x h.1) (assign_closed ts x h.1)
-              | inr h ↦ closed x ts (evaluation_sound d ts x h.1) (evaluation_closed ts x h.1)
+              | inl h ↦ closed x ts (assign_sound d ts x h.1) (closings.assign_closed d ts x h.1)
+              | inr h ↦ closed x ts (evaluation_sound d ts x h.1) (closings.evaluation_closed d ts x h.1)
             ]
           ]
         ]
@@ -1021,7 +655,7 @@ module _ (d : ℕ) (f : Reader Token Stmt) (exact : StmtExact f d) where
       elim (chosen (is_sign signs.OpenBrace ts) _ _ (Some x) e) [
         | inl h ↦ let one = block_sound ts x h.1 in closed x ts one.0 one.1
         | inr g ↦ elim (chosen (is_sign signs.Semicolon ts) _ _ (Some x) g.1) [
-          | inl h ↦ closed x ts (empty_sound d ts x h.1) (empty_closed ts x h.1)
+          | inl h ↦ closed x ts (empty_sound d ts x h.1) (closings.empty_closed d ts x h.1)
           | inr g ↦ elim (chosen (is_word (codes "if") ts) _ _ (Some x) g.1) [
             | inl h ↦ if_sound ts x h.1
             | inr g ↦ elim (chosen (is_word (codes "while") ts || is_word (codes "do") ts) _ _ (Some x) g.1) [
