@@ -16,9 +16,9 @@ use Rattle.mg_refusal.specs.declared.stop.Stop.{Stop}
 use Rattle.mg_refusal.specs.declared.stop.Stop.TheVariants as stops
 use Rattle.mg_refusal.proofs.Orders.{refused_by, unless_refused, never_ok, stop_refused_by}
 use Rattle.mg_sources.specs.Files.{Source}
-use Rattle.mg_program.specs.Program.{HaveCore}
-use Rattle.mg_program.specs.Program as program
-use Rattle.mg_program.proofs.Apart.{one_core}
+use Rattle.mg_accepted.specs.Program.{HaveCore}
+use Rattle.mg_accepted.specs.Program as program
+use Rattle.mg_accepted.proofs.OneCore.{one_core}
 use Rattle.mg_accepted.specs.declared.accepted.AcceptedProgram.{AcceptedProgram}
 use Rattle.mg_accepted.specs.Demands.{demand_refusal}
 use Rattle.mg_accepted.specs.Accepted.{AreAccepted, FirstRefusal}

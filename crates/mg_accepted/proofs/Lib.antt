@@ -1,3 +1,10 @@
+pub mod Shaped
+pub mod Grammatical
+pub mod Refused
+pub mod OneCore
+pub mod Resolved
+pub mod Total
+pub mod TypesAlike
 pub mod Judged
 pub mod Apart
 pub mod Alike

@@ -25,11 +25,11 @@ use Rattle.mg_sources.specs.Sources.{Sourced, AreProgram}
 use Rattle.mg_sources.specs.View.{sourced_of}
 use Rattle.mg_sources.specs.declared.sources.Sources.{Sources as KeptSources}
 use Rattle.mg_sources.specs.Sources as reading
-use Rattle.mg_program.specs.Program.{HaveCore, type_refusal, TypeRefusal, FirstRefusal}
-use Rattle.mg_program.specs.inner.Answers.{HasNoFault}
-use Rattle.mg_program.proofs.Grammatical.{shaped, assigns, numbered}
-use Rattle.mg_program.proofs.Refused.{table_refused, method_refused}
-use Rattle.mg_program.proofs.Apart.{no_refusal, one_core}
+use Rattle.mg_accepted.specs.Program.{HaveCore, type_refusal, TypeRefusal, FirstRefusal}
+use Rattle.mg_accepted.specs.inner.Answers.{HasNoFault}
+use Rattle.mg_accepted.proofs.Grammatical.{shaped, assigns, numbered}
+use Rattle.mg_accepted.proofs.Refused.{table_refused, method_refused}
+use Rattle.mg_accepted.proofs.OneCore.{no_refusal, one_core}
 
 -- ---- judging
 

@@ -1,7 +1,7 @@
 //! Which files have a core.
 //! There is no running code here; the function carries a law.
 
-ghost use Rattle.mg_program.specs.Laws.{WellTypedIsResolved};
+ghost use Rattle.mg_accepted.specs.Laws.{WellTypedIsResolved};
 
 use jv_resolve_law::{resolving_is_right, resolving_is_total};
 use jv_shaped::spelled_is_shaped;

@@ -4,8 +4,8 @@ use Rattle.jv_core.specs.declared.resolved.Core.{Core}
 use Rattle.mg_sources.specs.Files.{sources}
 use Rattle.mg_sources.specs.View.{sourced_of}
 use Rattle.mg_refusal.specs.declared.stop.Stop.{Stop}
-use Rattle.mg_program.proofs.Resolved.{files_numbered, read_failed, judge_failed, is_shaped, only_assigns, is_well_typed, resolved}
-use Rattle.mg_program.proofs.program.core_of.Goals as goal
+use Rattle.mg_accepted.proofs.Resolved.{files_numbered, read_failed, judge_failed, is_shaped, only_assigns, is_well_typed, resolved}
+use Rattle.mg_accepted.proofs.program.core_of.Goals as goal
 
 abbrev failed : Stop → Result Core Stop
 failed f = Err f

@@ -3,8 +3,8 @@
 ghost use Rattle.std.specs.Prelude.{◌≡◌, length};
 ghost use Rattle.mg_refusal.specs.Order.{Answers};
 ghost use Rattle.mg_sources.specs.View.{sourced_of};
-ghost use Rattle.mg_program.specs.Program.{TypeRefusal};
-ghost use Rattle.mg_program.specs.inner.Answers.{HasNoFault};
+ghost use Rattle.mg_accepted.specs.Program.{TypeRefusal};
+ghost use Rattle.mg_accepted.specs.inner.Answers.{HasNoFault};
 
 use crate::refusal::stop_of;
 use jv_types::{table, type_check};

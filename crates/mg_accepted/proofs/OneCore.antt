@@ -13,7 +13,7 @@ use Rattle.mg_refusal.proofs.Orders.{then_never}
 use Rattle.mg_sources.specs.Files.{Source}
 use Rattle.mg_sources.specs.Sources.{Sourced}
 use Rattle.mg_sources.proofs.Together.{not_both, one_program}
-use Rattle.mg_program.specs.Program.{AreWellTyped, HaveCore, TypeRefusal, FirstRefusal}
+use Rattle.mg_accepted.specs.Program.{AreWellTyped, HaveCore, TypeRefusal, FirstRefusal}
 
 -- no condition answers twice
 never : (program : Program) (origins : List ℕ) (k : Condition) (c : Culprit) → Of program origins k None → Of program origins k (Some c) → ⊥

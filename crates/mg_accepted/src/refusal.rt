@@ -3,7 +3,7 @@
 ghost use Rattle.std.specs.Prelude.{◌≡◌};
 ghost use Rattle.jv_types.specs.Outcome.{fault_told};
 ghost use Rattle.mg_refusal.specs.Order.{IsStopOf};
-ghost use Rattle.mg_program.specs.Program.{type_refusal};
+ghost use Rattle.mg_accepted.specs.Program.{type_refusal};
 
 use jv_types::TypeFault;
 use mg_refusal::Stop;

@@ -10,7 +10,7 @@ use Rattle.mg_sources.specs.Files.{Source}
 use Rattle.mg_sources.specs.Sources.{Sourced}
 use Rattle.mg_sources.proofs.Together.{not_both, one_program}
 use Rattle.mg_sources.proofs.Alike as reading
-use Rattle.mg_program.specs.Program.{type_refusal, TypeRefusal, FirstRefusal}
+use Rattle.mg_accepted.specs.Program.{type_refusal, TypeRefusal, FirstRefusal}
 
 same_some : {A : Type 0} (x y : A) → Some x ≡ Some y → x ≡ y
 same_some x y e = cc

@@ -6,7 +6,7 @@ ghost use Rattle.jv_core.specs.Tree as CoreTree;
 ghost use Rattle.jv_core.specs.Core.{tree_of};
 ghost use Rattle.mg_refusal.specs.Refusals.{Refusal};
 ghost use Rattle.mg_refusal.specs.Order.{Answers, AnswersOnly};
-ghost use Rattle.mg_program.specs.Program.{HaveCore, FirstRefusal};
+ghost use Rattle.mg_accepted.specs.Program.{HaveCore, FirstRefusal};
 
 use crate::judged::judge;
 use jv_core::Core;

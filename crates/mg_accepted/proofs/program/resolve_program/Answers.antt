@@ -1,6 +1,6 @@
 use Rattle.mg_sources.specs.Files.{sources}
-use Rattle.mg_program.proofs.Resolved.{core_answered, refused_no_core}
-use Rattle.mg_program.proofs.program.resolve_program.Goals as goal
+use Rattle.mg_accepted.proofs.Resolved.{core_answered, refused_no_core}
+use Rattle.mg_accepted.proofs.program.resolve_program.Goals as goal
 
 pub returns : goal.returns
 returns c = record {

@@ -12,7 +12,7 @@ use Rattle.mg_refusal.specs.Order.{Finds, Then}
 use Rattle.mg_sources.specs.Files.{Source}
 use Rattle.mg_sources.specs.Sources.{Sourced, AreProgram}
 use Rattle.mg_sources.specs.Sources as reading
-use Rattle.mg_program.specs.Words.{type_word}
+use Rattle.mg_accepted.specs.Words.{type_word}
 
 -- a condition that is at fault, as a refusal
 abbrev pub type_refusal : Condition × Culprit → Refusal

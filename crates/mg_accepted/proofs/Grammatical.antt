@@ -17,7 +17,7 @@ use Rattle.mg_sources.specs.Reading.{Part, Reads}
 use Rattle.mg_sources.specs.Reading as reading
 use Rattle.mg_sources.specs.Sources.{Sourced, Stands, Spell}
 use Rattle.mg_sources.specs.Sources as together
-use Rattle.mg_program.proofs.Shaped.{api_class_shaped, api_class_assigns, api_classes}
+use Rattle.mg_accepted.proofs.Shaped.{api_class_shaped, api_class_assigns, api_classes}
 
 all_both : {X : Type 0} (P : X → Type 0) (xs ys : List X) → AllByRecursion P xs → AllByRecursion P ys → AllByRecursion P (xs ++ ys)
 all_both P [] ys h k = k

@@ -9,8 +9,8 @@ use Rattle.mg_refusal.specs.Order.{Answers, IsStopOf, at_first, at_next}
 use Rattle.mg_refusal.specs.declared.stop.Stop.{Stop}
 use Rattle.mg_refusal.proofs.Orders.{stop_refused}
 use Rattle.mg_sources.specs.Sources.{Sourced}
-use Rattle.mg_program.specs.Program.{type_refusal, TypeRefusal}
-use Rattle.mg_program.specs.inner.Answers.{HasNoFault}
+use Rattle.mg_accepted.specs.Program.{type_refusal, TypeRefusal}
+use Rattle.mg_accepted.specs.inner.Answers.{HasNoFault}
 
 -- what a fault tells of there is
 of_told : (Is : Option (Condition × Culprit) → Type 0) (fault : TypeFault) (told : Condition × Culprit) → fault_told fault ≡ Some told →

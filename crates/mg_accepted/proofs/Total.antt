@@ -8,9 +8,9 @@ use Rattle.jv_rules.specs.Faults.{IsWellTyped}
 use Rattle.jv_rules.specs.Program.{Program}
 use Rattle.jv_shaped.specs.Laws.{SpelledIsShaped}
 use Rattle.mg_sources.specs.Files.{Source}
-use Rattle.mg_program.specs.Laws.{WellTypedIsResolved}
-use Rattle.mg_program.specs.Program.{AreWellTyped}
-use Rattle.mg_program.proofs.Grammatical.{assigns, numbered}
+use Rattle.mg_accepted.specs.Laws.{WellTypedIsResolved}
+use Rattle.mg_accepted.specs.Program.{AreWellTyped}
+use Rattle.mg_accepted.proofs.Grammatical.{assigns, numbered}
 
 well_typed : (files : List Source) (program : Program) → AreWellTyped files program → IsWellTyped program
 well_typed files program h = record {

@@ -1,5 +1,5 @@
-use Rattle.mg_program.proofs.Resolved.{same_count, table_failed, method_failed, no_fault}
-use Rattle.mg_program.proofs.judged.judge.Goals as goal
+use Rattle.mg_accepted.proofs.Resolved.{same_count, table_failed, method_failed, no_fault}
+use Rattle.mg_accepted.proofs.judged.judge.Goals as goal
 
 pub table-requires : goal.table-requires
 table-requires c =
