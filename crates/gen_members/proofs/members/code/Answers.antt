@@ -4,8 +4,8 @@ use Rattle.std.proofs.lemmas.Result.{err_from_is_err_and}
 use Rattle.jv_core.specs.Core.{tree_of}
 use Rattle.gen_symbolic.specs.View.{instr_of, instrs_of}
 use Rattle.gen_pool.specs.Made.{IsMade}
-use Rattle.gen_layout.specs.Kept.{laid_of}
-use Rattle.gen_layout.specs.Laid.{laid}
+use Rattle.gen_members.specs.Kept.{laid_of}
+use Rattle.gen_members.specs.Laid.{laid}
 use Rattle.gen_members.specs.Told.{Tells}
 use Rattle.gen_members.specs.Parts.{compiled_of, excess_at}
 use Rattle.gen_members.proofs.Stages.{code_made, judged_alone, many_alone}

@@ -6,8 +6,8 @@ use Rattle.cls_tree.specs.Tree as file
 use Rattle.jv_core.specs.Core.{tree_of}
 use Rattle.gen_symbolic.specs.View.{instr_of, instrs_of}
 use Rattle.gen_pool.specs.Made.{IsMade}
-use Rattle.gen_layout.specs.Kept.{laid_of}
-use Rattle.gen_layout.specs.Laid.{laid}
+use Rattle.gen_members.specs.Kept.{laid_of}
+use Rattle.gen_members.specs.Laid.{laid}
 use Rattle.gen_members.specs.Told.{Tells}
 use Rattle.gen_members.specs.Parts.{compiled_of, excess_at}
 use Rattle.gen_members.proofs.Stages.{member_made, judged_as, many}
