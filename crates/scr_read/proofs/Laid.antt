@@ -14,8 +14,8 @@ use Rattle.scr_tree.specs.Tree.{Statements, Nothing, other}
 use Rattle.scr_tree.specs.View.{front, statements, bodies, part_of}
 use Rattle.scr_tree.proofs.ViewLemmas.{front-Message, front-Choice, front-Rec, front-Continue, front-Do}
 use Rattle.scr_tree.proofs.Behind.{each_front, statements-step, statements-past, bodies-step, bodies-past}
-use Rattle.scr_print.specs.Layout.{indent, message_text, do_text, argument_list, part_text, part_texts, block, lines, branch_lines}
-use Rattle.scr_print.specs.Layout.{role_list}
+use Rattle.scr_read.specs.Layout.{indent, message_text, do_text, argument_list, part_text, part_texts, block, lines, branch_lines}
+use Rattle.scr_read.specs.Layout.{role_list}
 
 -- the end of a line, taken into the brackets
 two : (a n r : List ℕ) → a ++ (n ++ r) ≡ (a ++ n) ++ r

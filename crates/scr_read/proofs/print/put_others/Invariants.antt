@@ -1,6 +1,6 @@
 use Rattle.std.proofs.Common.{◌≡◌, ◌++◌, drop, string_bytes}
-use Rattle.scr_print.proofs.Laid.{texts_of}
-use Rattle.scr_print.proofs.print.put_others.Given as goal
+use Rattle.scr_read.proofs.Laid.{texts_of}
+use Rattle.scr_read.proofs.print.put_others.Given as goal
 
 abbrev pub invariant-loop-part : goal.invariant-loop-part
 invariant-loop-part l =

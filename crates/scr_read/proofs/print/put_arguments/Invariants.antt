@@ -1,8 +1,8 @@
 use denote.Shadow.{shadow}
 use denote.Text.{Utf8}
 use Rattle.std.proofs.Common.{◌≡◌, ◌++◌, [], drop, string_bytes}
-use Rattle.scr_print.specs.Layout.{argument_list}
-use Rattle.scr_print.proofs.print.put_arguments.Given as goal
+use Rattle.scr_read.specs.Layout.{argument_list}
+use Rattle.scr_read.proofs.print.put_arguments.Given as goal
 
 abbrev pub invariant-loop-role : goal.invariant-loop-role
 invariant-loop-role l =

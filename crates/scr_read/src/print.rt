@@ -5,8 +5,8 @@ ghost use Rattle.std.specs.List.{flat_map};
 ghost use Rattle.scr_tree.specs.Local.{tree_of};
 ghost use Rattle.scr_tree.specs.Tree.{Nothing, other};
 ghost use Rattle.scr_tree.specs.View.{front, statements, bodies, part_of};
-ghost use Rattle.scr_print.specs.Layout.{layout, part_text, part_texts, do_text, argument_list, block, lines, branch_lines, role_list};
-ghost use Rattle.scr_print.specs.Layout.{indent, message_text, payload_word, direction_word};
+ghost use Rattle.scr_read.specs.Layout.{layout, part_text, part_texts, do_text, argument_list, block, lines, branch_lines, role_list};
+ghost use Rattle.scr_read.specs.Layout.{indent, message_text, payload_word, direction_word};
 
 use mg_text::{List, Memory, Text};
 use scr_tree::{Direction, Local, Message, Part, Payload, Statement};

@@ -1,6 +1,6 @@
 use Rattle.std.proofs.Common.{[], ◌∷◌, refl, string_bytes, ◌∙◌}
-use Rattle.scr_print.proofs.Laid.{role_more}
-use Rattle.scr_print.proofs.print.put_roles.Goals as goal
+use Rattle.scr_read.proofs.Laid.{role_more}
+use Rattle.scr_read.proofs.print.put_roles.Goals as goal
 
 pub loop-role-preserved : goal.loop-role-preserved
 unfolding lib.Utf8.encode

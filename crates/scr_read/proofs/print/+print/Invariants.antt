@@ -2,8 +2,8 @@ use denote.Shadow.{shadow}
 use denote.Text.{Utf8}
 use Rattle.std.proofs.Common.{◌≡◌, ◌+◌, ◌*◌, ◌++◌, [], drop, string_bytes}
 use Rattle.scr_tree.specs.View.{statements, bodies}
-use Rattle.scr_print.specs.Layout.{lines, branch_lines}
-use Rattle.scr_print.proofs.print.+print.Given as goal
+use Rattle.scr_read.specs.Layout.{lines, branch_lines}
+use Rattle.scr_read.proofs.print.+print.Given as goal
 
 abbrev pub invariant-put_all-loop-statement : goal.invariant-put_all-loop-statement
 invariant-put_all-loop-statement l =

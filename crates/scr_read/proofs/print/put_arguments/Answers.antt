@@ -1,6 +1,6 @@
 use Rattle.std.proofs.Common.{[], ◌∷◌, refl, string_bytes, ◌∙◌}
-use Rattle.scr_print.proofs.Laid.{argument_more}
-use Rattle.scr_print.proofs.print.put_arguments.Goals as goal
+use Rattle.scr_read.proofs.Laid.{argument_more}
+use Rattle.scr_read.proofs.print.put_arguments.Goals as goal
 
 pub loop-role-preserved : goal.loop-role-preserved
 unfolding lib.Utf8.encode
