@@ -5,6 +5,6 @@ pub mod OneCore
 pub mod Resolved
 pub mod Total
 pub mod TypesAlike
-pub mod Judged
+pub mod Usages
 pub mod Apart
 pub mod Alike
