@@ -6,7 +6,7 @@ ghost use Rattle.mg_sources.specs.Files.{EndsWith, Kind, suffix_of};
 use crate::{codes, cores, flows, forms, judged, keys, used};
 use cases::{File, files_of};
 use jv_core::Core;
-use mg_program::resolve_program;
+use mg_accepted::resolve_program;
 use mg_refusal::Stop;
 use mg_text::{Bytes, List, Memory, Text};
 use mg_top::refused;

@@ -7,9 +7,7 @@ ghost use Rattle.gen_rules.specs.Classes.{access_of, constructor, constructors};
 ghost use Rattle.gen_rules.specs.inner.Files.{generated_method, generated_class};
 ghost use Rattle.gen_members.specs.Parts.{compiled_of};
 
-use gen_init::constructor_code;
-use gen_members::Making;
-use gen_refs::method_descriptor;
+use gen_members::{Making, constructor_code, method_descriptor};
 use gen_symbolic::{MethodCode, method_code};
 use jv_core::{Core, CoreClass, CoreMethod, MethodKind, name_text};
 use mg_text::{List, Memory};

@@ -1,3 +1,11 @@
+pub mod Described
+pub mod Found
+pub mod Putting
+pub mod Counting
+pub mod Judging
+pub mod Looking
+pub mod Assembling
+pub mod Sizing
 pub mod Filing
 pub mod Seen
 pub mod Stages

@@ -9,8 +9,8 @@ use Rattle.gen_rules.specs.Assembled.{assembled}
 use Rattle.gen_rules.specs.Classes.{Compiled, code_in_file, method_in_file}
 use Rattle.gen_rules.specs.Limits.{OfMethod, exceeded, exceeded_by, exceeded_by_code}
 use Rattle.gen_pool.specs.Made.{IsMade}
-use Rattle.gen_layout.specs.Laid.{Laid, laid, finals}
-use Rattle.gen_layout.proofs.Assembling.{pool_is, code_is, size_is, as_many}
+use Rattle.gen_members.specs.Laid.{Laid, laid, finals}
+use Rattle.gen_members.proofs.Assembling.{pool_is, code_is, size_is, as_many}
 
 abbrev pub member_with : Compiled → (name descriptor code_name : ℕ) → List file.Instr → file.Member
 member_with c n d k is = record {

@@ -2,11 +2,11 @@
 
 ghost use Rattle.std.specs.Prelude.{◌≡◌, None, Some, drop, OnOk, IfErr};
 ghost use Rattle.gen_rules.specs.Limits.{exceeded};
-ghost use Rattle.gen_limits.specs.Told.{limit_of};
+ghost use Rattle.gen_members.specs.ToldLimits.{limit_of};
 ghost use Rattle.gen_members.specs.Told.{Tells};
 ghost use Rattle.gen_members.specs.Parts.{excess_at};
 
-use gen_limits::{Limit, first_exceeded};
+use crate::exceeding::{Limit, first_exceeded};
 use gen_pool::Pool;
 use mg_text::{Memory, Place, Text};
 use std::alloc::Global;

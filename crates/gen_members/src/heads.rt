@@ -11,10 +11,10 @@ ghost use Rattle.gen_pool.specs.Made.{IsMade};
 ghost use Rattle.gen_members.specs.Told.{Tells};
 ghost use Rattle.gen_members.specs.Parts.{part_excess, AreFine, FirstTold};
 
+use crate::descriptors::field_descriptor;
 use crate::faults::{GenFault, Telling, judge};
 use cls_tree::Member;
 use gen_pool::{Pool, class_const, short};
-use gen_refs::field_descriptor;
 use jv_core::{Core, CoreClass, CoreField, name_text};
 use mg_text::List;
 use std::alloc::Global;
@@ -33,7 +33,7 @@ pub(crate) fn told_at<'a>(core: &'a Core, class: &CoreClass) -> Telling<'a>
 }
 
 /// The numbers of a class and of its super class, the first constants of a pool.
-pub fn header(
+pub(crate) fn header(
     alloc: Global,
     core: &Core,
     class: &CoreClass,
@@ -78,7 +78,7 @@ fn field_in_file(
 }
 
 /// The fields of a class file, one after another.
-pub fn fields(
+pub(crate) fn fields(
     alloc: Global,
     core: &Core,
     class: &CoreClass,

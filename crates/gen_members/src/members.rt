@@ -9,13 +9,14 @@ ghost use Rattle.gen_symbolic.specs.View.{instrs_of};
 ghost use Rattle.gen_rules.specs.Classes.{code_in_file, method_in_file};
 ghost use Rattle.gen_rules.specs.Limits.{OfMethod, exceeded_by, exceeded_by_code};
 ghost use Rattle.gen_pool.specs.Made.{IsMade, IsFrontOf};
-ghost use Rattle.gen_layout.specs.Laid.{finals};
+ghost use Rattle.gen_members.specs.Laid.{finals};
 ghost use Rattle.gen_members.specs.Told.{Tells};
 ghost use Rattle.gen_members.specs.Parts.{compiled_of, part_excess, excess_at};
 
 use crate::faults::{GenFault, Telling, judge};
+use crate::finals::final_code;
+use crate::laying::{Laid, lay_out};
 use cls_tree::{Attr, Code, Member};
-use gen_layout::{Laid, final_code, lay_out};
 use gen_pool::{Pool, short};
 use gen_symbolic::Symbolic;
 use jv_core::Core;
@@ -118,12 +119,11 @@ pub fn code(
         name: making.told_as,
     };
     judge(alloc, telling, laid.end, making.max_locals, pool, old)?;
-    let code = code_in_file(alloc, making, name, &laid)?;
-    Ok(code)
+    Ok(code_in_file(alloc, making, name, &laid)?)
 }
 
 /// A method of a class file. What it needs in the pool is made before its sizes are judged.
-pub fn method(
+pub(crate) fn method(
     alloc: Global,
     core: &Core,
     making: &Making<'_>,
@@ -148,6 +148,5 @@ pub fn method(
     };
     judge(alloc, telling, laid.end, making.max_locals, pool, old)?;
     let code = code_in_file(alloc, making, code_name, &laid)?;
-    let member = with_code(alloc, making.access, name, descriptor, code)?;
-    Ok(member)
+    Ok(with_code(alloc, making.access, name, descriptor, code)?)
 }

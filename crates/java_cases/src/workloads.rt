@@ -4,8 +4,7 @@ use crate::printed;
 use cases::{Answer, fault_text, plain};
 use mg_load::{MOST, Workload, load_files};
 use mg_text::Memory;
-use scr_print::print_local;
-use scr_read::read_local;
+use scr_read::{print_local, read_local};
 use std::alloc::Global;
 
 /// Of a workload as `400 7`, with how many branches it has and the number that picks their order: a

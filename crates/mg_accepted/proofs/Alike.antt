@@ -5,8 +5,8 @@ use Rattle.use_check.proofs.First.{one_demand}
 use Rattle.mg_refusal.specs.Refusals.{Refusal, AreAlike}
 use Rattle.mg_refusal.proofs.Orders.{finds_alike, then_alike}
 use Rattle.mg_sources.specs.Files.{Source}
-use Rattle.mg_program.proofs.Apart.{no_refusal, one_core}
-use Rattle.mg_program.proofs.Alike as program
+use Rattle.mg_accepted.proofs.OneCore.{no_refusal, one_core}
+use Rattle.mg_accepted.proofs.TypesAlike as program
 use Rattle.mg_accepted.specs.Demands.{demand_refusal}
 use Rattle.mg_accepted.specs.Accepted.{FirstRefusal}
 

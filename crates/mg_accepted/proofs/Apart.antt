@@ -9,7 +9,7 @@ use Rattle.use_check.specs.Verdict.{IsAccepted, FailsFirst}
 use Rattle.mg_refusal.specs.Refusals.{Refusal}
 use Rattle.mg_refusal.proofs.Orders.{then_never}
 use Rattle.mg_sources.specs.Files.{Source}
-use Rattle.mg_program.proofs.Apart.{no_refusal, one_core}
+use Rattle.mg_accepted.proofs.OneCore.{no_refusal, one_core}
 use Rattle.mg_accepted.specs.Accepted.{AreAccepted, FirstRefusal}
 
 none_first : {P : Type 0} (d : Demand) → ◌≡◌ {A = Option Demand} None (Some d) → P

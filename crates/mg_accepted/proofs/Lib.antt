@@ -1,3 +1,10 @@
-pub mod Judged
+pub mod Shaped
+pub mod Grammatical
+pub mod Refused
+pub mod OneCore
+pub mod Resolved
+pub mod Total
+pub mod TypesAlike
+pub mod Usages
 pub mod Apart
 pub mod Alike

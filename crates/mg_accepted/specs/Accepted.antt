@@ -5,8 +5,8 @@ use Rattle.use_check.specs.Verdict.{IsAccepted, FailsFirst}
 use Rattle.mg_refusal.specs.Refusals.{Refusal}
 use Rattle.mg_refusal.specs.Order.{Finds, Then}
 use Rattle.mg_sources.specs.Files.{Source}
-use Rattle.mg_program.specs.Program.{HaveCore}
-use Rattle.mg_program.specs.Program as program
+use Rattle.mg_accepted.specs.Program.{HaveCore}
+use Rattle.mg_accepted.specs.Program as program
 use Rattle.mg_accepted.specs.Demands.{demand_refusal}
 
 -- These files are a well typed program, this is its core, and some tables solve it.

@@ -12,9 +12,9 @@ ghost use Rattle.mg_accepted.specs.Accepted.{AreAccepted, FirstRefusal};
 ghost use Rattle.mg_accepted.specs.View.{IsProgramOf};
 ghost use Rattle.mg_accepted.specs.inner.Answers.{IsSolved};
 
+use crate::program::resolve_program;
 use crate::unmet::stop_of;
 use jv_core::Core;
-use mg_program::resolve_program;
 use mg_refusal::Stop;
 use mg_text::{Bytes, Text};
 use std::alloc::Global;

@@ -18,8 +18,8 @@ use Rattle.mg_sources.specs.Reading.{Part, Protocol, Reads}
 use Rattle.mg_sources.specs.Sources.{Sourced, adding, Stands, Spell}
 use Rattle.mg_sources.specs.Sources as together
 use Rattle.mg_sources.proofs.OneKind.{one_part}
-use Rattle.mg_program.specs.Program.{AreWellTyped}
-use Rattle.mg_program.proofs.Grammatical.{numbered}
+use Rattle.mg_accepted.specs.Program.{AreWellTyped}
+use Rattle.mg_accepted.proofs.Grammatical.{numbered}
 use Rattle.mg_acts_law.proofs.Read.{valid_read}
 
 -- a program has the files of a protocol's API and the protocol's typestate

@@ -6,7 +6,7 @@ use Rattle.gen_rules.proofs.Files.{only_excess}
 use Rattle.mg_refusal.specs.Refusals.{Refusal, AreAlike}
 use Rattle.mg_refusal.proofs.Orders.{finds_alike, then_alike}
 use Rattle.mg_sources.specs.Files.{Source}
-use Rattle.mg_program.proofs.Apart.{one_core}
+use Rattle.mg_accepted.proofs.OneCore.{one_core}
 use Rattle.mg_accepted.proofs.Apart.{not_refused}
 use Rattle.mg_accepted.proofs.Alike as accepted
 use Rattle.mg_accepted.specs.Accepted.{AreAccepted}

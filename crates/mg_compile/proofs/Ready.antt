@@ -23,8 +23,8 @@ use Rattle.gen_rules.specs.Limits.{IsFirstExcess}
 use Rattle.gen_fits.specs.Spelled.{IsSpelled, CoresFit, CoresAreSmall}
 use Rattle.gen_held.specs.Laws.{CanBeHeld, WrittenCoresAreHeld}
 use Rattle.mg_sources.specs.Files.{Source}
-use Rattle.mg_program.specs.Program.{AreWellTyped, HaveCore}
-use Rattle.mg_program.proofs.Grammatical.{shaped, numbered}
+use Rattle.mg_accepted.specs.Program.{AreWellTyped, HaveCore}
+use Rattle.mg_accepted.proofs.Grammatical.{shaped, numbered}
 use Rattle.mg_compile.specs.View.{IsOfFiles}
 
 pub well_typed : (files : List Source) (program : Program) → AreWellTyped files program → IsWellTyped program

@@ -7,8 +7,8 @@ use Rattle.jv_names.specs.Laws.{MainsAreTheSame}
 use Rattle.jv_shaped.specs.Laws.{SpelledIsShaped}
 use Rattle.use_meant_law.specs.Laws.{SourcesKeepTypestates}
 use Rattle.mg_sources.specs.Files.{Source}
-use Rattle.mg_program.specs.Program.{AreWellTyped}
-use Rattle.mg_program.proofs.Grammatical.{shaped, numbered}
+use Rattle.mg_accepted.specs.Program.{AreWellTyped}
+use Rattle.mg_accepted.proofs.Grammatical.{shaped, numbered}
 use Rattle.mg_kept_law.specs.Laws.{AcceptedKeepTypestates}
 
 well_typed : (files : List Source) (program : Program) → AreWellTyped files program → IsWellTyped program

@@ -3,7 +3,7 @@ use Rattle.std.specs.Prelude.{◌≡◌, ◌⊎◌, ℕ, List, [], ◌∷◌, �
 use Rattle.mg_text.specs.Call.{Name}
 use Rattle.mg_text.specs.Row.{Row}
 use Rattle.scr_tree.specs.Tree.{LocalTree}
-use Rattle.scr_print.specs.Layout.{layout}
+use Rattle.scr_read.specs.Layout.{layout}
 use Rattle.scr_global_tree.specs.Tree.{GlobalTree}
 use Rattle.scr_global_read.specs.Outcome as reads
 use Rattle.scr_project.specs.Laws.{AreProjected}

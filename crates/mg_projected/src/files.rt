@@ -13,8 +13,8 @@ use crate::fault::ProjectedFault;
 use mg_text::{List, Memory, Text};
 use scr_global_read::{GlobalFault, read_global};
 use scr_global_tree::Global as GlobalProtocol;
-use scr_print::print_local;
 use scr_project::{ProjectFault, project};
+use scr_read::print_local;
 use scr_tree::Local;
 use std::alloc::Global;
 

@@ -18,7 +18,7 @@ use Rattle.mg_refusal.specs.Refusals.{Refusal}
 use Rattle.mg_refusal.specs.Order.{Answers, AnswersOnly}
 use Rattle.mg_refusal.specs.declared.stop.Stop.{Stop}
 use Rattle.mg_refusal.proofs.Orders.{then_never, unless_refused, never_ok}
-use Rattle.mg_program.proofs.Apart.{one_core}
+use Rattle.mg_accepted.proofs.OneCore.{one_core}
 use Rattle.mg_accepted.proofs.Apart as accepted
 use Rattle.mg_compile.specs.declared.files.ClassFile.{ClassFile}
 use Rattle.mg_compile.specs.Files.{AreClassFiles}

@@ -16,7 +16,7 @@ use Rattle.vm_world_law.proofs.Order.{order_is_free}
 use Rattle.vm_world_law.proofs.Once.{begun_many, turns_long}
 use Rattle.world_meant_law.specs.Worlds.{IsMeant, WorldsAreMeant}
 use Rattle.mg_sources.specs.Files.{Source}
-use Rattle.mg_program.specs.Program.{HaveCore}
+use Rattle.mg_accepted.specs.Program.{HaveCore}
 use Rattle.mg_compile.specs.declared.files.ClassFile.{ClassFile}
 use Rattle.mg_compile.specs.Files.{AreClassFiles}
 use Rattle.mg_runs.specs.Runs.{IsLoaded, HaveMains, names_of}

@@ -34,8 +34,8 @@ use Rattle.gen_held.specs.Laws.{WrittenCoresAreHeld}
 use Rattle.gen_sound.specs.Mains.{CoreHasMain, MainsAgree}
 use Rattle.gen_sound.proofs.Starting.{main_stands}
 use Rattle.mg_sources.specs.Files.{Source}
-use Rattle.mg_program.specs.Program.{HaveCore}
-use Rattle.mg_program.proofs.Grammatical.{shaped}
+use Rattle.mg_accepted.specs.Program.{HaveCore}
+use Rattle.mg_accepted.proofs.Grammatical.{shaped}
 use Rattle.mg_compile.proofs.Ready.{is_core, is_held, well_typed}
 use Rattle.mg_compile.specs.declared.files.ClassFile.{ClassFile}
 use Rattle.mg_compile.specs.Files.{HoldClasses, AreClassFiles}

@@ -18,7 +18,7 @@ use Rattle.vm_world_law.specs.World.{World, turns, IsBegun}
 use Rattle.world_meant_law.specs.Meant.{Holds, RunsAsMeant}
 use Rattle.gen_rules.specs.Linked.{linked_program}
 use Rattle.mg_sources.specs.Files.{Source}
-use Rattle.mg_program.specs.Program.{HaveCore}
+use Rattle.mg_accepted.specs.Program.{HaveCore}
 use Rattle.mg_accepted.specs.Accepted.{AreAccepted}
 use Rattle.mg_compile.specs.declared.files.ClassFile.{ClassFile}
 use Rattle.mg_compile.specs.Files.{AreClassFiles}

@@ -22,7 +22,7 @@ use Rattle.mg_sources.specs.Reading.{Protocol}
 use Rattle.mg_sources.proofs.OneKind.{one_part, excludes, alike}
 use Rattle.mg_sources.proofs.Together.{one_api}
 use Rattle.mg_sources.proofs.Alike as sources_alike
-use Rattle.mg_program.proofs.Apart.{one_core}
+use Rattle.mg_accepted.proofs.OneCore.{one_core}
 use Rattle.mg_accepted.proofs.Alike as accepted_alike
 use Rattle.mg_compile.proofs.Apart.{one_compiled}
 use Rattle.mg_compile.proofs.Alike as compiled_alike

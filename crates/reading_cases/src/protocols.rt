@@ -3,8 +3,7 @@
 use cases::{Answer, fault_text, plain, told};
 use mg_text::{Memory, Place};
 use scr_lex::{reserved, tokens};
-use scr_print::print_local;
-use scr_read::{Local, ScrFault, Statement, read_local};
+use scr_read::{Local, ScrFault, Statement, print_local, read_local};
 use scr_tree::{Token, TokenKind};
 use std::alloc::Global;
 

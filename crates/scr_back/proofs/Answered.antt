@@ -29,7 +29,7 @@ use Rattle.scr_tree.specs.Written.{Carries, Arguments, WrittenPart, WrittenTree,
 use Rattle.scr_tree.specs.Written.{title_of, local_of}
 use Rattle.scr_judge.proofs.Members.{Contains-first, Contains-later, Contains-image, Contains-origin}
 use Rattle.scr_read.specs.Outcome.{Outcome, Protocol, found}
-use Rattle.scr_print.specs.Layout.{layout}
+use Rattle.scr_read.specs.Layout.{layout}
 use Rattle.scr_back.specs.Same.{AreSame, AreSameBranches, IsSame}
 use Rattle.scr_back.proofs.Said.{IsPlain, PlainCarried, GivenAll}
 use Rattle.scr_back.proofs.Spots.{Zip, zip-append, SameSpot, clean_same, spots_same}

@@ -9,7 +9,7 @@ use Rattle.scr_tree.specs.Tok.{Tok, named, marked}
 use Rattle.scr_tree.specs.Words.{IsName}
 use Rattle.scr_tree.specs.Written.{role_name}
 use Rattle.scr_parse.specs.Grammar.{Behind as After, Listed, IsRole}
-use Rattle.scr_print.specs.Layout.{role_list}
+use Rattle.scr_read.specs.Layout.{role_list}
 use Rattle.scr_back.proofs.Told.{NoName, Told, nothing, convert, blank_then, Behind, sign_then, word_then}
 use Rattle.scr_back.proofs.Marks.{naming, role_word}
 use Rattle.scr_back.proofs.Said.{on}

@@ -13,7 +13,7 @@ use Rattle.scr_tree.specs.Tok.{Tok, named, marked}
 use Rattle.scr_tree.specs.Words.{IsName, reserved}
 use Rattle.scr_lex.specs.Pieces.{word_tok}
 use Rattle.scr_parse.specs.Grammar.{direction_mark}
-use Rattle.scr_print.specs.Layout.{direction_word}
+use Rattle.scr_read.specs.Layout.{direction_word}
 use Rattle.mg_read.specs.Culprit.{Culprit}
 use Rattle.scr_read.specs.Unsupported.{IsUnsupported}
 use Rattle.scr_back.proofs.Told.{IsToken, supported}

@@ -19,7 +19,7 @@ use Rattle.scr_lex.specs.Pieces.{AreTokens}
 use Rattle.scr_parse.specs.Grammar.{carries_among, arguments_among, IsLocal, IsShallow, IsSpelled}
 use Rattle.scr_read.specs.Unsupported.{IsUnsupported}
 use Rattle.scr_read.specs.Spelling.{Spells}
-use Rattle.scr_print.specs.Layout.{layout, block, part_text, part_texts, role_list}
+use Rattle.scr_read.specs.Layout.{layout, block, part_text, part_texts, role_list}
 use Rattle.scr_back.specs.Same.{AreSame, AreSameBranches, AreSameParts, IsSame}
 use Rattle.scr_back.proofs.Told.{Any, NoName, Told, nothing, blank_then, Behind, sign_then, word_then, Both, both, Whole, whole}
 use Rattle.scr_back.proofs.Marks.{naming, local_word, protocol_word, at_word}

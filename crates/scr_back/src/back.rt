@@ -6,7 +6,7 @@ ghost use Rattle.scr_tree.specs.Valid.{IsWritten, IsValid};
 ghost use Rattle.scr_tree.specs.Written.{WrittenTree, local_of};
 ghost use Rattle.scr_read.specs.Outcome.{Outcome, Protocol};
 ghost use Rattle.scr_read.specs.Spelling.{Spells};
-ghost use Rattle.scr_print.specs.Layout.{layout};
+ghost use Rattle.scr_read.specs.Layout.{layout};
 ghost use Rattle.scr_back.specs.Same.{IsSame};
 
 /// The text of a local protocol whose names can be written, and which is among its own roles,

@@ -3,4 +3,5 @@ pub mod Unique
 pub mod Named
 pub mod Staged
 pub mod Moved
+pub mod Laid
 mod Unplaced

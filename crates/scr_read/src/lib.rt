@@ -1,5 +1,5 @@
-//! Reads the text of a Scribble local protocol.
-//! The answer is the protocol that the bytes spell, or the fault of the lowest number at its first place.
+//! Reads the text of a Scribble local protocol, and prints a protocol.
+//! What reading answers is the protocol that the bytes spell, or the fault of the lowest number at its first place.
 #![tactic(auto)]
 
 ghost use Rattle.std.specs.Prelude.{◌≡◌, ◌≤◌, ℕ, List, length, Some, IfErr, Err};
@@ -10,6 +10,7 @@ ghost use Rattle.scr_read.specs.inner.Stages.{Stage, IsProtocol};
 
 mod fault;
 mod parts;
+mod print;
 mod text;
 mod verdict;
 mod words;
@@ -20,8 +21,8 @@ pub use fault::ScrFault;
 use mg_read::place_within;
 use mg_text::Place;
 pub use parts::local_of;
+pub use print::print_local;
 use scr_judge::first_fault;
-pub use scr_print::print_local;
 pub use scr_tree::{Direction, Local, Message, Part, Payload, Statement};
 use std::alloc::Global;
 

@@ -1,12 +1,19 @@
--- What the functions that judge the usages of a program may answer.
+-- What the functions that judge a program, and its usages, may answer.
 use Rattle.std.specs.Prelude.{◌≡◌, Option, Some, None}
 use Rattle.jv_core.specs.Core.{tree_of}
 use Rattle.jv_core.specs.Tree as Core
+use Rattle.jv_rules.specs.Faults.{IsTableFault, IsFault}
 use Rattle.use_rules.specs.declared.demand.Demand.{Demand}
 use Rattle.use_check.specs.declared.verdict.CheckFault.{CheckFault}
 use Rattle.use_check.specs.declared.verdict.CheckFault.TheVariants as faults
 use Rattle.use_check.specs.Verdict.{AreAnswer}
+use Rattle.mg_sources.specs.Sources.{Sourced}
 use Rattle.mg_accepted.specs.declared.accepted.AcceptedProgram.{AcceptedProgram}
+
+-- no type condition is at fault
+pub record HasNoFault (sourced : Sourced) : Type 0 where
+  pub declarations : IsTableFault sourced.program sourced.origins None
+  pub methods : IsFault sourced.program None
 
 -- the demand that a fault tells of
 abbrev pub demand_of : CheckFault → Option Demand

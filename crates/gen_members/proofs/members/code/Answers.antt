@@ -4,8 +4,8 @@ use Rattle.std.proofs.lemmas.Result.{err_from_is_err_and}
 use Rattle.jv_core.specs.Core.{tree_of}
 use Rattle.gen_symbolic.specs.View.{instr_of, instrs_of}
 use Rattle.gen_pool.specs.Made.{IsMade}
-use Rattle.gen_layout.specs.Kept.{laid_of}
-use Rattle.gen_layout.specs.Laid.{laid}
+use Rattle.gen_members.specs.Kept.{laid_of}
+use Rattle.gen_members.specs.Laid.{laid}
 use Rattle.gen_members.specs.Told.{Tells}
 use Rattle.gen_members.specs.Parts.{compiled_of, excess_at}
 use Rattle.gen_members.proofs.Stages.{code_made, judged_alone, many_alone}
@@ -35,7 +35,7 @@ returns-clause-made c =
     let lay = subst (λ is. IsMade (laid_of c.in_ok-laid.laid) c.lay_out.new.pool (laid 0 (instrs_of p is) c.utf8-2.new.self))
     c.as_slice-instrs.ensures.items
     c.in_ok-laid.ensures.made in
-    rw (c.in_ok-code.ensures p) (code_made (compiled_of p c.args.making.now) c.args.pool.now _ _ _ _ c.in_ok-name.ensures.made lay)
+    rw (c.in_ok-code_in_file.ensures p) (code_made (compiled_of p c.args.making.now) c.args.pool.now _ _ _ _ c.in_ok-name.ensures.made lay)
 
 pub returns-clause-fine : goal.returns-clause-fine
 returns-clause-fine c =

@@ -6,8 +6,8 @@ use Rattle.cls_tree.specs.Tree as file
 use Rattle.jv_core.specs.Core.{tree_of}
 use Rattle.gen_symbolic.specs.View.{instr_of, instrs_of}
 use Rattle.gen_pool.specs.Made.{IsMade}
-use Rattle.gen_layout.specs.Kept.{laid_of}
-use Rattle.gen_layout.specs.Laid.{laid}
+use Rattle.gen_members.specs.Kept.{laid_of}
+use Rattle.gen_members.specs.Laid.{laid}
 use Rattle.gen_members.specs.Told.{Tells}
 use Rattle.gen_members.specs.Parts.{compiled_of, excess_at}
 use Rattle.gen_members.proofs.Stages.{member_made, judged_as, many}
@@ -46,7 +46,7 @@ returns-clause-made c =
     let lay = subst (λ is. IsMade (laid_of c.in_ok-laid.laid) c.lay_out.new.pool (laid 0 (instrs_of p is) c.utf8-3.new.self))
     c.as_slice-instrs.ensures.items
     c.in_ok-laid.ensures.made in
-    let is = c.in_ok-member.ensures
+    let is = c.in_ok-with_code.ensures
     ∙ ap (λ code. record {
       access = m.access;
       name = c.in_ok-name.name;

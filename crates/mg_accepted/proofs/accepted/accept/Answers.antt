@@ -1,5 +1,5 @@
 use Rattle.mg_sources.specs.Files.{sources}
-use Rattle.mg_accepted.proofs.Judged.{accepted_answered, refused_no_program}
+use Rattle.mg_accepted.proofs.Usages.{accepted_answered, refused_no_program}
 use Rattle.mg_accepted.proofs.accepted.accept.Goals as goal
 
 pub returns : goal.returns

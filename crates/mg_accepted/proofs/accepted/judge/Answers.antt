@@ -1,6 +1,6 @@
 use Rattle.std.proofs.Common.{refl}
 use Rattle.jv_core.specs.Core.{tree_of}
-use Rattle.mg_accepted.proofs.Judged.{unmet_judged}
+use Rattle.mg_accepted.proofs.Usages.{unmet_judged}
 use Rattle.mg_accepted.proofs.accepted.judge.Goals as goal
 
 pub returns-in-Ok : goal.returns-in-Ok

@@ -4,7 +4,7 @@ use Rattle.jv_core.specs.Core.{tree_of}
 use Rattle.mg_refusal.specs.declared.stop.Stop.{Stop}
 use Rattle.mg_sources.specs.Files.{sources}
 use Rattle.mg_accepted.specs.declared.accepted.AcceptedProgram.{AcceptedProgram}
-use Rattle.mg_accepted.proofs.Judged.{core_judged, ill_typed_judged}
+use Rattle.mg_accepted.proofs.Usages.{core_judged, ill_typed_judged}
 use Rattle.mg_accepted.proofs.accepted.verdict.Goals as goal
 
 abbrev failed : Stop → Result AcceptedProgram Stop

@@ -1,0 +1,38 @@
+use Rattle.mg_accepted.proofs.Resolved.{same_count, table_failed, method_failed, no_fault}
+use Rattle.mg_accepted.proofs.judged.judge.Goals as goal
+
+pub table-requires : goal.table-requires
+table-requires c =
+    same_count c.args.sources.now (record {
+      files = c.as_slice.ensures.items;
+      typestates = c.as_slice-2.ensures.items;
+      origins =
+          c.as_slice-3.ensures.items;
+    }) c.requires
+
+pub returns-in-Err : goal.returns-in-Err
+returns-in-Err c =
+    table_failed c.args.sources.now (record {
+      files = c.as_slice.ensures.items;
+      typestates = c.as_slice-2.ensures.items;
+      origins = c.as_slice-3.ensures.items;
+    }) c.in-Err.fault c.stop_of.result c.stop_of.ensures c.in-Err.ensures.fault
+
+pub returns-in-Ok-type_check : goal.returns-in-Ok-type_check
+returns-in-Ok-type_check c =
+    no_fault c.args.sources.now (record {
+      files = c.as_slice.ensures.items;
+      typestates = c.as_slice-2.ensures.items;
+      origins =
+          c.as_slice-3.ensures.items;
+    }) _ c.in-Ok.ensures.program
+    c.in-Ok.ensures.fine c.in-Ok-type_check.ensures.fine
+
+pub returns : goal.returns
+returns c =
+    method_failed c.args.sources.now (record {
+      files = c.as_slice.ensures.items;
+      typestates = c.as_slice-2.ensures.items;
+      origins = c.as_slice-3.ensures.items;
+    }) c.in-Err-type_check.fault c.stop_of-in-Err-type_check.result c.stop_of-in-Err-type_check.ensures _ c.in-Ok.ensures.program
+    c.in-Ok.ensures.fine c.in-Err-type_check.ensures.fault

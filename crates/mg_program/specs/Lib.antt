@@ -1,4 +1,0 @@
-pub mod Words
-pub mod Program
-pub mod Laws
-pub mod inner

@@ -1,0 +1,10 @@
+use denote.Shadow.{shadow}
+use denote.Text.{Utf8}
+use Rattle.std.proofs.Common.{◌≡◌, ◌++◌, [], drop, string_bytes}
+use Rattle.scr_read.specs.Layout.{role_list}
+use Rattle.scr_read.proofs.print.put_roles.Given as goal
+
+abbrev pub invariant-loop-role : goal.invariant-loop-role
+invariant-loop-role l =
+    shadow (Utf8 l.before) × (string_bytes l.initial.out ++ role_list [] l.roles ≡ string_bytes l.out ++ role_list l.before
+    (drop l.role-index l.roles))
