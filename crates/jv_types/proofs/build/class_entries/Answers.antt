@@ -13,4 +13,8 @@ loop-decl-preserved c = record {
   classes = kept_more c.args.decls.now c.loop-decl.decl-index c.decl-item.result c.loop-decl-test.true c.decl-item.is class_kept _ _ _
       c.loop-decl.invariant.classes c.in_ok-add_class.ensures.classes;
   follow = c.in_ok-add_class.ensures.follow c.loop-decl.invariant.follow;
+  numbers = c.in_ok-add_class.ensures.numbers c.loop-decl.invariant.numbers;
 }
+
+pub returns-clause-numbers : goal.returns-clause-numbers
+returns-clause-numbers c = c.loop-decl.invariant.numbers.each
