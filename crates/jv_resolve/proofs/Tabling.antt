@@ -1,18 +1,17 @@
 -- The table of a program is that of its trees.
 use Rattle.std.proofs.Common.{◌≡◌, ℕ, suc, ◌+◌, List, [], ◌∷◌, map, length, Option, Some, None, refl, sym, ap, ◌∙◌, position}
 use Rattle.std.specs.Prelude.{◌≢◌}
-use Rattle.std.specs.Option.{option_map}
 use Rattle.std.specs.Str.{bytes_eq}
 use Rattle.mg_text.specs.Call.{Name}
 use Rattle.ts_tree.specs.Typestate.{Typestate}
 use Rattle.jv_tree.specs.Source.{Class, Enum}
-use Rattle.jv_tree.specs.View.{class_of, enum_of}
-use Rattle.jv_meaning.specs.Program.{classes_of, enums_of}
+use Rattle.jv_tree.specs.View.{class_of}
+use Rattle.jv_meaning.specs.Program.{enums_of}
 use Rattle.jv_rules.specs.Program.{Program}
 use Rattle.jv_types.specs.declared.entry.ClassEntry.{ClassEntry}
 use Rattle.jv_types.specs.declared.name_table.Table.{Table}
-use Rattle.jv_types.specs.Tables.{program_in, class_entries_of, enum_entries_of}
-use Rattle.jv_types.specs.inner.Numbers.{numbers, numbers_in, number_named, numbers_from, classes_seen}
+use Rattle.jv_types.specs.Tables.{program_in, class_entries_of}
+use Rattle.jv_types.specs.inner.Numbers.{Numbers, numbers, numbers_in, number_named, numbers_from, classes_seen}
 use Rattle.jv_types.proofs.Entries.{all_classes_in, all_enums_in}
 use Rattle.jv_resolve_law.specs.Tables.{◌>>=◌, Entry, Tables, followed, entries_from, tables_of}
 use Rattle.jv_resolve.specs.inner.Seen.{entry_seen, tables_seen}
@@ -47,8 +46,10 @@ module _ (typestates : List Typestate) (n m : ℕ) (x : ClassEntry) where
   same_entry : numbers_in x ≡ numbers n m (number_named (map (λ t. t.name) typestates) class.typestate) →
       (t : Option ℕ) → followed typestates class.typestate ≡ Some t → entry_of class n m t ≡ entry_seen x
   same_entry is t h =
-      ap (λ k. entry_of class k m t) (sym (ap (λ k. k.class) is)) ∙ ap (λ k. entry_of class x.number k t) (sym (ap (λ k. k.first_method) is))
-      ∙ ap (entry_of class x.number x.first_method) (sym (ap (λ k. k.typestate) is ∙ number_followed typestates class.typestate t h))
+      ap (λ k. entry_of class k m t) (sym (ap (λ (k : Numbers). k.class) is))
+      ∙ ap (λ k. entry_of class x.number k t) (sym (ap (λ (k : Numbers). k.first_method) is))
+      ∙ ap (entry_of class x.number x.first_method) (sym (ap (λ (k : Numbers). k.typestate) is ∙
+      number_followed typestates class.typestate t h))
 
   abbrev with_entry : Option (Option ℕ) → Option (List Entry) → Option (List Entry)
   with_entry f r = f >>= λ t. r >>= λ es. Some (entry_of class n m t ∷ es)

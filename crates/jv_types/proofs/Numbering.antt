@@ -1,6 +1,5 @@
 -- Entries that are numbered in their order.
-use Rattle.std.proofs.Common.{◌≡◌, ℕ, zero, suc, ◌+◌, List, [], ◌∷◌, ◌++◌, map, length, Option, Some, None, refl, sym, ap, ◌∙◌, arith}
-use Rattle.std.proofs.Common.{position}
+use Rattle.std.proofs.Common.{◌≡◌, ℕ, suc, ◌+◌, List, [], ◌∷◌, ◌++◌, map, length, Option, Some, sym, ap, ◌∙◌, arith, position}
 use Rattle.std.specs.Option.{option_map}
 use Rattle.std.specs.Str.{bytes_eq}
 use Rattle.std.proofs.lemmas.List.{map-append}
@@ -11,22 +10,32 @@ use Rattle.jv_tree.specs.View.{class_of, method_of}
 use Rattle.jv_types.specs.declared.entry.ClassEntry.{ClassEntry}
 use Rattle.jv_types.specs.inner.Numbers.{numbers, numbers_in, number_named, numbers_from, methods_in, classes_seen, AreNumbered}
 
+behind_none : (a : ℕ) → a + 0 ≡ a
+behind_none a = omega arith
+
+grouped : (a b c : ℕ) → a + (b + c) ≡ (a + b) + c
+grouped a b c = omega arith
+
+behind_next : (a b : ℕ) → suc a + b ≡ a + suc b
+behind_next a b = omega arith
+
 same_numbers : (a b c d : ℕ) (t : Option ℕ) → a ≡ b → c ≡ d → numbers a c t ≡ numbers b d t
 same_numbers a b c d t e h = ap (λ k. numbers k c t) e ∙ ap (λ k. numbers b k t) h
 
 numbers-append : (names : List Name) (n m : ℕ) (cs : List Class) (c : Class) → numbers_from names n m (cs ++ c ∷ [])
     ≡ numbers_from names n m cs ++ numbers (n + length cs) (m + methods_in cs) (number_named names c.typestate) ∷ []
 numbers-append names n m [] c = ap (λ x. x ∷ [])
-    (same_numbers n (n + 0) m (m + 0) (number_named names c.typestate) (omega arith) (omega arith))
+    (same_numbers n (n + 0) m (m + 0) (number_named names c.typestate) (sym (behind_none n)) (sym (behind_none m)))
 numbers-append names n m (k ∷ cs) c =
     ap (λ xs. numbers n m (number_named names k.typestate) ∷ xs) (numbers-append names (suc n) (m + length k.methods) cs c
     ∙ ap (λ x. numbers_from names (suc n) (m + length k.methods) cs ++ x ∷ [])
     (same_numbers (suc n + length cs) (n + suc (length cs)) ((m + length k.methods) + methods_in cs) (m + (length k.methods + methods_in cs))
-    (number_named names c.typestate) (omega arith) (omega arith)))
+    (number_named names c.typestate) (behind_next n (length cs)) (sym (grouped m (length k.methods) (methods_in cs)))))
 
 methods-append : (cs : List Class) (c : Class) → methods_in (cs ++ c ∷ []) ≡ methods_in cs + length c.methods
-methods-append [] c = omega arith
-methods-append (k ∷ cs) c = let e = methods-append cs c in omega arith
+methods-append [] c = behind_none (length c.methods)
+methods-append (k ∷ cs) c = ap (λ x. length k.methods + x) (methods-append cs c) ∙
+    grouped (length k.methods) (methods_in cs) (length c.methods)
 
 -- an entry behind those that are numbered
 module _ (names : List Name) (m next : ℕ) (es ns : List ClassEntry) (e : ClassEntry) (so_far : AreNumbered names m es)
