@@ -22,6 +22,12 @@ seen_now : {X Y : Type 0} (view : X → Y) (r : Option (Bor X)) → option_map (
 seen_now view None = refl
 seen_now view (Some x) = refl
 
+-- the one at an index, as it is seen
+pub seen_at : {X Y : Type 0} (view : X → Y) (xs ys : List X) → ys ≡ xs → (i : ℕ) (r : Option (Bor X)) → IsItemAt ys i r →
+    option_map (λ x. view x.now) r ≡ slice_get (map view xs) i
+seen_at view xs ys same i r h =
+    seen_now view r ∙ ap (option_map view) (got ys i r h ∙ ap (λ zs. slice_get zs i) same) ∙ sym (slice_get-map view xs i)
+
 -- what is called so, with its place
 abbrev pub called : {Y Z : Type 0} → (Y → Name) → (ℕ → Y → Z) → List Y → Name → Option Z
 called key make ys name = position (bytes_eq name) (map key ys) >>= λ n. slice_get ys n >>= λ y. Some (make n y)
@@ -47,8 +53,8 @@ module _ {X Y Z : Type 0} (view : X → Y) (key : Y → Name) (make : ℕ → Y 
   not_called none = sym (ap (λ o. o >>= λ k. slice_get (map view xs) k >>= λ y. Some (make k y)) (keys ∙ sym none))
 
   pub picked_at : (n : ℕ) → Some n ≡ position (bytes_eq name) names →
-      option_map view (slice_get xs n) ≡ (position (bytes_eq name) (map key (map view xs)) >>= slice_get (map view xs))
-  picked_at n at = sym (ap (λ o. o >>= slice_get (map view xs)) (keys ∙ sym at) ∙ slice_get-map view xs n)
+      slice_get (map view xs) n ≡ (position (bytes_eq name) (map key (map view xs)) >>= slice_get (map view xs))
+  picked_at n at = sym (ap (λ o. o >>= slice_get (map view xs)) (keys ∙ sym at))
 
   pub not_picked : None ≡ position (bytes_eq name) names →
       None ≡ (position (bytes_eq name) (map key (map view xs)) >>= slice_get (map view xs))
@@ -57,7 +63,3 @@ module _ {X Y Z : Type 0} (view : X → Y) (key : Y → Name) (make : ℕ → Y 
   module _ (n : ℕ) (at : Some n ≡ position (bytes_eq name) names) (ys : List X) (same : ys ≡ xs) where
     pub called_got : (x : Bor X) → IsItemAt ys n (Some x) → Some (make n (view x.now)) ≡ called key make (map view xs) name
     called_got x h = ap (option_map (λ z. make n (view z))) (got ys n (Some x) h ∙ ap (λ zs. slice_get zs n) same) ∙ called_at n at
-
-    pub picked_got : (r : Option (Bor X)) → IsItemAt ys n r →
-        option_map (λ x. view x.now) r ≡ (position (bytes_eq name) (map key (map view xs)) >>= slice_get (map view xs))
-    picked_got r h = seen_now view r ∙ ap (option_map view) (got ys n r h ∙ ap (λ zs. slice_get zs n) same) ∙ picked_at n at

@@ -1,7 +1,6 @@
 pub mod Assigning
 pub mod AtIndex
 pub mod Bounding
-pub mod BuildingSteps
 pub mod ByHead
 pub mod Called
 pub mod Chains
@@ -10,13 +9,12 @@ pub mod ExprSteps
 pub mod Items
 pub mod MemberSteps
 pub mod MethodSteps
-pub mod OffersSteps
 pub mod OneGroup
-pub mod Placed
 pub mod RowSteps
 pub mod Shapes
 pub mod StmtLoops
 pub mod StmtShapes
 pub mod StmtSteps
+pub mod Tabling
 pub mod Threads
 pub mod Wholes

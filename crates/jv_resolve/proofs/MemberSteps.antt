@@ -84,27 +84,29 @@ pub numbers_push : (n count : ℕ) → numbers_from n (suc count) ≡ numbers_fr
 numbers_push n zero = ap (λ k. k ∷ []) (omega arith)
 numbers_push n (suc count) = ap (λ ks. n ∷ ks) (numbers_push (suc n) count ∙ ap (λ k. numbers_from (suc n) count ++ k ∷ []) (omega arith))
 
-abbrev pub core_class : Entry → ℕ → List Core.Field → List ℕ → Core.Class
-core_class e n fs ms = record { place = e.class.place; name = n; typestate = e.typestate; fields = fs; methods = ms }
+abbrev pub core_class : Entry → ℕ → Option ℕ → List Core.Field → List ℕ → Core.Class
+core_class e n t fs ms = record { place = e.class.place; name = n; typestate = t; fields = fs; methods = ms }
 
 module _ (tables : Tables) (names : List Name) (e : Entry) (n : ℕ) (ns : List Name)
     (named : interned names e.class.name ≡ Some (with_number n ns)) where
   abbrev with_fields : ℕ → Option (Naming (List Core.Field)) → Option (Naming Core.Class)
-  with_fields m o = o >>= λ fs. Some (naming (core_class e m fs.it (numbers_from e.first_method (length e.class.methods))) fs.names)
+  with_fields m o = o >>= λ fs. Some (naming (core_class e m e.typestate fs.it (numbers_from e.first_method (length e.class.methods))) fs.names)
 
   class_opened : class tables names e ≡ with_fields n (fields tables ns e.class.fields)
   class_opened = ap (λ o. o >>= λ m. with_fields m.number (fields tables m.names e.class.fields)) named
 
-  pub class_made : (fs : List Core.Field) (ms : List ℕ) (later : List Name) → fields tables ns e.class.fields ≡ Some (naming fs later) →
-      ms ≡ numbers_from e.first_method (length e.class.methods) →
-      class tables names e ≡ Some (naming (core_class e n fs ms) later)
-  class_made fs ms later h is = class_opened ∙ ap (with_fields n) h ∙ ap (λ ks. Some (naming (core_class e n fs ks) later)) (sym is)
+  pub class_made : (fs : List Core.Field) (ms : List ℕ) (t : Option ℕ) (later : List Name) →
+      fields tables ns e.class.fields ≡ Some (naming fs later) → ms ≡ numbers_from e.first_method (length e.class.methods) →
+      t ≡ e.typestate → class tables names e ≡ Some (naming (core_class e n t fs ms) later)
+  class_made fs ms t later h is named =
+      class_opened ∙ ap (with_fields n) h ∙ ap (λ ks. Some (naming (core_class e n e.typestate fs ks) later)) (sym is)
+      ∙ ap (λ u. Some (naming (core_class e n u fs ms) later)) (sym named)
 
   pub class_fails : (err : Unresolved) → Fails err (fields tables ns e.class.fields) → Fails err (class tables names e)
   class_fails err h =
       fails_as err _ _ class_opened
       (fails_then err (fields tables ns e.class.fields)
-      (λ fs. Some (naming (core_class e n fs.it (numbers_from e.first_method (length e.class.methods))) fs.names)) h)
+      (λ fs. Some (naming (core_class e n e.typestate fs.it (numbers_from e.first_method (length e.class.methods))) fs.names)) h)
 
 pub same_classes : (tables : Tables) (names : List Name) (es : List Entry) → classes tables names es ≡ threaded (class tables) names es
 same_classes tables = same_threaded (class tables) (classes tables) (λ ns. refl) (λ ns e es. refl)

@@ -1,8 +1,7 @@
 -- What methods are resolved to, from what their parts are.
 use Rattle.std.proofs.Common.{◌≡◌, ℕ, List, [], ◌∷◌, ◌++◌, length, Bool, false, Option, Some, None, refl, sym, ap, ◌∙◌, append_assoc}
 use Rattle.std.proofs.Common.{append-nil}
-use Rattle.std.specs.Prelude.{is_some, position, slice_get}
-use Rattle.std.specs.Option.{option_map}
+use Rattle.std.specs.Prelude.{slice_get}
 use Rattle.std.specs.List.{list_any}
 use Rattle.std.specs.Str.{bytes_eq}
 use Rattle.mg_text.specs.Call.{Name}
@@ -22,25 +21,14 @@ use Rattle.jv_resolve.specs.declared.given.Unresolved.{Unresolved}
 use Rattle.jv_resolve.specs.inner.Gives.{Fails}
 use Rattle.jv_resolve.specs.inner.Interning.{with_number}
 use Rattle.jv_resolve.specs.inner.Naming.{naming, threaded, with_done, opened, param_at, unnumbered}
-use Rattle.jv_resolve.specs.inner.Offers.{OffersAll}
 use Rattle.jv_resolve.specs.inner.Signatures.{Signed, signed, signature_meant, body_meant}
 use Rattle.jv_resolve.proofs.Chains.{fails_then, fails_as, two_steps, kept_steps}
-use Rattle.jv_resolve.proofs.OffersSteps.{any_at}
 use Rattle.jv_resolve.proofs.Threads.{same_threaded}
 
 -- ---- what a typestate offers
 
-same_some : {A B : Type 0} (f : A → B) (o : Option A) → is_some o ≡ is_some (option_map f o)
-same_some f None = refl
-same_some f (Some a) = refl
-
 abbrev offers_in_any : Option Typestate → Name → Bool
 offers_in_any o name = elim o [ None ↦ false | Some t ↦ list_any (λ m. bytes_eq m.name name) (offers_in t.states) ]
-
-pub offer_found : {A : Type 0} (f : A → ℕ) (o : Option A) (t : Typestate) (names : List Name) (name : Name) →
-    option_map f o ≡ position (bytes_eq name) names → OffersAll t names →
-    is_some o ≡ list_any (λ m. bytes_eq m.name name) (offers_in t.states)
-offer_found f o t names name h all = same_some f o ∙ ap is_some h ∙ any_at name names ∙ all.each name
 
 module _ (tables : Tables) (e : Entry) (name : Name) where
   pub none_followed : e.typestate ≡ None → false ≡ is_offered tables e name

@@ -1,5 +1,6 @@
 -- The core of a program, from its tables and its parts.
 use Rattle.std.proofs.Common.{◌≡◌, List, [], Option, Some, None, refl, sym, ap, ◌∙◌}
+use Rattle.std.specs.Prelude.{◌≢◌}
 use Rattle.mg_text.specs.Call.{Name}
 use Rattle.ts_tree.specs.Typestate.{Typestate}
 use Rattle.jv_rules.specs.Program.{Program}
@@ -77,8 +78,8 @@ module _ (program : Program) where
       enums [] t.enums >>= λ es. classes t es.names t.classes >>= λ cs. methods t cs.names t.classes
       >>= λ ms. Some (core_program cs.it es.it ms.it program.typestates ms.names)
 
-  pub whole_tables_fail : (err : Unresolved) → Fails err (tables_of program) → Fails err (resolving program)
-  whole_tables_fail err h = fails_then err (tables_of program) then_parts h
+  pub tables_there : resolving program ≢ None → tables_of program ≢ None
+  tables_there there none = there (ap (λ o. o >>= then_parts) none)
 
   pub whole_tabled : (t : Tables) → tables_of program ≡ Some t → resolving program ≡ core_in t program.typestates
   whole_tabled t tabled =

@@ -1,4 +1,3 @@
-pub mod Building
 pub mod Counted
 pub mod Declaring
 pub mod Gives
@@ -9,9 +8,7 @@ pub mod Interning
 pub mod Labels
 pub mod Named
 pub mod Naming
-pub mod Offers
 pub mod Parts
-pub mod Places
 pub mod Receivers
 pub mod Row
 pub mod Scoping

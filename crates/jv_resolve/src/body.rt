@@ -11,9 +11,10 @@ ghost use Rattle.jv_resolve.specs.inner.Seen.{tables_seen};
 
 use crate::given::Unresolved;
 use crate::locals::{Local, Locals};
+use crate::lookup::meant;
 use crate::names::{add_name, count};
-use crate::tables::Tables;
 use jv_core::{CoreLoop, CoreSlot};
+use jv_types::Table;
 use mg_text::{List, Memory, Names, Place};
 use std::alloc::Global;
 use ts_tree::TypeName;
@@ -45,15 +46,15 @@ impl<'a> Body<'a> {
     /// One more slot. Nothing is in its scope yet.
     pub(crate) fn add_slot(
         &mut self,
-        tables: &Tables<'_>,
+        table: &Table<'_>,
         ty: &TypeName,
         name: &str,
     ) -> Result<Local, Unresolved>
         ensures it { Gives (λ l. counting (known name.now l) (counted_seen self.new)) result
-            (slot_more (tables_seen tables.now) ty.now name.now (counted_seen self.old)) }
+            (slot_more (tables_seen table.now) ty.now name.now (counted_seen self.old)) }
         ensures locals { self.new.locals ≡ self.old.locals }
     {
-        let ty = tables.meant(ty)?;
+        let ty = meant(table, ty)?;
         let number = add_name(&mut self.names, name)?;
         let slot = count(self.slots.len())?;
         self.slots.push(CoreSlot { name: number, ty })?;

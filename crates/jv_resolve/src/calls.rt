@@ -15,8 +15,8 @@ ghost use Rattle.jv_resolve.specs.inner.Named.{text_called};
 ghost use Rattle.jv_resolve.specs.inner.Receivers.{receiver_seen};
 
 use crate::given::{Given, Operand, Resolved, Unresolved, boxed, typed};
+use crate::lookup::{Callee, class_at, class_named, meant, method_named};
 use crate::scope::Scope;
-use crate::tables::Callee;
 use jv_core::{CoreExpr, CoreExprKind, CoreType, CoreVar, SessionCall};
 use mg_text::{List, Place};
 
@@ -36,10 +36,10 @@ pub(crate) fn call_own(
     name: &str,
     args: List<CoreExpr>,
 ) -> Result<Resolved, Unresolved>
-    ensures { Gives resolved_seen result (call_own (tables_seen scope.now.tables.now) (standing_seen scope.now) place name.now
+    ensures { Gives resolved_seen result (call_own (tables_seen scope.now.table.now) (standing_seen scope.now) place name.now
         (map expr_of args.items)) }
 {
-    let Some(callee) = scope.class.method(name) else {
+    let Some(callee) = method_named(scope.class, name) else {
         return Err(Unresolved::Fault);
     };
     if callee.method.is_static {
@@ -58,7 +58,7 @@ pub(crate) fn call_on(
     args: List<CoreExpr>,
 ) -> Result<Resolved, Unresolved>
     ensures { Gives resolved_seen result
-        (call_on (tables_seen scope.now.tables.now) (standing_seen scope.now) place (receiver_seen receiver.entry) name.now
+        (call_on (tables_seen scope.now.table.now) (standing_seen scope.now) place (receiver_seen receiver.entry) name.now
         (map expr_of args.items)) }
 {
     match receiver {
@@ -81,10 +81,10 @@ fn call_this(
     name: &str,
     args: List<CoreExpr>,
 ) -> Result<Resolved, Unresolved>
-    ensures { Gives resolved_seen result (call_this (tables_seen scope.now.tables.now) (standing_seen scope.now) place name.now
+    ensures { Gives resolved_seen result (call_this (tables_seen scope.now.table.now) (standing_seen scope.now) place name.now
         (map expr_of args.items)) }
 {
-    let Some(callee) = scope.class.method(name) else {
+    let Some(callee) = method_named(scope.class, name) else {
         return Err(Unresolved::Fault);
     };
     if callee.method.is_static {
@@ -101,12 +101,12 @@ fn call_class(
     name: &str,
     args: List<CoreExpr>,
 ) -> Result<Resolved, Unresolved>
-    ensures { Gives resolved_seen result (call_class (tables_seen scope.now.tables.now) place class.now name.now (map expr_of args.items)) }
+    ensures { Gives resolved_seen result (call_class (tables_seen scope.now.table.now) place class.now name.now (map expr_of args.items)) }
 {
-    let Some(entry) = scope.tables.class_named(class) else {
+    let Some(entry) = class_named(scope.table, class) else {
         return Err(Unresolved::Fault);
     };
-    let Some(callee) = entry.method(name) else {
+    let Some(callee) = method_named(entry, name) else {
         return Err(Unresolved::Fault);
     };
     if !callee.method.is_static {
@@ -124,7 +124,7 @@ fn call_value(
     args: List<CoreExpr>,
 ) -> Result<Resolved, Unresolved>
     ensures { Gives resolved_seen result
-        (call_typed (tables_seen scope.now.tables.now) place (expr_of value.expr.value) (given_seen value.given) name.now
+        (call_typed (tables_seen scope.now.table.now) place (expr_of value.expr.value) (given_seen value.given) name.now
         (map expr_of args.items)) }
 {
     match value.given {
@@ -170,12 +170,12 @@ fn protocol_call(
     args: List<CoreExpr>,
 ) -> Result<Resolved, Unresolved>
     ensures { Gives resolved_seen result
-        (call_protocol (tables_seen scope.now.tables.now) place receiver class name.now (map expr_of args.items)) }
+        (call_protocol (tables_seen scope.now.table.now) place receiver class name.now (map expr_of args.items)) }
 {
-    let Some(entry) = scope.tables.class_at(class) else {
+    let Some(entry) = class_at(scope.table, class) else {
         return Err(Unresolved::Fault);
     };
-    let Some(callee) = entry.method(name) else {
+    let Some(callee) = method_named(entry, name) else {
         return Err(Unresolved::Fault);
     };
     if callee.method.is_static {
@@ -192,10 +192,10 @@ fn object_call(
     callee: Callee<'_>,
     args: List<CoreExpr>,
 ) -> Result<Resolved, Unresolved>
-    ensures { Gives resolved_seen result (object_call (tables_seen scope.now.tables.now) place receiver (callee_seen callee.entry)
+    ensures { Gives resolved_seen result (object_call (tables_seen scope.now.table.now) place receiver (callee_seen callee.entry)
         (map expr_of args.items)) }
 {
-    let result = scope.tables.meant(&callee.method.result)?;
+    let result = meant(scope.table, &callee.method.result)?;
     Ok(typed(
         place,
         CoreExprKind::Protocol {
@@ -214,10 +214,10 @@ fn static_call(
     callee: Callee<'_>,
     args: List<CoreExpr>,
 ) -> Result<Resolved, Unresolved>
-    ensures { Gives resolved_seen result (static_call (tables_seen scope.now.tables.now) place (callee_seen callee.entry)
+    ensures { Gives resolved_seen result (static_call (tables_seen scope.now.table.now) place (callee_seen callee.entry)
         (map expr_of args.items)) }
 {
-    let result = scope.tables.meant(&callee.method.result)?;
+    let result = meant(scope.table, &callee.method.result)?;
     Ok(typed(
         place,
         CoreExprKind::Static {
@@ -235,10 +235,10 @@ fn helper_call(
     callee: Callee<'_>,
     args: List<CoreExpr>,
 ) -> Result<Resolved, Unresolved>
-    ensures { Gives resolved_seen result (helper_call (tables_seen scope.now.tables.now) place (callee_seen callee.entry)
+    ensures { Gives resolved_seen result (helper_call (tables_seen scope.now.table.now) place (callee_seen callee.entry)
         (map expr_of args.items)) }
 {
-    let result = scope.tables.meant(&callee.method.result)?;
+    let result = meant(scope.table, &callee.method.result)?;
     Ok(typed(
         place,
         CoreExprKind::Helper {

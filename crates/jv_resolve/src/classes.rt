@@ -11,13 +11,13 @@ ghost use Rattle.jv_resolve.specs.inner.Gives.{Gives};
 ghost use Rattle.jv_resolve.specs.inner.Naming.{naming};
 ghost use Rattle.jv_resolve.specs.inner.Seen.{entry_seen, tables_seen};
 
-use crate::building::next;
 use crate::given::Unresolved;
 use crate::literals::resolve_initial;
-use crate::names::add_name;
-use crate::tables::{ClassEntry, EnumEntry, Tables};
+use crate::lookup::meant;
+use crate::names::{add_name, next};
 use jv_core::{CoreClass, CoreEnum, CoreExpr, CoreField};
 use jv_tree::{Enum, Expr, Field};
+use jv_types::{ClassEntry, EnumEntry, Table};
 use mg_text::{List, Memory, Name, Names, Text};
 use std::alloc::Global;
 
@@ -60,13 +60,13 @@ pub(crate) fn resolve_enums(
 }
 
 // What a field begins with, where it is written.
-fn first_value(tables: &Tables<'_>, value: &Option<Expr>) -> Result<Option<CoreExpr>, Unresolved>
-    ensures { Gives (option_map core_expr) result (begins_with (tables_seen tables.now) (option_map expr_of value.now)) }
+fn first_value(table: &Table<'_>, value: &Option<Expr>) -> Result<Option<CoreExpr>, Unresolved>
+    ensures { Gives (option_map core_expr) result (begins_with (tables_seen table.now) (option_map expr_of value.now)) }
 {
     match value {
         None => Ok(None),
         Some(value) => {
-            let value = resolve_initial(tables, value)?;
+            let value = resolve_initial(table, value)?;
             Ok(Some(value))
         }
     }
@@ -74,31 +74,31 @@ fn first_value(tables: &Tables<'_>, value: &Option<Expr>) -> Result<Option<CoreE
 
 // A field.
 fn resolve_field(
-    tables: &Tables<'_>,
+    table: &Table<'_>,
     names: &mut Names,
     field: &Field,
 ) -> Result<CoreField, Unresolved>
-    ensures { Gives (λ f. naming (field_of f) names.new) result (field_meant (tables_seen tables.now) names.old (source_field field.now)) }
+    ensures { Gives (λ f. naming (field_of f) names.new) result (field_meant (tables_seen table.now) names.old (source_field field.now)) }
 {
     let name = add_name(names, field.name.as_str())?;
-    let ty = tables.meant(&field.ty)?;
-    let value = first_value(tables, &field.value)?;
+    let ty = meant(table, &field.ty)?;
+    let value = first_value(table, &field.value)?;
     Ok(CoreField { name, ty, value })
 }
 
 // Fields.
 fn resolve_fields(
     alloc: Global,
-    tables: &Tables<'_>,
+    table: &Table<'_>,
     names: &mut Names,
     fields: &[Field],
 ) -> Result<List<CoreField>, Unresolved>
     ensures { Gives (λ l. naming (map field_of l.items) names.new) result
-        (fields_meant (tables_seen tables.now) names.old (map source_field fields.now)) }
+        (fields_meant (tables_seen table.now) names.old (map source_field fields.now)) }
 {
     let mut resolved = List::new(alloc);
     for field in fields {
-        let one = resolve_field(tables, names, field)?;
+        let one = resolve_field(table, names, field)?;
         resolved.push(one)?;
     }
     Ok(resolved)
@@ -116,22 +116,32 @@ fn rising(alloc: Global, first: u32, count: usize) -> Result<List<u32>, Memory>
     Ok(numbers)
 }
 
+// The number of the typestate that a class names.
+fn followed(entry: &ClassEntry<'_>) -> Option<u32>
+    ensures { result ≡ (entry_seen entry.now).typestate }
+{
+    match entry.typestate {
+        Some(named) => Some(named.number),
+        None => None,
+    }
+}
+
 // A class without its methods' bodies.
 fn resolve_class(
     alloc: Global,
-    tables: &Tables<'_>,
+    table: &Table<'_>,
     names: &mut Names,
     entry: &ClassEntry<'_>,
 ) -> Result<CoreClass, Unresolved>
-    ensures { Gives (λ c. naming (class_of c) names.new) result (class_meant (tables_seen tables.now) names.old (entry_seen entry.now)) }
+    ensures { Gives (λ c. naming (class_of c) names.new) result (class_meant (tables_seen table.now) names.old (entry_seen entry.now)) }
 {
     let name = add_name(names, entry.class.name.as_str())?;
-    let fields = resolve_fields(alloc, tables, names, entry.class.fields.as_slice())?;
+    let fields = resolve_fields(alloc, table, names, entry.class.fields.as_slice())?;
     let methods = rising(alloc, entry.first_method, entry.class.methods.len())?;
     Ok(CoreClass {
         place: entry.class.place,
         name,
-        typestate: entry.typestate,
+        typestate: followed(entry),
         fields,
         methods,
     })
@@ -140,16 +150,16 @@ fn resolve_class(
 /// Classes without their methods' bodies.
 pub(crate) fn resolve_classes(
     alloc: Global,
-    tables: &Tables<'_>,
+    table: &Table<'_>,
     names: &mut Names,
     entries: &[ClassEntry<'_>],
 ) -> Result<List<CoreClass>, Unresolved>
     ensures { Gives (λ l. naming (map class_of l.items) names.new) result
-        (classes_meant (tables_seen tables.now) names.old (map entry_seen entries.now)) }
+        (classes_meant (tables_seen table.now) names.old (map entry_seen entries.now)) }
 {
     let mut resolved = List::new(alloc);
     for entry in entries {
-        let one = resolve_class(alloc, tables, names, entry)?;
+        let one = resolve_class(alloc, table, names, entry)?;
         resolved.push(one)?;
     }
     Ok(resolved)

@@ -14,6 +14,7 @@ use crate::given::{Operand, Resolved, Unresolved, as_operand, typed};
 use crate::heads::{Head, head_of};
 use crate::literals::{int, null, quoted, truth};
 use crate::locals::Locals;
+use crate::lookup::class_named;
 use crate::operators::{binary, negative, opposite};
 use crate::scope::Scope;
 use crate::variables::{member, named_receiver, variable};
@@ -28,7 +29,7 @@ pub(crate) fn resolve_expr(
     locals: &Locals<'_>,
     expr: &Expr,
 ) -> Result<Resolved, Unresolved>
-    ensures { Gives resolved_seen result (resolved (tables_seen scope.now.tables.now) (standing_seen scope.now) locals.now
+    ensures { Gives resolved_seen result (resolved (tables_seen scope.now.table.now) (standing_seen scope.now) locals.now
         (expr_of expr.now)) }
 {
     let place = expr.place;
@@ -73,7 +74,7 @@ pub(crate) fn resolve_operand(
     locals: &Locals<'_>,
     expr: &Expr,
 ) -> Result<Operand, Unresolved>
-    ensures { Gives operand_seen result (resolved (tables_seen scope.now.tables.now) (standing_seen scope.now) locals.now
+    ensures { Gives operand_seen result (resolved (tables_seen scope.now.table.now) (standing_seen scope.now) locals.now
         (expr_of expr.now)) }
 {
     let value = resolve_expr(scope, locals, expr)?;
@@ -89,7 +90,7 @@ fn resolve_args(
     args: &[Expr],
 ) -> Result<List<CoreExpr>, Unresolved>
     ensures { Gives (λ l. map core_expr l.items) result
-        (resolved_all (tables_seen scope.now.tables.now) (standing_seen scope.now) locals.now (exprs_of (map expr_of args.now))) }
+        (resolved_all (tables_seen scope.now.table.now) (standing_seen scope.now) locals.now (exprs_of (map expr_of args.now))) }
 {
     let mut resolved = List::new(scope.alloc);
     for arg in args {
@@ -106,8 +107,8 @@ fn resolve_receiver<'e>(
     locals: &Locals<'_>,
     of: &'e Expr,
 ) -> Result<Receiver<'e>, Unresolved>
-    ensures { Gives receiver_seen result (receiver (tables_seen scope.now.tables.now) (standing_seen scope.now) locals.now (expr_of of.now)
-        (resolved (tables_seen scope.now.tables.now) (standing_seen scope.now) locals.now (expr_of of.now))) }
+    ensures { Gives receiver_seen result (receiver (tables_seen scope.now.table.now) (standing_seen scope.now) locals.now (expr_of of.now)
+        (resolved (tables_seen scope.now.table.now) (standing_seen scope.now) locals.now (expr_of of.now))) }
 {
     match head_of(of) {
         Head::This => Ok(Receiver::This),
@@ -121,9 +122,9 @@ fn resolve_receiver<'e>(
 
 // `new C()`
 fn new(scope: &Scope<'_, '_>, place: Place, name: &str) -> Result<Resolved, Unresolved>
-    ensures { Gives resolved_seen result (make (tables_seen scope.now.tables.now) (standing_seen scope.now) place name.now) }
+    ensures { Gives resolved_seen result (make (tables_seen scope.now.table.now) (standing_seen scope.now) place name.now) }
 {
-    match scope.tables.class_named(name) {
+    match class_named(scope.table, name) {
         None => Err(Unresolved::Fault),
         Some(entry) => Ok(typed(
             place,

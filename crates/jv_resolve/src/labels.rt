@@ -10,9 +10,10 @@ ghost use Rattle.jv_resolve.specs.inner.Labels.{label_at};
 ghost use Rattle.jv_resolve.specs.inner.Seen.{tables_seen, given_seen};
 
 use crate::given::{Given, Unresolved};
+use crate::lookup::enum_at;
 use crate::scope::Scope;
-use crate::tables::EnumEntry;
 use jv_core::CoreType;
+use jv_types::EnumEntry;
 use mg_text::{List, Text};
 use std::alloc::Global;
 
@@ -38,7 +39,7 @@ fn resolve_label(of: &EnumEntry<'_>, label: &Option<Text>) -> Result<Option<u32>
 {
     match label {
         None => Ok(None),
-        Some(name) => match of.constants.find(name.as_str()) {
+        Some(name) => match of.constant_place(name.as_str()) {
             None => Err(Unresolved::Fault),
             Some(position) => Ok(Some(position)),
         },
@@ -50,10 +51,10 @@ pub(crate) fn enum_of<'s, 'a>(
     scope: &Scope<'s, 'a>,
     given: Given,
 ) -> Result<&'s EnumEntry<'a>, Unresolved>
-    ensures { Gives (λ e. enum_of e.now.of.now) result (enum_given (tables_seen scope.now.tables.now) (given_seen given)) }
+    ensures { Gives (λ e. enum_of e.now.of.now) result (enum_given (tables_seen scope.now.table.now) (given_seen given)) }
 {
     match given {
-        Given::Of(CoreType::Enum(number)) => match scope.tables.enum_at(number) {
+        Given::Of(CoreType::Enum(number)) => match enum_at(scope.table, number) {
             Some(entry) => Ok(entry),
             None => Err(Unresolved::Fault),
         },

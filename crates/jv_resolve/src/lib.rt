@@ -1,10 +1,9 @@
-//! From the trees of a well-typed program to its core: names give way to numbers.
+//! From the table of a well-typed program to its core: names give way to numbers.
 //! Names are looked up in hashed tables; no tree is copied to be read.
 #![tactic(auto)]
 
 mod body;
 mod bounds;
-mod building;
 mod calls;
 mod classes;
 mod exprs;
@@ -16,16 +15,12 @@ mod locals;
 mod lookup;
 mod methods;
 mod names;
-mod naming;
-mod offers;
 mod operators;
-mod positions;
 mod program;
 mod scope;
 mod scoping;
 mod simple;
 mod stmts;
-mod tables;
 mod targets;
 mod variables;
 mod written;

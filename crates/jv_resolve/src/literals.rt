@@ -13,9 +13,10 @@ ghost use Rattle.jv_resolve.specs.inner.Seen.{tables_seen, resolved_seen};
 
 use crate::given::{Given, Resolved, Unresolved, expr_at, typed};
 use crate::heads::{Head, head_of};
-use crate::tables::Tables;
+use crate::lookup::enum_named;
 use jv_core::{CoreExpr, CoreExprKind, CoreType};
 use jv_tree::{Expr, ExprKind};
+use jv_types::Table;
 use mg_text::{Memory, Place, Text};
 
 /// A number.
@@ -52,17 +53,17 @@ pub(crate) fn null(place: Place) -> Resolved
 
 /// A constant of an enum.
 pub(crate) fn constant(
-    tables: &Tables<'_>,
+    table: &Table<'_>,
     place: Place,
     of: &str,
     name: &str,
 ) -> Result<Resolved, Unresolved>
-    ensures { Gives resolved_seen result (constant (tables_seen tables.now) place of.now name.now) }
+    ensures { Gives resolved_seen result (constant (tables_seen table.now) place of.now name.now) }
 {
-    let Some(numbered) = tables.enum_named(of) else {
+    let Some(numbered) = enum_named(table, of) else {
         return Err(Unresolved::Fault);
     };
-    let Some(position) = numbered.entry.constants.find(name) else {
+    let Some(position) = numbered.entry.constant_place(name) else {
         return Err(Unresolved::Fault);
     };
     let number = numbered.number;
@@ -78,8 +79,8 @@ pub(crate) fn constant(
 
 /// What a field begins with: a number, a truth value, a text, `null` or a constant of an enum.
 #[tactic(auto, using(jv_tree::proofs::ViewLaws::views))]
-pub(crate) fn resolve_initial(tables: &Tables<'_>, value: &Expr) -> Result<CoreExpr, Unresolved>
-    ensures { Gives core_expr result (initial (tables_seen tables.now) (expr_of value.now)) }
+pub(crate) fn resolve_initial(table: &Table<'_>, value: &Expr) -> Result<CoreExpr, Unresolved>
+    ensures { Gives core_expr result (initial (tables_seen table.now) (expr_of value.now)) }
 {
     let place = value.place;
     match value.kind {
@@ -87,7 +88,7 @@ pub(crate) fn resolve_initial(tables: &Tables<'_>, value: &Expr) -> Result<CoreE
         ExprKind::Truth(value) => Ok(truth(place, value).expr),
         ExprKind::Text(ref text) => Ok(quoted(place, text)?.expr),
         ExprKind::Null => Ok(null(place).expr),
-        ExprKind::Member(ref of, ref name) => initial_member(tables, place, of, name.as_str()),
+        ExprKind::Member(ref of, ref name) => initial_member(table, place, of, name.as_str()),
         ExprKind::This | ExprKind::Name(_) | ExprKind::Neg(_) => Err(Unresolved::Fault),
         ExprKind::Not(_) | ExprKind::Binary(_, _, _) | ExprKind::Call(_, _) => {
             Err(Unresolved::Fault)
@@ -98,16 +99,16 @@ pub(crate) fn resolve_initial(tables: &Tables<'_>, value: &Expr) -> Result<CoreE
 
 // `E.name`, a constant of an enum.
 fn initial_member(
-    tables: &Tables<'_>,
+    table: &Table<'_>,
     place: Place,
     of: &Expr,
     name: &str,
 ) -> Result<CoreExpr, Unresolved>
-    ensures { Gives core_expr result (initial (tables_seen tables.now) (Member place (expr_of of.now) name.now)) }
+    ensures { Gives core_expr result (initial (tables_seen table.now) (Member place (expr_of of.now) name.now)) }
 {
     match head_of(of) {
         Head::Name(first) => {
-            let resolved = constant(tables, place, first, name)?;
+            let resolved = constant(table, place, first, name)?;
             Ok(resolved.expr)
         }
         Head::This => Err(Unresolved::Fault),

@@ -16,22 +16,23 @@ ghost use Rattle.jv_resolve.specs.inner.SignaturesSeen.{signature_seen};
 
 use crate::body::Body;
 use crate::given::Unresolved;
+use crate::lookup::{meant, protocol_at};
 use crate::names::{add_name, count};
 use crate::scope::{Around, Scope};
 use crate::stmts::resolve_stmts;
-use crate::tables::{ClassEntry, Tables};
 use jv_core::{CoreMethod, CoreStmt, CoreType, MethodKind};
 use jv_tree::{MethodDecl, Param};
+use jv_types::{ClassEntry, Table};
 use mg_text::{List, Name, Names};
 use std::alloc::Global;
 
 // Whether the typestate of a class offers a method of this name.
-fn is_offered(tables: &Tables<'_>, entry: &ClassEntry<'_>, name: &str) -> bool
-    ensures { result ≡ is_offered (tables_seen tables.now) (entry_seen entry.now) name.now }
+fn is_offered(table: &Table<'_>, entry: &ClassEntry<'_>, name: &str) -> bool
+    ensures { result ≡ is_offered (tables_seen table.now) (entry_seen entry.now) name.now }
 {
     match entry.typestate {
         None => false,
-        Some(number) => match tables.typestate_at(number) {
+        Some(named) => match protocol_at(table, named.number) {
             None => false,
             Some(followed) => followed.has_offer(name),
         },
@@ -39,8 +40,8 @@ fn is_offered(tables: &Tables<'_>, entry: &ClassEntry<'_>, name: &str) -> bool
 }
 
 // What a method is.
-fn kind_of(tables: &Tables<'_>, entry: &ClassEntry<'_>, method: &MethodDecl) -> MethodKind
-    ensures { result ≡ kind_meant (tables_seen tables.now) (entry_seen entry.now) (source_method method.now) }
+fn kind_of(table: &Table<'_>, entry: &ClassEntry<'_>, method: &MethodDecl) -> MethodKind
+    ensures { result ≡ kind_meant (tables_seen table.now) (entry_seen entry.now) (source_method method.now) }
 {
     if method.is_static {
         if method.takes_args {
@@ -48,7 +49,7 @@ fn kind_of(tables: &Tables<'_>, entry: &ClassEntry<'_>, method: &MethodDecl) -> 
         }
         return MethodKind::Static;
     }
-    if is_offered(tables, entry, method.name.as_str()) {
+    if is_offered(table, entry, method.name.as_str()) {
         return MethodKind::Protocol;
     }
     MethodKind::Helper
@@ -56,29 +57,29 @@ fn kind_of(tables: &Tables<'_>, entry: &ClassEntry<'_>, method: &MethodDecl) -> 
 
 // A parameter, which is in scope from then on.
 fn resolve_param<'a>(
-    tables: &Tables<'_>,
+    table: &Table<'_>,
     body: &mut Body<'a>,
     param: &'a Param,
 ) -> Result<(), Unresolved>
     ensures { Gives (λ u. opened body.new.locals (counted_seen body.new)) result
-        (param_at (tables_seen tables.now) param.now body.old.locals (counted_seen body.old)) }
+        (param_at (tables_seen table.now) param.now body.old.locals (counted_seen body.old)) }
 {
-    let local = body.add_slot(tables, &param.ty, param.name.as_str())?;
+    let local = body.add_slot(table, &param.ty, param.name.as_str())?;
     body.locals.declare(param.name.as_str(), local)?;
     Ok(())
 }
 
 // Parameters.
 fn resolve_params<'a>(
-    tables: &Tables<'_>,
+    table: &Table<'_>,
     body: &mut Body<'a>,
     params: &'a [Param],
 ) -> Result<(), Unresolved>
     ensures { Gives (λ u. opened body.new.locals (counted_seen body.new)) result
-        (params_meant (tables_seen tables.now) params.now body.old.locals (counted_seen body.old)) }
+        (params_meant (tables_seen table.now) params.now body.old.locals (counted_seen body.old)) }
 {
     for param in params {
-        resolve_param(tables, body, param)?;
+        resolve_param(table, body, param)?;
     }
     Ok(())
 }
@@ -93,16 +94,16 @@ struct Signature {
 
 // What stands before the body of a method.
 fn signature_of(
-    tables: &Tables<'_>,
+    table: &Table<'_>,
     names: &mut Names,
     method: &MethodDecl,
 ) -> Result<Signature, Unresolved>
     ensures it { Gives (λ s. naming (signature_seen s) names.new) result
-        (signature_meant (tables_seen tables.now) names.old (source_method method.now)) }
+        (signature_meant (tables_seen table.now) names.old (source_method method.now)) }
     ensures params { IfOk result (λ s. s.params ≡ length (source_method method.now).params) }
 {
     let name = add_name(names, method.name.as_str())?;
-    let result = tables.meant(&method.result)?;
+    let result = meant(table, &method.result)?;
     let params = count(method.params.len())?;
     Ok(Signature {
         name,
@@ -118,10 +119,10 @@ fn resolve_body<'a>(
     method: &'a MethodDecl,
 ) -> Result<List<CoreStmt>, Unresolved>
     ensures { Gives (λ l. counting (map stmt_of l.items) (counted_seen body.new)) result
-        (body_meant (tables_seen scope.now.tables.now) (standing_seen scope.now) (source_method method.now) body.old.locals
+        (body_meant (tables_seen scope.now.table.now) (standing_seen scope.now) (source_method method.now) body.old.locals
         (counted_seen body.old)) }
 {
-    resolve_params(scope.tables, body, method.params.as_slice())?;
+    resolve_params(scope.table, body, method.params.as_slice())?;
     resolve_stmts(scope, &Around::Outside, body, method.body.as_slice())
 }
 
@@ -135,25 +136,25 @@ pub(crate) struct NamedMethod {
 // A method of a class.
 fn resolve_method<'a>(
     alloc: Global,
-    tables: &Tables<'a>,
+    table: &Table<'a>,
     names: Names,
     entry: &ClassEntry<'a>,
     method: &'a MethodDecl,
 ) -> Result<NamedMethod, Unresolved>
     ensures { Gives (λ r. naming (method_of r.method) r.names) result
-        (method_meant (tables_seen tables.now) names (entry_seen entry.now) (source_method method.now)) }
+        (method_meant (tables_seen table.now) names (entry_seen entry.now) (source_method method.now)) }
 {
     let scope = Scope {
         alloc,
-        tables,
+        table,
         class: entry,
         is_static: method.is_static,
     };
     let mut names = names;
-    let signature = signature_of(tables, &mut names, method)?;
+    let signature = signature_of(table, &mut names, method)?;
     let mut body = Body::new(alloc, names);
     let stmts = resolve_body(&scope, &mut body, method)?;
-    let kind = kind_of(tables, entry, method);
+    let kind = kind_of(table, entry, method);
     Ok(NamedMethod {
         method: CoreMethod {
             place: method.place,
@@ -174,7 +175,7 @@ fn resolve_method<'a>(
 // The methods of a class, behind those of the classes before it; and the names that have numbers by then.
 fn resolve_methods_of<'a>(
     alloc: Global,
-    tables: &Tables<'a>,
+    table: &Table<'a>,
     names: Names,
     entry: &ClassEntry<'a>,
     resolved: &mut List<CoreMethod>,
@@ -182,11 +183,11 @@ fn resolve_methods_of<'a>(
 ) -> Result<Names, Unresolved>
     ensures { Gives (λ n. naming (map method_of resolved.new.items) n) result
         (with_done (map method_of resolved.old.items)
-        (methods_of_meant (tables_seen tables.now) names (entry_seen entry.now) (map source_method methods.now))) }
+        (methods_of_meant (tables_seen table.now) names (entry_seen entry.now) (map source_method methods.now))) }
 {
     let mut known = names;
     for method in methods {
-        let one = resolve_method(alloc, tables, known, entry, method)?;
+        let one = resolve_method(alloc, table, known, entry, method)?;
         known = one.names;
         resolved.push(one.method)?;
     }
@@ -203,18 +204,18 @@ pub(crate) struct NamedMethods {
 /// The methods of classes, and the names that have numbers by then.
 pub(crate) fn resolve_methods<'a>(
     alloc: Global,
-    tables: &Tables<'a>,
+    table: &Table<'a>,
     names: Names,
     entries: &[ClassEntry<'a>],
 ) -> Result<NamedMethods, Unresolved>
     ensures { Gives (λ r. naming (map method_of r.methods.items) r.names) result
-        (methods_meant (tables_seen tables.now) names (map entry_seen entries.now)) }
+        (methods_meant (tables_seen table.now) names (map entry_seen entries.now)) }
 {
     let mut known = names;
     let mut methods = List::new(alloc);
     for entry in entries {
         let written = entry.class.methods.as_slice();
-        let after = resolve_methods_of(alloc, tables, known, entry, &mut methods, written)?;
+        let after = resolve_methods_of(alloc, table, known, entry, &mut methods, written)?;
         known = after;
     }
     Ok(NamedMethods {

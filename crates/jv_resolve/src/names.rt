@@ -1,7 +1,7 @@
 //! Names by their numbers, and numbers of things.
 //! Contracts see the names that have numbers by then.
 
-ghost use Rattle.std.specs.Prelude.{◌≡◌, Some, IfOk, OnOk};
+ghost use Rattle.std.specs.Prelude.{◌≡◌, ◌+◌, Some, IfOk, OnOk};
 ghost use Rattle.mg_text.specs.Interned.{with_text};
 ghost use Rattle.jv_resolve_law.specs.Tables.{interned};
 ghost use Rattle.jv_resolve.specs.inner.Interning.{with_number};
@@ -30,5 +30,16 @@ pub(crate) fn count(len: usize) -> Result<u32, Memory>
     match u32::try_from(len) {
         Ok(number) => Ok(number),
         Err(_) => Err(Memory),
+    }
+}
+
+/// A number behind so many others.
+pub(crate) fn next(number: u32, len: usize) -> Result<u32, Memory>
+    ensures { IfOk result (λ n. n ≡ number + len) }
+{
+    let len = count(len)?;
+    match number.checked_add(len) {
+        Some(sum) => Ok(sum),
+        None => Err(Memory),
     }
 }

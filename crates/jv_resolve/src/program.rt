@@ -1,15 +1,15 @@
 //! Whole programs.
 //! Contracts see programs and cores as trees.
 
-ghost use Rattle.std.specs.Prelude.{◌≡◌, Some, IfOk, OnOk, map};
+ghost use Rattle.std.specs.Prelude.{◌≡◌, ◌≢◌, Some, None, IfOk, OnOk};
 ghost use Rattle.jv_rules.specs.Faults.{IsWellTyped};
 ghost use Rattle.jv_rules.specs.Program.{Program};
 ghost use Rattle.jv_rules.specs.Shape.{IsShaped};
 ghost use Rattle.jv_core.specs.Core.{tree_of};
 ghost use Rattle.jv_names.specs.Resolves.{AreBounded, Resolves};
+ghost use Rattle.jv_types.specs.Tables.{program_in};
 ghost use Rattle.jv_resolve_law.specs.Members.{resolving};
 ghost use Rattle.jv_resolve_law.specs.Targets.{OnlyVariablesAreAssigned};
-ghost use Rattle.jv_resolve.specs.Program.{program_of};
 ghost use Rattle.jv_resolve.specs.inner.Gives.{Gives};
 ghost use Rattle.jv_resolve.specs.inner.HeadedSeen.{heads_seen};
 ghost use Rattle.jv_resolve.specs.inner.Parts.{parts_seen};
@@ -17,15 +17,13 @@ ghost use Rattle.jv_resolve.specs.inner.Seen.{tables_seen};
 ghost use Rattle.jv_resolve.specs.inner.Wholes.{headed, core_in};
 
 use crate::bounds::{bound_enums, bound_methods};
-use crate::building::tables_of;
 use crate::classes::{resolve_classes, resolve_enums};
 use crate::given::Unresolved;
 use crate::methods::resolve_methods;
-use crate::tables::Tables;
 use jv_core::{Core, CoreClass, CoreEnum, CoreMethod};
 use jv_kept::core_is_kept;
 use jv_resolve_law::{resolving_is_right, resolving_is_total};
-use jv_tree::File;
+use jv_types::Table;
 use mg_text::{List, Memory, Names};
 use std::alloc::Global;
 use ts_tree::Typestate;
@@ -61,12 +59,12 @@ struct Heads {
 }
 
 // The enums and classes of a program in tables.
-fn resolve_heads(alloc: Global, tables: &Tables<'_>) -> Result<Heads, Unresolved>
-    ensures { Gives heads_seen result (headed (tables_seen tables.now)) }
+fn resolve_heads(alloc: Global, table: &Table<'_>) -> Result<Heads, Unresolved>
+    ensures { Gives heads_seen result (headed (tables_seen table.now)) }
 {
     let mut names = Names::new(alloc);
-    let enums = resolve_enums(alloc, &mut names, tables.enums.as_slice())?;
-    let classes = resolve_classes(alloc, tables, &mut names, tables.classes.as_slice())?;
+    let enums = resolve_enums(alloc, &mut names, table.enums())?;
+    let classes = resolve_classes(alloc, table, &mut names, table.classes())?;
     Ok(Heads {
         enums,
         classes,
@@ -74,17 +72,13 @@ fn resolve_heads(alloc: Global, tables: &Tables<'_>) -> Result<Heads, Unresolved
     })
 }
 
-// The parts of the core of a program in tables.
-fn resolve_parts(
-    alloc: Global,
-    tables: &Tables<'_>,
-    typestates: &[Typestate],
-) -> Result<Parts, Unresolved>
-    ensures { Gives parts_seen result (core_in (tables_seen tables.now) typestates.now) }
+// The parts of the core of a program in tables, however many they are.
+fn resolve_parts(alloc: Global, table: &Table<'_>) -> Result<Parts, Unresolved>
+    ensures { Gives parts_seen result (core_in (tables_seen table.now) (program_in table.now).typestates) }
 {
-    let typestates = copies_of(alloc, typestates)?;
-    let heads = resolve_heads(alloc, tables)?;
-    let resolved = resolve_methods(alloc, tables, heads.names, tables.classes.as_slice())?;
+    let typestates = copies_of(alloc, table.typestates())?;
+    let heads = resolve_heads(alloc, table)?;
+    let resolved = resolve_methods(alloc, table, heads.names, table.classes())?;
     Ok(Parts {
         classes: heads.classes,
         enums: heads.enums,
@@ -92,18 +86,6 @@ fn resolve_parts(
         typestates,
         names: resolved.names,
     })
-}
-
-// The parts of the core of a program, however many they are.
-fn unbounded_parts(
-    alloc: Global,
-    files: &[File],
-    typestates: &[Typestate],
-) -> Result<Parts, Unresolved>
-    ensures { Gives parts_seen result (resolving (program_of files.now typestates.now)) }
-{
-    let tables = tables_of(alloc, files, typestates)?;
-    resolve_parts(alloc, &tables, typestates)
 }
 
 // The parts of a core are few enough.
@@ -115,12 +97,13 @@ fn bound_parts(parts: &Parts) -> Result<(), Memory>
     Ok(())
 }
 
-// The parts of the core of a program.
-fn parts_of(alloc: Global, files: &[File], typestates: &[Typestate]) -> Result<Parts, Unresolved>
-    ensures resolved { Gives parts_seen result (resolving (program_of files.now typestates.now)) }
-    ensures bounded { IfOk result (λ p. AreBounded (program_of files.now typestates.now) (parts_seen p)) }
+// The parts of the core of a program that has one.
+fn parts_of(alloc: Global, table: &Table<'_>) -> Result<Parts, Unresolved>
+    requires { resolving (program_in table.now) ≢ None }
+    ensures resolved { Gives parts_seen result (resolving (program_in table.now)) }
+    ensures bounded { IfOk result (λ p. AreBounded (program_in table.now) (parts_seen p)) }
 {
-    let parts = unbounded_parts(alloc, files, typestates)?;
+    let parts = resolve_parts(alloc, table)?;
     bound_parts(&parts)?;
     Ok(parts)
 }
@@ -131,17 +114,17 @@ fn parts_of(alloc: Global, files: &[File], typestates: &[Typestate]) -> Result<P
 /// # Errors
 /// `Memory` only: where it is wanting, or where an enum, a method or the program as a whole has
 /// more parts than a core can number.
-pub fn resolve(alloc: Global, files: &[File], typestates: &[Typestate]) -> Result<Core, Memory>
-    requires well_typed { IsWellTyped (program_of files.now typestates.now) }
-    requires shaped { IsShaped (program_of files.now typestates.now) }
-    requires assigns { OnlyVariablesAreAssigned (program_of files.now typestates.now) }
-    ensures stands { IfOk result (λ c. Resolves (program_of files.now typestates.now) (tree_of c)) }
-    ensures resolved { IfOk result (λ c. resolving (program_of files.now typestates.now) ≡ Some (tree_of c)) }
+pub fn resolve(alloc: Global, table: &Table<'_>) -> Result<Core, Memory>
+    requires well_typed { IsWellTyped (program_in table.now) }
+    requires shaped { IsShaped (program_in table.now) }
+    requires assigns { OnlyVariablesAreAssigned (program_in table.now) }
+    ensures stands { IfOk result (λ c. Resolves (program_in table.now) (tree_of c)) }
+    ensures resolved { IfOk result (λ c. resolving (program_in table.now) ≡ Some (tree_of c)) }
 {
     resolving_is_total();
     resolving_is_right();
     core_is_kept();
-    match parts_of(alloc, files, typestates) {
+    match parts_of(alloc, table) {
         Ok(parts) => Ok(Core::new(
             parts.classes,
             parts.enums,

@@ -9,15 +9,16 @@ ghost use Rattle.jv_resolve.specs.inner.Seen.{tables_seen, standing_seen, found_
 
 use crate::given::Unresolved;
 use crate::locals::Locals;
-use crate::tables::{ClassEntry, Tables};
+use crate::lookup::{field_named, meant};
 use jv_core::{CoreType, Var};
+use jv_types::{ClassEntry, Table};
 use std::alloc::Global;
 
 /// Where code stands.
 #[derive(Clone, Copy)]
 pub(crate) struct Scope<'s, 'a> {
     pub alloc: Global,
-    pub tables: &'s Tables<'a>,
+    pub table: &'s Table<'a>,
     pub class: &'s ClassEntry<'a>,
     pub is_static: bool,
 }
@@ -41,15 +42,15 @@ pub(crate) struct Found {
 impl Scope<'_, '_> {
     /// The own field of a name, which is visible in instance methods alone.
     pub(crate) fn own_field(&self, name: &str) -> Result<Option<Found>, Unresolved>
-        ensures { Gives (option_map found_seen) result (own_found (tables_seen self.now.tables.now) (standing_seen self.now) name.now) }
+        ensures { Gives (option_map found_seen) result (own_found (tables_seen self.now.table.now) (standing_seen self.now) name.now) }
     {
         if self.is_static {
             return Ok(None);
         }
-        match self.class.field(name) {
+        match field_named(self.class, name) {
             None => Ok(None),
             Some(placed) => {
-                let ty = self.tables.meant(&placed.field.ty)?;
+                let ty = meant(self.table, &placed.field.ty)?;
                 Ok(Some(Found {
                     var: Var::Field(placed.place),
                     ty,
@@ -65,7 +66,7 @@ impl Scope<'_, '_> {
         name: &str,
     ) -> Result<Option<Found>, Unresolved>
         ensures { Gives (option_map found_seen) result
-            (found (tables_seen self.now.tables.now) (standing_seen self.now) locals.now name.now) }
+            (found (tables_seen self.now.table.now) (standing_seen self.now) locals.now name.now) }
     {
         match locals.find(name) {
             Some(local) => Ok(Some(Found {

@@ -41,11 +41,11 @@ pub(crate) fn resolve_declaration(
     value: &Expr,
 ) -> Result<Declaration, Unresolved>
     ensures it { Gives (λ d. declaration_seen name.now d (counted_seen body.new)) result
-        (local (tables_seen scope.now.tables.now) (standing_seen scope.now) place ty.now name.now (expr_of value.now) body.old.locals
+        (local (tables_seen scope.now.table.now) (standing_seen scope.now) place ty.now name.now (expr_of value.now) body.old.locals
         (counted_seen body.old)) }
     ensures locals { body.new.locals ≡ body.old.locals }
 {
-    let local = body.add_slot(scope.tables, ty, name)?;
+    let local = body.add_slot(scope.table, ty, name)?;
     let value = resolve_expr(scope, &body.locals, value)?;
     Ok(Declaration {
         place,
@@ -74,7 +74,7 @@ pub(crate) fn assigned(
     value: &Expr,
 ) -> Result<CoreStmt, Unresolved>
     ensures { Gives (λ s. counting (stmt_of s) (counted_seen body.now)) result
-        (stmt (tables_seen scope.now.tables.now) (standing_seen scope.now) (Assign place (expr_of target.now) (expr_of value.now))
+        (stmt (tables_seen scope.now.table.now) (standing_seen scope.now) (Assign place (expr_of target.now) (expr_of value.now))
         [] body.now.locals (counted_seen body.now)) }
 {
     let target = target_of(scope, body, target)?;
@@ -90,7 +90,7 @@ pub(crate) fn returned(
     value: &Option<Expr>,
 ) -> Result<CoreStmt, Unresolved>
     ensures { Gives (λ s. counting (stmt_of s) (counted_seen body.now)) result
-        (stmt (tables_seen scope.now.tables.now) (standing_seen scope.now) (Return place (option_map expr_of value.now)) [] body.now.locals
+        (stmt (tables_seen scope.now.table.now) (standing_seen scope.now) (Return place (option_map expr_of value.now)) [] body.now.locals
         (counted_seen body.now)) }
 {
     let value = given_back(scope, body, value)?;
@@ -103,7 +103,7 @@ fn given_back(
     body: &Body<'_>,
     value: &Option<Expr>,
 ) -> Result<Option<CoreExpr>, Unresolved>
-    ensures { Gives (option_map core_expr) result (given_back (tables_seen scope.now.tables.now) (standing_seen scope.now) body.now.locals
+    ensures { Gives (option_map core_expr) result (given_back (tables_seen scope.now.table.now) (standing_seen scope.now) body.now.locals
         (option_map expr_of value.now)) }
 {
     match value {
@@ -123,7 +123,7 @@ pub(crate) fn printed(
     value: &Expr,
 ) -> Result<CoreStmt, Unresolved>
     ensures { Gives (λ s. counting (stmt_of s) (counted_seen body.now)) result
-        (stmt (tables_seen scope.now.tables.now) (standing_seen scope.now) (Print place (expr_of value.now)) [] body.now.locals
+        (stmt (tables_seen scope.now.table.now) (standing_seen scope.now) (Print place (expr_of value.now)) [] body.now.locals
         (counted_seen body.now)) }
 {
     let value = resolve_expr(scope, &body.locals, value)?;
@@ -138,7 +138,7 @@ pub(crate) fn evaluated(
     value: &Expr,
 ) -> Result<CoreStmt, Unresolved>
     ensures { Gives (λ s. counting (stmt_of s) (counted_seen body.now)) result
-        (stmt (tables_seen scope.now.tables.now) (standing_seen scope.now) (Eval place (expr_of value.now)) [] body.now.locals
+        (stmt (tables_seen scope.now.table.now) (standing_seen scope.now) (Eval place (expr_of value.now)) [] body.now.locals
         (counted_seen body.now)) }
 {
     let value = resolve_expr(scope, &body.locals, value)?;
@@ -154,7 +154,7 @@ pub(crate) fn broken(
     label: &Option<Text>,
 ) -> Result<CoreStmt, Unresolved>
     ensures { Gives (λ s. counting (stmt_of s) (counted_seen body.now)) result
-        (stmt (tables_seen scope.now.tables.now) (standing_seen scope.now) (Break place label.now) (around_seen around.now) body.now.locals
+        (stmt (tables_seen scope.now.table.now) (standing_seen scope.now) (Break place label.now) (around_seen around.now) body.now.locals
         (counted_seen body.now)) }
 {
     let number = left_by(around, label_of(label))?;
@@ -170,7 +170,7 @@ pub(crate) fn continued(
     label: &Option<Text>,
 ) -> Result<CoreStmt, Unresolved>
     ensures { Gives (λ s. counting (stmt_of s) (counted_seen body.now)) result
-        (stmt (tables_seen scope.now.tables.now) (standing_seen scope.now) (Continue place label.now) (around_seen around.now)
+        (stmt (tables_seen scope.now.table.now) (standing_seen scope.now) (Continue place label.now) (around_seen around.now)
         body.now.locals (counted_seen body.now)) }
 {
     let number = gone_on_by(around, label_of(label))?;

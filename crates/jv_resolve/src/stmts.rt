@@ -19,10 +19,10 @@ use crate::simple::{
     assigned, broken, continued, evaluated, label_of, local_stmt, printed, resolve_declaration,
     returned,
 };
-use crate::tables::EnumEntry;
 use crate::written::{resolve_local, written_in};
 use jv_core::{CoreGroup, CoreStmt, CoreStmtKind};
 use jv_tree::{Group, Stmt, StmtKind};
+use jv_types::EnumEntry;
 use mg_text::List;
 
 /// Statements, each declaration with those behind it in its scope.
@@ -34,7 +34,7 @@ pub(crate) fn resolve_stmts<'a>(
     stmts: &'a [Stmt],
 ) -> Result<List<CoreStmt>, Unresolved>
     ensures it { Gives (λ l. counting (map stmt_of l.items) (counted_seen body.new)) result
-        (all_meant (tables_seen scope.now.tables.now) (standing_seen scope.now) (source_stmts (map source_stmt stmts.now))
+        (all_meant (tables_seen scope.now.table.now) (standing_seen scope.now) (source_stmts (map source_stmt stmts.now))
         (around_seen around.now) body.old.locals (counted_seen body.old)) }
     ensures locals { OnOk result (body.new.locals ≡ body.old.locals) }
 {
@@ -57,7 +57,7 @@ fn resolve_item<'a>(
     stmt: &'a Stmt,
 ) -> Result<CoreStmt, Unresolved>
     ensures { Gives (λ s. itemed (stmt_of s) body.new.locals (counted_seen body.new)) result
-        (item_at (tables_seen scope.now.tables.now) (standing_seen scope.now) (source_stmt stmt.now) (around_seen around.now)
+        (item_at (tables_seen scope.now.table.now) (standing_seen scope.now) (source_stmt stmt.now) (around_seen around.now)
         body.old.locals (counted_seen body.old)) }
 {
     match written_in(stmt) {
@@ -75,7 +75,7 @@ fn resolve_stmt<'a>(
     stmt: &'a Stmt,
 ) -> Result<CoreStmt, Unresolved>
     ensures it { Gives (λ s. counting (stmt_of s) (counted_seen body.new)) result
-        (meant (tables_seen scope.now.tables.now) (standing_seen scope.now) (source_stmt stmt.now) (around_seen around.now) body.old.locals
+        (meant (tables_seen scope.now.table.now) (standing_seen scope.now) (source_stmt stmt.now) (around_seen around.now) body.old.locals
         (counted_seen body.old)) }
     ensures locals { OnOk result (body.new.locals ≡ body.old.locals) }
 {
@@ -145,7 +145,7 @@ fn resolve_inner<'a>(
     stmt: &'a Stmt,
 ) -> Result<Box<CoreStmt>, Unresolved>
     ensures it { Gives (λ s. counting (stmt_of s.value) (counted_seen body.new)) result
-        (meant (tables_seen scope.now.tables.now) (standing_seen scope.now) (source_stmt stmt.now) (around_seen around.now) body.old.locals
+        (meant (tables_seen scope.now.table.now) (standing_seen scope.now) (source_stmt stmt.now) (around_seen around.now) body.old.locals
         (counted_seen body.old)) }
     ensures locals { OnOk result (body.new.locals ≡ body.old.locals) }
 {
@@ -164,7 +164,7 @@ fn resolve_groups<'a>(
     groups: &'a [Group],
 ) -> Result<List<CoreGroup>, Unresolved>
     ensures it { Gives (λ l. counting (map group_of l.items) (counted_seen body.new)) result
-        (groups_meant (tables_seen scope.now.tables.now) (standing_seen scope.now) (source_groups (map source_group groups.now))
+        (groups_meant (tables_seen scope.now.table.now) (standing_seen scope.now) (source_groups (map source_group groups.now))
         (enum_of of.now.of.now) (around_seen around.now) body.old.locals (counted_seen body.old)) }
     ensures locals { OnOk result (body.new.locals ≡ body.old.locals) }
 {
@@ -186,7 +186,7 @@ fn resolve_group<'a>(
     group: &'a Group,
 ) -> Result<CoreGroup, Unresolved>
     ensures it { Gives (λ g. counting (group_of g) (counted_seen body.new)) result
-        (group_at (tables_seen scope.now.tables.now) (standing_seen scope.now) (source_group group.now) (enum_of of.now.of.now)
+        (group_at (tables_seen scope.now.table.now) (standing_seen scope.now) (source_group group.now) (enum_of of.now.of.now)
         (around_seen around.now) body.old.locals (counted_seen body.old)) }
     ensures locals { OnOk result (body.new.locals ≡ body.old.locals) }
 {

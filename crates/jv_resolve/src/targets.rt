@@ -20,7 +20,7 @@ pub(crate) fn target_of(
     body: &Body<'_>,
     target: &Expr,
 ) -> Result<CoreVar, Unresolved>
-    ensures { Gives (λ x. x) result (target_meant (tables_seen scope.now.tables.now) (standing_seen scope.now) body.now.locals
+    ensures { Gives (λ x. x) result (target_meant (tables_seen scope.now.table.now) (standing_seen scope.now) body.now.locals
         (expr_of target.now)) }
 {
     let target = resolve_expr(scope, &body.locals, target)?;

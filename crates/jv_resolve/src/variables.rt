@@ -34,7 +34,7 @@ pub(crate) fn variable(
     name: &str,
 ) -> Result<Resolved, Unresolved>
     ensures { Gives resolved_seen result
-        (variable_named (tables_seen scope.now.tables.now) (standing_seen scope.now) locals.now place name.now) }
+        (variable_named (tables_seen scope.now.table.now) (standing_seen scope.now) locals.now place name.now) }
 {
     match scope.variable(locals, name)? {
         Some(found) => Ok(found_at(place, found)),
@@ -50,7 +50,7 @@ pub(crate) fn member(
     of: &Expr,
     name: &str,
 ) -> Result<Resolved, Unresolved>
-    ensures { Gives resolved_seen result (member (tables_seen scope.now.tables.now) (standing_seen scope.now) locals.now place
+    ensures { Gives resolved_seen result (member (tables_seen scope.now.table.now) (standing_seen scope.now) locals.now place
         (expr_of of.now) name.now) }
 {
     match head_of(of) {
@@ -68,7 +68,7 @@ fn own_member(
     name: &str,
 ) -> Result<Resolved, Unresolved>
     ensures { Gives resolved_seen result
-        (own_named (tables_seen scope.now.tables.now) (standing_seen scope.now) locals.now place name.now) }
+        (own_named (tables_seen scope.now.table.now) (standing_seen scope.now) locals.now place name.now) }
 {
     match scope.own_field(name)? {
         Some(found) => Ok(found_at(place, found)),
@@ -85,11 +85,11 @@ fn named_member(
     name: &str,
 ) -> Result<Resolved, Unresolved>
     ensures { Gives resolved_seen result
-        (member_named (tables_seen scope.now.tables.now) (standing_seen scope.now) locals.now place first.now name.now) }
+        (member_named (tables_seen scope.now.table.now) (standing_seen scope.now) locals.now place first.now name.now) }
 {
     match scope.variable(locals, first)? {
         Some(_found) => Err(Unresolved::Fault),
-        None => constant(scope.tables, place, first, name),
+        None => constant(scope.table, place, first, name),
     }
 }
 
@@ -101,7 +101,7 @@ pub(crate) fn named_receiver<'e>(
     name: &'e str,
 ) -> Result<Receiver<'e>, Unresolved>
     ensures { Gives receiver_seen result
-        (receiver_named (tables_seen scope.now.tables.now) (standing_seen scope.now) locals.now place name.now) }
+        (receiver_named (tables_seen scope.now.table.now) (standing_seen scope.now) locals.now place name.now) }
 {
     match scope.variable(locals, name)? {
         None => Ok(Receiver::Class(name)),

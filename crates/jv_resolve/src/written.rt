@@ -55,7 +55,7 @@ pub(crate) fn resolve_local<'a>(
     written: Written<'a>,
 ) -> Result<CoreStmt, Unresolved>
     ensures { Gives (λ s. itemed (stmt_of s) body.new.locals (counted_seen body.new)) result
-        (local_item (tables_seen scope.now.tables.now) (standing_seen scope.now) (written_seen written.entry) body.old.locals
+        (local_item (tables_seen scope.now.table.now) (standing_seen scope.now) (written_seen written.entry) body.old.locals
         (counted_seen body.old)) }
 {
     let declared = resolve_declaration(

@@ -99,6 +99,13 @@ module _ {files : List File} {typestates : List Typestate} {protocols : List Pro
   pub enums_are_named : enum_names ≡ map (λ e. e.name) (enums_of (map file_of files))
   enums_are_named = t.enums_named ∙ sym (map-map enum_of (λ e. e.name) (kept_enums files)) ∙ ap (map (λ e. e.name)) (enums_kept files)
 
+  -- the names of the entries
+  pub class_keys : class_names ≡ map (λ e. e.class.now.name) classes
+  class_keys = t.classes_named ∙ ap (map (λ c. c.name)) (sym t.all_classes) ∙ map-map (λ e. e.class.now) (λ c. c.name) classes
+
+  pub enum_keys : enum_names ≡ map (λ e. e.of.now.name) enums
+  enum_keys = t.enums_named ∙ ap (map (λ e. e.name)) (sym t.all_enums) ∙ map-map (λ e. e.of.now) (λ e. e.name) enums
+
   pub are_entries : AreEntriesOf (program_of files typestates) classes
   are_entries = record { follow = t.follow }
 

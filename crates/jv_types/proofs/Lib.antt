@@ -9,6 +9,7 @@ pub mod AtIndex
 pub mod NewNames
 pub mod Repeating
 pub mod Offers
+pub mod Numbering
 pub mod Building
 pub mod Mentioned
 pub mod Demanding

@@ -1,4 +1,5 @@
 pub mod Entries
+pub mod Numbers
 pub mod Kept
 pub mod Tabled
 pub mod View

@@ -1,6 +1,6 @@
 //! Classes and enums with what they declare in tables by name.
 
-ghost use Rattle.std.specs.Prelude.{◌≡◌, [], Some, true, map, option_map};
+ghost use Rattle.std.specs.Prelude.{◌≡◌, ◌+◌, ◌≤◌, ◌-◌, ◌^◌, [], Some, true, map, option_map, position, length};
 ghost use Rattle.std.specs.List.{list_any};
 ghost use Rattle.std.specs.Str.{bytes_eq};
 ghost use Rattle.jv_tree.specs.View.{class_of, enum_of, field_of, method_of};
@@ -8,20 +8,32 @@ ghost use Rattle.jv_meaning.specs.Program.{field_named, method_named};
 ghost use Rattle.jv_rules.specs.inner.Deciding.{has_constant};
 ghost use Rattle.jv_types.specs.inner.Blaming.{are_new};
 
+use crate::naming::place_of;
 use jv_tree::{Class, Enum, Field, MethodDecl};
 use mg_text::Names;
 use ts_tree::Typestate;
 
-/// A class, its typestate, and the names of its fields and of its methods.
+/// The typestate that a class names, and its number.
+#[derive(Clone, Copy)]
+pub struct NamedTypestate<'a> {
+    pub number: u32,
+    pub typestate: &'a Typestate,
+}
+
+/// A class, its number and that of its first method, its typestate, and the names of its fields and
+/// of its methods. Classes are numbered in file and text order, and so are the methods of all.
 #[derive(Drop)]
 pub struct ClassEntry<'a> {
     pub class: &'a Class,
-    pub typestate: Option<&'a Typestate>,
+    pub number: u32,
+    pub first_method: u32,
+    pub typestate: Option<NamedTypestate<'a>>,
     pub(crate) fields: Names,
     pub(crate) methods: Names,
     ghost named_fields: { fields ≡ map (λ f. f.name) class.now.fields.items },
     ghost named_methods: { methods ≡ map (λ m. m.name) class.now.methods.items },
     ghost methods_apart: { are_new [] (map (λ m. m.name) class.now.methods.items) ≡ true },
+    ghost fits: { first_method + length class.now.methods.items ≤ 2 ^ 32 - 1 },
 }
 
 /// An enum and the names of its constants.
@@ -54,6 +66,20 @@ impl<'a> ClassEntry<'a> {
             None => None,
         }
     }
+
+    /// The place of the field of a name among the fields.
+    pub fn field_place(&self, name: &str) -> Option<u32>
+        ensures { result ≡ position (bytes_eq name.now) (map (λ f. f.name) self.now.class.now.fields.items) }
+    {
+        place_of(&self.fields, name)
+    }
+
+    /// The place of the method of a name among the methods.
+    pub fn method_place(&self, name: &str) -> Option<u32>
+        ensures { result ≡ position (bytes_eq name.now) (map (λ m. m.name) self.now.class.now.methods.items) }
+    {
+        place_of(&self.methods, name)
+    }
 }
 
 impl<'a> EnumEntry<'a> {
@@ -63,5 +89,12 @@ impl<'a> EnumEntry<'a> {
         ensures { result ≡ has_constant (Some (enum_of self.now.of.now)) name.now }
     {
         self.constants.find(name).is_some()
+    }
+
+    /// The place of the constant of a name.
+    pub fn constant_place(&self, name: &str) -> Option<u32>
+        ensures { result ≡ position (bytes_eq name.now) self.now.of.now.constants.items }
+    {
+        place_of(&self.constants, name)
     }
 }

@@ -45,7 +45,9 @@ mod values;
 mod variable;
 
 pub use declarations::table;
+pub use entry::{ClassEntry, EnumEntry, NamedTypestate};
 pub use fault::TypeFault;
 pub use methods::type_check;
 pub use name_table::Table;
 pub use program::judge;
+pub use protocols::Protocol;

@@ -1,15 +1,17 @@
 //! What is found by name in the tables of a program.
 
-ghost use Rattle.std.specs.Prelude.{◌≡◌, map, option_map, IfSome};
-ghost use Rattle.jv_tree.specs.View.{enum_of};
+ghost use Rattle.std.specs.Prelude.{◌≡◌, map, option_map, position, IfSome};
+ghost use Rattle.std.specs.Str.{bytes_eq};
 ghost use Rattle.jv_meaning.specs.Program.{class_named, classes_of, enum_named};
 ghost use Rattle.jv_rules.specs.Program.{typestate_of, is_of_protocol};
 ghost use Rattle.jv_types.specs.inner.Tabled.{class_in, enum_in, IsEntryOf, AreEntriesOf};
-ghost use Rattle.jv_types.specs.Tables.{program_in};
+ghost use Rattle.jv_types.specs.Tables.{program_in, class_entries_of, enum_entries_of};
 
 use crate::entry::{ClassEntry, EnumEntry};
 use crate::name_table::Table;
+use crate::naming::place_of;
 use crate::protocols::Protocol;
+use ts_tree::Typestate;
 
 impl<'a> Table<'a> {
     /// The class of a name.
@@ -55,16 +57,52 @@ impl<'a> Table<'a> {
         ensures { result ≡ is_of_protocol (program_in self.now) (class_in entry.now) name.now }
     {
         match self.protocol_of(entry) {
-            Some(protocol) => protocol.names.find(name).is_some(),
+            Some(protocol) => protocol.has_offer(name),
             None => false,
         }
     }
 
     /// The classes, in file and text order.
-    pub(crate) fn classes(&self) -> &[ClassEntry<'a>]
+    pub fn classes(&self) -> &[ClassEntry<'a>]
         ensures classes { map class_in result.now ≡ classes_of (program_in self.now).files }
         ensures entries { AreEntriesOf (program_in self.now) result.now }
+        ensures items { result.now ≡ class_entries_of self.now }
     {
         self.classes.as_slice()
+    }
+
+    /// The enums, in file and text order.
+    pub fn enums(&self) -> &[EnumEntry<'a>]
+        ensures { result.now ≡ enum_entries_of self.now }
+    {
+        self.enums.as_slice()
+    }
+
+    /// The typestates, by their numbers.
+    pub fn typestates(&self) -> &'a [Typestate]
+        ensures { result.now ≡ (program_in self.now).typestates }
+    {
+        self.typestates
+    }
+
+    /// What the typestates offer, by their numbers.
+    pub fn protocols(&self) -> &[Protocol<'a>]
+        ensures { map (λ p. p.of.now) result.now ≡ (program_in self.now).typestates }
+    {
+        self.protocols.as_slice()
+    }
+
+    /// The number of the class of a name.
+    pub fn class_number(&self, name: &str) -> Option<u32>
+        ensures { result ≡ position (bytes_eq name.now) (map (λ e. e.class.now.name) (class_entries_of self.now)) }
+    {
+        place_of(&self.class_names, name)
+    }
+
+    /// The number of the enum of a name.
+    pub fn enum_number(&self, name: &str) -> Option<u32>
+        ensures { result ≡ position (bytes_eq name.now) (map (λ e. e.of.now.name) (enum_entries_of self.now)) }
+    {
+        place_of(&self.enum_names, name)
     }
 }

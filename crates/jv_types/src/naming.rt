@@ -1,6 +1,7 @@
 //! Tables of the names of declarations and of their members.
 
-ghost use Rattle.std.specs.Prelude.{◌≡◌, [], IfOk, map};
+ghost use Rattle.std.specs.Prelude.{◌≡◌, [], IfOk, map, position};
+ghost use Rattle.std.specs.Str.{bytes_eq};
 ghost use Rattle.jv_types.specs.inner.Blaming.{noted};
 
 use crate::blame::note;
@@ -74,4 +75,14 @@ pub(crate) fn enum_names(alloc: Global, entries: &[EnumEntry<'_>]) -> Result<Nam
         let _fresh = note(&mut met, item.of.name.as_str())?;
     }
     Ok(met)
+}
+
+/// The place of a name in a table of names.
+pub(crate) fn place_of(names: &Names, name: &str) -> Option<u32>
+    ensures { result ≡ position (bytes_eq name.now) names.now }
+{
+    match names.find(name) {
+        Some(number) => Some(number.0),
+        None => None,
+    }
 }

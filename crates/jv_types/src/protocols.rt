@@ -2,6 +2,8 @@
 
 ghost use Rattle.std.specs.Prelude.{◌≡◌, [], ◌++◌, IfOk, OnOk, Some, map};
 ghost use Rattle.std.specs.Coded.{codes};
+ghost use Rattle.std.specs.List.{list_any};
+ghost use Rattle.std.specs.Str.{bytes_eq};
 ghost use Rattle.mg_text.specs.Interned.{with_text};
 ghost use Rattle.ts_tree.specs.View.{method_of as offer_of, state_of};
 ghost use Rattle.jv_rules.specs.Program.{offers_in};
@@ -27,6 +29,15 @@ pub struct Protocol<'a> {
     ghost first: { offers_seen firsts.items ≡ firsts_among [] (offers_in of.now.states) } by { Prim.hlevel codes },
     ghost alike: { AreAlike (offers_in of.now.states) } by { Prim.hlevel codes },
     ghost named: { OffersAll (Some of.now) names },
+}
+
+impl Protocol<'_> {
+    /// Whether some state offers a method of this name.
+    pub fn has_offer(&self, name: &str) -> bool
+        ensures { result ≡ list_any (λ m. bytes_eq m.name name.now) (offers_in self.now.of.now.states) }
+    {
+        self.names.find(name).is_some()
+    }
 }
 
 // Adds the methods of a state.

@@ -40,7 +40,7 @@ pub record AreOf (s : KeptSources) (fs : List KeptFile) (ts : List Typestate) (o
   pub origins : os ≡ s.origins.items
 
 module _ (s : KeptSources) {fs : List KeptFile} {ts : List Typestate} {os : List ℕ} (are : AreOf s fs ts os) where
-  same_program : program_of fs ts ≡ (sourced_of s).program
+  pub same_program : program_of fs ts ≡ (sourced_of s).program
   same_program i = program_of (are.files i) (are.typestates i)
 
   pub same_count : length s.origins.items ≡ length s.typestates.items → length os ≡ length ts
@@ -51,16 +51,16 @@ module _ (s : KeptSources) {fs : List KeptFile} {ts : List Typestate} {os : List
       (λ i. record { program = same_program i; origins = are.origins i }) h
 
   module _ (fault : TypeFault) (stop : Stop) (stops : IsStopOf (λ f r. r ≡ type_refusal f) (fault_told fault) stop) where
-    pub table_failed : TellsFault (IsTableFault (program_of fs ts) os) fault →
-        Answers (λ (done : Unit {0}). HasNoFault (sourced_of s)) (TypeRefusal (sourced_of s)) (Err stop)
-    table_failed h =
+    pub table_failed : {A : Type 0} → TellsFault (IsTableFault (program_of fs ts) os) fault →
+        Answers (λ (done : A). HasNoFault (sourced_of s)) (TypeRefusal (sourced_of s)) (Err stop)
+    table_failed {A} h =
         table_refused (sourced_of s) fault stop stops
         (subst (λ (z : Sourced). TellsFault (IsTableFault z.program z.origins) fault)
         (λ i. record { program = same_program i; origins = are.origins i }) h)
 
-    pub method_failed : (program : Program) → program ≡ program_of fs ts → IsTableFault (program_of fs ts) os None →
-        TellsFault (IsFault program) fault → Answers (λ (done : Unit {0}). HasNoFault (sourced_of s)) (TypeRefusal (sourced_of s)) (Err stop)
-    method_failed program e clean h =
+    pub method_failed : {A : Type 0} → (program : Program) → program ≡ program_of fs ts → IsTableFault (program_of fs ts) os None →
+        TellsFault (IsFault program) fault → Answers (λ (done : A). HasNoFault (sourced_of s)) (TypeRefusal (sourced_of s)) (Err stop)
+    method_failed {A} program e clean h =
         method_refused (sourced_of s) fault stop stops (table_is None clean) (subst (λ (z : Program). TellsFault (IsFault z) fault)
         (e ∙ same_program) h)
 
@@ -72,34 +72,34 @@ module _ (s : KeptSources) {fs : List KeptFile} {ts : List Typestate} {os : List
         (e ∙ same_program) h;
   }
 
-  -- ---- what resolving asks for
+-- ---- what resolving asks for
 
-  module _ (law : SpelledIsShaped) {files : List Source} (program : AreProgram files (sourced_of s)) where
-    pub is_shaped : IsShaped (program_of fs ts)
-    is_shaped = subst IsShaped (sym same_program) (shaped law program.spell)
+module _ (s : KeptSources) {p : Program} (same : p ≡ (sourced_of s).program) (law : SpelledIsShaped) {files : List Source}
+    (program : AreProgram files (sourced_of s)) where
+  pub is_shaped : IsShaped p
+  is_shaped = subst IsShaped (sym same) (shaped law program.spell)
 
-    pub only_assigns : OnlyVariablesAreAssigned (program_of fs ts)
-    only_assigns = subst OnlyVariablesAreAssigned (sym same_program) (assigns law program.spell)
+  pub only_assigns : OnlyVariablesAreAssigned p
+  only_assigns = subst OnlyVariablesAreAssigned (sym same) (assigns law program.spell)
 
-    pub is_well_typed : HasNoFault (sourced_of s) → IsWellTyped (program_of fs ts)
-    is_well_typed fine = subst IsWellTyped (sym same_program)
-        (record {
-          origins = (sourced_of s).origins;
-          numbered = numbered program.spell;
-          declarations = fine.declarations;
-          methods =
-              fine.methods;
-        })
+  pub is_well_typed : HasNoFault (sourced_of s) → IsWellTyped p
+  is_well_typed fine = subst IsWellTyped (sym same)
+      (record {
+        origins = (sourced_of s).origins;
+        numbered = numbered program.spell;
+        declarations = fine.declarations;
+        methods =
+            fine.methods;
+      })
 
-    pub resolved : HasNoFault (sourced_of s) → (core : Core) → Resolves (program_of fs ts) (tree_of core) →
-        resolving (program_of fs ts) ≡ Some (tree_of core)
-        → HaveCore files (tree_of core)
-    resolved fine core h r = record {
-      program = (sourced_of s).program;
-      are = record { sourced = sourced_of s; is = refl; are = program; declarations = fine.declarations; methods = fine.methods };
-      stands = subst (λ (z : Program). Resolves z (tree_of core)) same_program h;
-      resolved = sym (ap resolving same_program) ∙ r;
-    }
+  pub resolved : HasNoFault (sourced_of s) → (core : Core) → Resolves p (tree_of core) → resolving p ≡ Some (tree_of core) →
+      HaveCore files (tree_of core)
+  resolved fine core h r = record {
+    program = (sourced_of s).program;
+    are = record { sourced = sourced_of s; is = refl; are = program; declarations = fine.declarations; methods = fine.methods };
+    stands = subst (λ (z : Program). Resolves z (tree_of core)) same h;
+    resolved = sym (ap resolving same) ∙ r;
+  }
 
 pub files_numbered : {files : List Source} (s : KeptSources) → AreProgram files (sourced_of s) →
     length s.origins.items ≡ length s.typestates.items
@@ -114,11 +114,11 @@ module _ (files : List Source) (stop : Stop) (answer : Result Core Stop) (is : a
       refused_by (λ (k : KeptSources). AreProgram files (sourced_of k)) (reading.FirstRefusal files) (λ core. HaveCore files (tree_of core))
       (FirstRefusal files) (λ r first. at_first first) stop h answer is
 
-  pub judge_failed : (sourced : Sourced) → AreProgram files sourced →
-      Answers (λ (done : Unit {0}). HasNoFault sourced) (TypeRefusal sourced) (Err stop) →
+  pub judge_failed : {A : Type 0} → (sourced : Sourced) → AreProgram files sourced →
+      Answers (λ (done : A). HasNoFault sourced) (TypeRefusal sourced) (Err stop) →
       Answers (λ core. HaveCore files (tree_of core)) (FirstRefusal files) answer
-  judge_failed sourced are h =
-      refused_by (λ (done : Unit {0}). HasNoFault sourced) (TypeRefusal sourced) (λ core. HaveCore files (tree_of core))
+  judge_failed {A} sourced are h =
+      refused_by (λ (done : A). HasNoFault sourced) (TypeRefusal sourced) (λ core. HaveCore files (tree_of core))
       (FirstRefusal files) (λ r found. at_next sourced are found) stop h answer is
 
 module _ (files : List Source) (answer : Result Core Stop) (h : Answers (λ core. HaveCore files (tree_of core)) (FirstRefusal files) answer) where

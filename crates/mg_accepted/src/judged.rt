@@ -1,21 +1,23 @@
 //! Whether a program is well typed.
 
-ghost use Rattle.std.specs.Prelude.{◌≡◌, length};
+ghost use Rattle.std.specs.Prelude.{◌≡◌, IfOk, length};
+ghost use Rattle.jv_types.specs.Tables.{program_in};
 ghost use Rattle.mg_refusal.specs.Order.{Answers};
 ghost use Rattle.mg_sources.specs.View.{sourced_of};
 ghost use Rattle.mg_accepted.specs.Program.{TypeRefusal};
 ghost use Rattle.mg_accepted.specs.inner.Answers.{HasNoFault};
 
 use crate::refusal::stop_of;
-use jv_types::{table, type_check};
+use jv_types::{Table, table, type_check};
 use mg_refusal::Stop;
 use mg_sources::Sources;
 use std::alloc::Global;
 
-/// Tells whether a program is well typed; its first type fault is the error.
-pub(crate) fn judge(alloc: Global, sources: &Sources) -> Result<(), Stop>
+/// The table of a program that is well typed; its first type fault is the error.
+pub(crate) fn judge<'a>(alloc: Global, sources: &'a Sources) -> Result<Table<'a>, Stop>
     requires { length sources.now.origins.items ≡ length sources.now.typestates.items }
-    ensures { Answers (λ done. HasNoFault (sourced_of sources.now)) (TypeRefusal (sourced_of sources.now)) result }
+    ensures answered { Answers (λ table. HasNoFault (sourced_of sources.now)) (TypeRefusal (sourced_of sources.now)) result }
+    ensures program { IfOk result (λ table. program_in table ≡ (sourced_of sources.now).program) }
 {
     let table = match table(
         alloc,
@@ -27,7 +29,7 @@ pub(crate) fn judge(alloc: Global, sources: &Sources) -> Result<(), Stop>
         Err(fault) => return Err(stop_of(fault)),
     };
     match type_check(alloc, &table) {
-        Ok(()) => Ok(()),
+        Ok(()) => Ok(table),
         Err(fault) => Err(stop_of(fault)),
     }
 }

@@ -51,11 +51,7 @@ fn core_of(alloc: Global, names: &[Text], contents: &[Bytes]) -> Result<Core, St
 {
     spelled_is_shaped();
     let sources = read_program(alloc, names, contents)?;
-    judge(alloc, &sources)?;
-    let core = resolve(
-        alloc,
-        sources.files.as_slice(),
-        sources.typestates.as_slice(),
-    )?;
+    let table = judge(alloc, &sources)?;
+    let core = resolve(alloc, &table)?;
     Ok(core)
 }

@@ -2,6 +2,9 @@
 use Rattle.std.specs.Prelude.{List, [], ◌∷◌, map, option_map}
 use Rattle.jv_tree.specs.View.{class_of, enum_of, field_of, method_of}
 use Rattle.jv_core.specs.View.{expr_of}
+use Rattle.jv_types.specs.declared.entry.ClassEntry.{ClassEntry}
+use Rattle.jv_types.specs.declared.name_table.Table.{Table}
+use Rattle.jv_types.specs.Tables.{program_in, class_entries_of, enum_entries_of}
 use Rattle.jv_resolve_law.specs.Tables.{Entry, Tables as Tabled, Callee as Called, Placed, Numbered}
 use Rattle.jv_resolve_law.specs.Expressions.{Given as GivenType, OfNull, Of, Resolved as ResolvedExpr, Standing, Found as FoundVariable}
 use Rattle.jv_resolve_law.specs.Statements.{Around as Target, InLoop, InSwitch}
@@ -9,11 +12,9 @@ use Rattle.jv_resolve.specs.declared.given.Given.{Given}
 use Rattle.jv_resolve.specs.declared.given.Given.TheVariants as kept_given
 use Rattle.jv_resolve.specs.declared.given.Operand.{Operand}
 use Rattle.jv_resolve.specs.declared.given.Resolved.{Resolved}
-use Rattle.jv_resolve.specs.declared.tables.ClassEntry.{ClassEntry}
-use Rattle.jv_resolve.specs.declared.tables.Tables.{Tables}
-use Rattle.jv_resolve.specs.declared.tables.Callee.{Callee}
-use Rattle.jv_resolve.specs.declared.tables.PlacedField.{PlacedField}
-use Rattle.jv_resolve.specs.declared.tables.NumberedEnum.{NumberedEnum}
+use Rattle.jv_resolve.specs.declared.lookup.Callee.{Callee}
+use Rattle.jv_resolve.specs.declared.lookup.PlacedField.{PlacedField}
+use Rattle.jv_resolve.specs.declared.lookup.NumberedEnum.{NumberedEnum}
 use Rattle.jv_resolve.specs.declared.scope.Scope.{Scope}
 use Rattle.jv_resolve.specs.declared.scope.Found.{Found}
 use Rattle.jv_resolve.specs.declared.scope.Around.{Around}
@@ -30,13 +31,18 @@ abbrev pub operand_seen : Operand → ResolvedExpr
 operand_seen o = record { expr = expr_of o.expr.value; given = given_seen o.given }
 
 abbrev pub entry_seen : ClassEntry → Entry
-entry_seen e = record { class = class_of e.class.now; number = e.number; first_method = e.first_method; typestate = e.typestate }
+entry_seen e = record {
+  class = class_of e.class.now;
+  number = e.number;
+  first_method = e.first_method;
+  typestate = option_map (λ t. t.number) e.typestate;
+}
 
-abbrev pub tables_seen : Tables → Tabled
+abbrev pub tables_seen : Table → Tabled
 tables_seen t = record {
-  classes = map entry_seen t.classes.items;
-  enums = map (λ e. enum_of e.of.now) t.enums.items;
-  typestates = map (λ e. e.typestate.now) t.typestates.items;
+  classes = map entry_seen (class_entries_of t);
+  enums = map (λ e. enum_of e.of.now) (enum_entries_of t);
+  typestates = (program_in t).typestates;
 }
 
 abbrev pub callee_seen : Callee → Called

@@ -10,7 +10,7 @@ use Rattle.jv_resolve.proofs.calls.static_call.Goals as goal
 
 pub returns : goal.returns
 returns c =
-    made (type_meant (tables_seen c.args.scope.now.tables.now) c.args.callee.method.now.result) c.in_ok-result.result
+    made (type_meant (tables_seen c.args.scope.now.table.now) c.args.callee.method.now.result) c.in_ok-result.result
     (Core.Static c.args.place c.args.callee.number (exprs_of (map expr_of c.args.args.items)))
     (kind_of (kinds.Static c.args.callee.number c.args.args) c.args.place) (resolved_seen c.typed.result)
     c.in_ok-result.ensures (kind-Static c.args.callee.number c.args.args c.args.place) c.typed.ensures

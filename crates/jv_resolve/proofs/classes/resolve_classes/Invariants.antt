@@ -7,6 +7,6 @@ use Rattle.jv_resolve.proofs.classes.resolve_classes.Given as goal
 
 abbrev pub invariant-loop-entry : goal.invariant-loop-entry
 invariant-loop-entry l =
-    classes (tables_seen l.tables) l.initial.names (map entry_seen l.entries)
-    ≡ with_done (map (class_of) l.resolved.items) (threaded (class (tables_seen l.tables)) l.names
+    classes (tables_seen l.table) l.initial.names (map entry_seen l.entries)
+    ≡ with_done (map (class_of) l.resolved.items) (threaded (class (tables_seen l.table)) l.names
     (map (entry_seen) (drop l.entry-index l.entries)))

@@ -10,7 +10,7 @@ use Rattle.jv_resolve.proofs.classes.resolve_field.Goals as goal
 
 pub returns : goal.returns
 returns c =
-    field_made (tables_seen c.args.tables.now) c.args.names.now (field_of c.args.field.now) c.in_ok-name.name.0 c.add_name.new.names
+    field_made (tables_seen c.args.table.now) c.args.names.now (field_of c.args.field.now) c.in_ok-name.name.0 c.add_name.new.names
     (ap (interned c.args.names.now) (sym c.as_str.ensures) ∙ c.in_ok-name.ensures.number)
     c.in_ok-ty.ty (option_map expr_of c.in_ok-value.value) c.in_ok-ty.ensures c.in_ok-value.ensures
 
@@ -18,7 +18,7 @@ pub returns-in_err-ty : goal.returns-in_err-ty
 returns-in_err-ty c =
     let p = err_from_is_err_and c.from_residual-in_err-ty.result c.from_residual-in_err-ty.ensures.1 in
     rw (p.1, p.2)
-    (field_type_fails (tables_seen c.args.tables.now) c.args.names.now (field_of c.args.field.now) c.in_ok-name.name.0 c.add_name.new.names
+    (field_type_fails (tables_seen c.args.table.now) c.args.names.now (field_of c.args.field.now) c.in_ok-name.name.0 c.add_name.new.names
     (ap (interned c.args.names.now) (sym c.as_str.ensures) ∙ c.in_ok-name.ensures.number)
     c.in_err-ty.field-0.0 c.in_err-ty.ensures)
 
@@ -26,6 +26,6 @@ pub returns-in_err-value : goal.returns-in_err-value
 returns-in_err-value c =
     let p = err_from_is_err_and c.from_residual-in_err-value.result c.from_residual-in_err-value.ensures.1 in
     rw (p.1, p.2)
-    (field_value_fails (tables_seen c.args.tables.now) c.args.names.now (field_of c.args.field.now) c.in_ok-name.name.0 c.add_name.new.names
+    (field_value_fails (tables_seen c.args.table.now) c.args.names.now (field_of c.args.field.now) c.in_ok-name.name.0 c.add_name.new.names
     (ap (interned c.args.names.now) (sym c.as_str.ensures) ∙ c.in_ok-name.ensures.number)
     c.in_err-value.field-0.0 c.in_ok-ty.ty c.in_ok-ty.ensures c.in_err-value.ensures)

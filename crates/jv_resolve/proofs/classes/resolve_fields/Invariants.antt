@@ -8,6 +8,6 @@ use Rattle.jv_resolve.proofs.classes.resolve_fields.Given as goal
 
 abbrev pub invariant-loop-field : goal.invariant-loop-field
 invariant-loop-field l =
-    fields (tables_seen l.tables) l.initial.names (map source_field l.fields)
-    ≡ with_done (map (field_of) l.resolved.items) (threaded (field (tables_seen l.tables)) l.names
+    fields (tables_seen l.table) l.initial.names (map source_field l.fields)
+    ≡ with_done (map (field_of) l.resolved.items) (threaded (field (tables_seen l.table)) l.names
     (map (source_field) (drop l.field-index l.fields)))

@@ -20,6 +20,6 @@ decreases-resolve_args l = 4 * goal.size-resolve_args l + 3
 
 abbrev pub invariant-resolve_args-loop-arg : goal.invariant-resolve_args-loop-arg
 invariant-resolve_args-loop-arg l =
-    resolved_all (tables_seen l.scope.tables.now) (standing_seen l.scope) l.locals (exprs_of (map expr_of l.args))
+    resolved_all (tables_seen l.scope.table.now) (standing_seen l.scope) l.locals (exprs_of (map expr_of l.args))
     ≡ option_map (λ es. map core_expr l.resolved.items ++ es)
-    (resolved_all (tables_seen l.scope.tables.now) (standing_seen l.scope) l.locals (exprs_of (map expr_of (drop l.arg-index l.args))))
+    (resolved_all (tables_seen l.scope.table.now) (standing_seen l.scope) l.locals (exprs_of (map expr_of (drop l.arg-index l.args))))

@@ -1,6 +1,4 @@
 use Rattle.std.proofs.Common.{Some, sym, ap, ◌∙◌}
-use Rattle.std.specs.Prelude.{position}
-use Rattle.std.specs.Str.{bytes_eq}
 use Rattle.jv_meaning.specs.Program.{constant_position}
 use Rattle.jv_core.specs.Tree as Core
 use Rattle.jv_core.specs.declared.program.CoreType.TheVariants as types
@@ -13,9 +11,9 @@ use Rattle.jv_resolve.proofs.literals.constant.Goals as goal
 pub returns : goal.returns
 returns c =
     let k = numbered_seen c.in-Some.numbered in
-    let i = c.in-Some-find.position in
+    let i = c.in-Some-constant_place.position in
     ap (λ o. o >>= λ (e : Numbered). constant_position e.enum c.args.name.now
     >>= λ j. Some (typed (Core.Constant c.args.place e.number j) (types.Enum e.number))) (sym c.in-Some.ensures)
     ∙ ap (λ o. o >>= λ j. Some (typed (Core.Constant c.args.place k.number j) (types.Enum k.number)))
-    (ap (position (bytes_eq c.args.name.now)) (sym c.in-Some.numbered.entry.now.named) ∙ sym c.in-Some-find.ensures)
+    (sym c.in-Some-constant_place.ensures)
     ∙ ap Some (sym (c.typed.ensures ∙ ap (λ e. typed e (types.Enum k.number)) (kind-Constant k.number i c.args.place)))

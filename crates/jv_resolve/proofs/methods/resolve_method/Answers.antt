@@ -12,21 +12,21 @@ use Rattle.jv_resolve.proofs.methods.resolve_method.Goals as goal
 pub returns-in_err-signature : goal.returns-in_err-signature
 returns-in_err-signature c =
     let p = err_from_is_err_and c.from_residual.result c.from_residual.ensures.1 in
-    rw (p.1, p.2) (method_signature_fails (tables_seen c.args.tables.now) c.args.names (entry_seen c.args.entry.now)
+    rw (p.1, p.2) (method_signature_fails (tables_seen c.args.table.now) c.args.names (entry_seen c.args.entry.now)
     (source_method c.args.method.now) c.in_err-signature.field-0.0 c.in_err-signature.ensures.it)
 
 pub returns-in_err-stmts : goal.returns-in_err-stmts
 returns-in_err-stmts c =
     let p = err_from_is_err_and c.from_residual-in_err-stmts.result c.from_residual-in_err-stmts.ensures.1 in
     rw (p.1, p.2)
-    (method_body_fails (tables_seen c.args.tables.now) c.args.names (entry_seen c.args.entry.now) (source_method c.args.method.now)
+    (method_body_fails (tables_seen c.args.table.now) c.args.names (entry_seen c.args.entry.now) (source_method c.args.method.now)
     (naming (signature_seen c.in_ok-signature.signature) c.signature_of.new.names) c.in_ok-signature.ensures.it c.new-body.result.locals
     (counted_seen c.new-body.result) c.new-body.ensures.locals c.new-body.ensures.counted
     c.in_err-stmts.field-0.0 c.in_err-stmts.ensures)
 
 pub returns : goal.returns
 returns c =
-    method_made (tables_seen c.args.tables.now) c.args.names (entry_seen c.args.entry.now) (source_method c.args.method.now)
+    method_made (tables_seen c.args.table.now) c.args.names (entry_seen c.args.entry.now) (source_method c.args.method.now)
     (naming (signature_seen c.in_ok-signature.signature) c.signature_of.new.names) c.in_ok-signature.ensures.it c.new-body.result.locals
     (counted_seen c.new-body.result) c.new-body.ensures.locals c.new-body.ensures.counted
     (counting (map stmt_of c.in_ok-stmts.stmts.items) (counted_seen c.resolve_body.new.body)) c.in_ok-signature.signature.params

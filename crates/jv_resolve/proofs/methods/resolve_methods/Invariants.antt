@@ -7,5 +7,5 @@ use Rattle.jv_resolve.proofs.methods.resolve_methods.Given as goal
 
 abbrev pub invariant-loop-entry : goal.invariant-loop-entry
 invariant-loop-entry l =
-    methods (tables_seen l.tables) l.fn.names (map entry_seen l.entries)
-    ≡ with_done (map method_of l.methods.items) (methods (tables_seen l.tables) l.known (map entry_seen (drop l.entry-index l.entries)))
+    methods (tables_seen l.table) l.fn.names (map entry_seen l.entries)
+    ≡ with_done (map method_of l.methods.items) (methods (tables_seen l.table) l.known (map entry_seen (drop l.entry-index l.entries)))

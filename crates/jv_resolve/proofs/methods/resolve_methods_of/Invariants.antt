@@ -8,7 +8,7 @@ use Rattle.jv_resolve.proofs.methods.resolve_methods_of.Given as goal
 
 abbrev pub invariant-loop-method : goal.invariant-loop-method
 invariant-loop-method l =
-    with_done (map method_of l.initial.resolved.items) (methods_of (tables_seen l.tables) l.fn.names (entry_seen l.entry)
+    with_done (map method_of l.initial.resolved.items) (methods_of (tables_seen l.table) l.fn.names (entry_seen l.entry)
     (map source_method l.methods))
-    ≡ with_done (map method_of l.resolved.items) (threaded (λ ns m. method (tables_seen l.tables) ns (entry_seen l.entry) m) l.known
+    ≡ with_done (map method_of l.resolved.items) (threaded (λ ns m. method (tables_seen l.table) ns (entry_seen l.entry) m) l.known
     (map source_method (drop l.method-index l.methods)))

@@ -10,9 +10,9 @@ use Rattle.jv_resolve.proofs.methods.resolve_param.Goals as goal
 
 pub returns : goal.returns
 returns c =
-    param_made (tables_seen c.args.tables.now) c.args.param.now c.args.body.now.locals (counted_seen c.args.body.now)
+    param_made (tables_seen c.args.table.now) c.args.param.now c.args.body.now.locals (counted_seen c.args.body.now)
     (counting (known c.as_str.result.now c.in_ok-local.local) (counted_seen c.add_slot.new.self)) c.declare.new.self
-    (ap (λ n. slot_more (tables_seen c.args.tables.now) c.args.param.now.ty n (counted_seen c.args.body.now)) (sym c.as_str.ensures) ∙
+    (ap (λ n. slot_more (tables_seen c.args.table.now) c.args.param.now.ty n (counted_seen c.args.body.now)) (sym c.as_str.ensures) ∙
     c.in_ok-local.ensures.it)
     (ap (declared (known c.as_str.result.now c.in_ok-local.local)) (sym c.in_ok-local.ensures.locals) ∙
     ap (λ n. declared (known n c.in_ok-local.local) c.add_slot.new.self.locals) (c.as_str.ensures ∙ sym c.as_str-2.ensures) ∙
@@ -22,19 +22,19 @@ pub returns-in_err-local : goal.returns-in_err-local
 returns-in_err-local c =
     let p = err_from_is_err_and c.from_residual.result c.from_residual.ensures.1 in
     rw (p.1, p.2)
-    (param_slot_fails (tables_seen c.args.tables.now) c.args.param.now c.args.body.now.locals (counted_seen c.args.body.now)
+    (param_slot_fails (tables_seen c.args.table.now) c.args.param.now c.args.body.now.locals (counted_seen c.args.body.now)
     c.in_err-local.field-0.0
     (fails_as c.in_err-local.field-0.0 _ _
-    (ap (λ n. slot_more (tables_seen c.args.tables.now) c.args.param.now.ty n (counted_seen c.args.body.now)) (sym c.as_str.ensures))
+    (ap (λ n. slot_more (tables_seen c.args.table.now) c.args.param.now.ty n (counted_seen c.args.body.now)) (sym c.as_str.ensures))
     c.in_err-local.ensures.it))
 
 pub returns-in_err-declare : goal.returns-in_err-declare
 returns-in_err-declare c =
     let p = err_from_is_err_and c.from_residual-in_err-declare.result c.from_residual-in_err-declare.ensures.1 in
     rw (p.1, p.2)
-    (param_scope_fails (tables_seen c.args.tables.now) c.args.param.now c.args.body.now.locals (counted_seen c.args.body.now)
+    (param_scope_fails (tables_seen c.args.table.now) c.args.param.now c.args.body.now.locals (counted_seen c.args.body.now)
     c.in_err-declare.field-0.0 (counting (known c.as_str.result.now c.in_ok-local.local) (counted_seen c.add_slot.new.self))
-    (ap (λ n. slot_more (tables_seen c.args.tables.now) c.args.param.now.ty n (counted_seen c.args.body.now)) (sym c.as_str.ensures) ∙
+    (ap (λ n. slot_more (tables_seen c.args.table.now) c.args.param.now.ty n (counted_seen c.args.body.now)) (sym c.as_str.ensures) ∙
     c.in_ok-local.ensures.it)
     (fails_as c.in_err-declare.field-0.0 _ _ (ap (declared (known c.as_str.result.now c.in_ok-local.local))
     (sym c.in_ok-local.ensures.locals) ∙ ap (λ n. declared (known n c.in_ok-local.local) c.add_slot.new.self.locals)

@@ -6,5 +6,5 @@ use Rattle.jv_resolve.proofs.methods.resolve_params.Given as goal
 
 abbrev pub invariant-loop-param : goal.invariant-loop-param
 invariant-loop-param l =
-    params (tables_seen l.tables) l.params l.initial.body.locals (counted_seen l.initial.body) ≡ params (tables_seen l.tables)
+    params (tables_seen l.table) l.params l.initial.body.locals (counted_seen l.initial.body) ≡ params (tables_seen l.table)
     (drop l.param-index l.params) l.body.locals (counted_seen l.body)

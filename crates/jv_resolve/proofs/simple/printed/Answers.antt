@@ -11,7 +11,7 @@ use Rattle.jv_resolve.proofs.simple.printed.Goals as goal
 
 pub returns : goal.returns
 returns c =
-    one_made (resolved (tables_seen c.args.scope.now.tables.now) (standing_seen c.args.scope.now) c.args.body.now.locals
+    one_made (resolved (tables_seen c.args.scope.now.table.now) (standing_seen c.args.scope.now) c.args.body.now.locals
     (expr_of c.args.value.now)) (resolved_seen c.in_ok-value.value) (λ (v : Resolved). Core.Print c.args.place v.expr)
     (stmt_of c.stmt_at.result) (counted_seen c.args.body.now) c.in_ok-value.ensures (c.stmt_at.ensures ∙ stmt-Print c.in_ok-value.value.expr
     c.args.place)

@@ -12,7 +12,7 @@ use Rattle.jv_resolve.proofs.simple.returned.Goals as goal
 
 pub returns : goal.returns
 returns c =
-    one_made (given_back (tables_seen c.args.scope.now.tables.now) (standing_seen c.args.scope.now) c.args.body.now.locals
+    one_made (given_back (tables_seen c.args.scope.now.table.now) (standing_seen c.args.scope.now) c.args.body.now.locals
     (option_map expr_of c.args.value.now)) (option_map core_expr c.in_ok-value.value) (λ v. Core.Return c.args.place v)
     (stmt_of c.stmt_at.result) (counted_seen c.args.body.now) c.in_ok-value.ensures (c.stmt_at.ensures ∙ stmt-Return c.in_ok-value.value
     c.args.place)

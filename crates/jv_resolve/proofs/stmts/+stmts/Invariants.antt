@@ -27,21 +27,21 @@ decreases-resolve_groups l = 8 * goal.size-resolve_groups l + 4
 
 abbrev pub invariant-resolve_stmts-loop-stmt : goal.invariant-resolve_stmts-loop-stmt
 invariant-resolve_stmts-loop-stmt l = record {
-  so_far : stmts (tables_seen l.scope.tables.now) (standing_seen l.scope) (source.stmts_of (map source.stmt_of l.stmts))
+  so_far : stmts (tables_seen l.scope.table.now) (standing_seen l.scope) (source.stmts_of (map source.stmt_of l.stmts))
       (around_seen l.around) l.initial.body.locals (counted_seen l.initial.body)
       ≡ with_stmts (map stmt_of l.resolved.items)
-      (left_stmts (tables_seen l.scope.tables.now) (standing_seen l.scope) (around_seen l.around) (drop l.stmt-index l.stmts) l.body.locals
+      (left_stmts (tables_seen l.scope.table.now) (standing_seen l.scope) (around_seen l.around) (drop l.stmt-index l.stmts) l.body.locals
       (counted_seen l.body));
   scope : Extends l.initial.body.locals l.body.locals;
 }
 
 abbrev pub invariant-resolve_groups-loop-group : goal.invariant-resolve_groups-loop-group
 invariant-resolve_groups-loop-group l = record {
-  so_far : groups (tables_seen l.scope.tables.now) (standing_seen l.scope) (source.groups_of (map source.group_of l.groups))
+  so_far : groups (tables_seen l.scope.table.now) (standing_seen l.scope) (source.groups_of (map source.group_of l.groups))
       (source.enum_of l.of.of.now) (around_seen l.around) l.initial.body.locals
       (counted_seen l.initial.body)
-      ≡ with_groups (tables_seen l.scope.tables.now) (standing_seen l.scope) (around_seen l.around) (map group_of l.resolved.items)
-      (left_groups (tables_seen l.scope.tables.now) (standing_seen l.scope) (around_seen l.around) (source.enum_of l.of.of.now)
+      ≡ with_groups (tables_seen l.scope.table.now) (standing_seen l.scope) (around_seen l.around) (map group_of l.resolved.items)
+      (left_groups (tables_seen l.scope.table.now) (standing_seen l.scope) (around_seen l.around) (source.enum_of l.of.of.now)
       (drop l.group-index l.groups) l.body.locals (counted_seen l.body));
   locals : l.body.locals ≡ l.initial.body.locals;
 }

@@ -16,7 +16,7 @@ returns-in_err-declared c =
     let p = err_from_is_err_and c.from_residual.result c.from_residual.ensures.1 in
     let w = written_seen c.args.written in
     rw (p.1, p.2)
-    (fails_then c.in_err-declared.field-0.0 (local (tables_seen c.args.scope.now.tables.now) (standing_seen c.args.scope.now) w.place w.ty
+    (fails_then c.in_err-declared.field-0.0 (local (tables_seen c.args.scope.now.table.now) (standing_seen c.args.scope.now) w.place w.ty
     w.name w.value c.args.body.now.locals (counted_seen c.args.body.now)) (λ k. scope_item k c.args.body.now.locals)
     c.in_err-declared.ensures.it)
 

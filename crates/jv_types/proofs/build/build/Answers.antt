@@ -22,3 +22,6 @@ tabled-requires-clause-follow c = c.in_ok-classes.ensures.follow
 
 pub tabled-requires-clause-enums : goal.tabled-requires-clause-enums
 tabled-requires-clause-enums c = c.in_ok-enums.ensures ∙ ap (flat_map enum_kept) c.requires.decls ∙ enums_in c.args.files.now
+
+pub tabled-requires-clause-numbers : goal.tabled-requires-clause-numbers
+tabled-requires-clause-numbers c = c.in_ok-classes.ensures.numbers

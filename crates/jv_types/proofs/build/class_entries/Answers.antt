@@ -7,10 +7,17 @@ add_class-requires-clause-member c = none_here c.args.decls.now c.loop-decl.decl
     c.decl-item.is c.loop-decl.invariant.members
 
 pub loop-decl-preserved : goal.loop-decl-preserved
-loop-decl-preserved c = record {
-  members = none_later c.args.decls.now c.loop-decl.decl-index c.decl-item.result c.loop-decl-test.true c.decl-item.is
-      c.loop-decl.invariant.members;
-  classes = kept_more c.args.decls.now c.loop-decl.decl-index c.decl-item.result c.loop-decl-test.true c.decl-item.is class_kept _ _ _
-      c.loop-decl.invariant.classes c.in_ok-add_class.ensures.classes;
-  follow = c.in_ok-add_class.ensures.follow c.loop-decl.invariant.follow;
-}
+loop-decl-preserved c =
+    let h = c.in_ok-add_class.ensures.numbers (record { each = c.loop-decl.invariant.numbers; all = c.loop-decl.invariant.methods }) in
+    record {
+      members = none_later c.args.decls.now c.loop-decl.decl-index c.decl-item.result c.loop-decl-test.true c.decl-item.is
+          c.loop-decl.invariant.members;
+      classes = kept_more c.args.decls.now c.loop-decl.decl-index c.decl-item.result c.loop-decl-test.true c.decl-item.is class_kept _ _ _
+          c.loop-decl.invariant.classes c.in_ok-add_class.ensures.classes;
+      follow = c.in_ok-add_class.ensures.follow c.loop-decl.invariant.follow;
+      numbers = h.each;
+      methods = h.all;
+    }
+
+pub returns-clause-numbers : goal.returns-clause-numbers
+returns-clause-numbers c = c.loop-decl.invariant.numbers

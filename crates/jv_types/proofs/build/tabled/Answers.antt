@@ -12,6 +12,7 @@ invariant_of-result c =
             class_table c.args.files.now c.requires.types c.in_ok-class_names.class_names c.args.classes.items c.as_slice.result.now
             c.as_slice.ensures.value c.requires.classes c.in_ok-class_names.ensures;
         follow = c.requires.follow;
+        numbered = c.requires.numbers;
         all_enums = c.requires.enums;
         enums_named =
             enum_table c.args.files.now c.requires.types c.in_ok-enum_names.enum_names c.args.enums.items c.as_slice-2.result.now

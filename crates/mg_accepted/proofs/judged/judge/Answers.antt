@@ -1,4 +1,5 @@
-use Rattle.mg_accepted.proofs.Resolved.{same_count, table_failed, method_failed, no_fault}
+use Rattle.std.proofs.Common.{◌∙◌}
+use Rattle.mg_accepted.proofs.Resolved.{same_program, same_count, table_failed, method_failed, no_fault}
 use Rattle.mg_accepted.proofs.judged.judge.Goals as goal
 
 pub table-requires : goal.table-requires
@@ -10,16 +11,24 @@ table-requires c =
           c.as_slice-3.ensures.items;
     }) c.requires
 
-pub returns-in-Err : goal.returns-in-Err
-returns-in-Err c =
+pub returns-in-Err-clause-answered : goal.returns-in-Err-clause-answered
+returns-in-Err-clause-answered c =
     table_failed c.args.sources.now (record {
       files = c.as_slice.ensures.items;
       typestates = c.as_slice-2.ensures.items;
       origins = c.as_slice-3.ensures.items;
     }) c.in-Err.fault c.stop_of.result c.stop_of.ensures c.in-Err.ensures.fault
 
-pub returns-in-Ok-type_check : goal.returns-in-Ok-type_check
-returns-in-Ok-type_check c =
+pub returns-in-Ok-type_check-clause-program : goal.returns-in-Ok-type_check-clause-program
+returns-in-Ok-type_check-clause-program c =
+    c.in-Ok.ensures.program ∙ same_program c.args.sources.now (record {
+      files = c.as_slice.ensures.items;
+      typestates = c.as_slice-2.ensures.items;
+      origins = c.as_slice-3.ensures.items;
+    })
+
+pub returns-in-Ok-type_check-clause-answered : goal.returns-in-Ok-type_check-clause-answered
+returns-in-Ok-type_check-clause-answered c =
     no_fault c.args.sources.now (record {
       files = c.as_slice.ensures.items;
       typestates = c.as_slice-2.ensures.items;
@@ -28,8 +37,8 @@ returns-in-Ok-type_check c =
     }) _ c.in-Ok.ensures.program
     c.in-Ok.ensures.fine c.in-Ok-type_check.ensures.fine
 
-pub returns : goal.returns
-returns c =
+pub returns-clause-answered : goal.returns-clause-answered
+returns-clause-answered c =
     method_failed c.args.sources.now (record {
       files = c.as_slice.ensures.items;
       typestates = c.as_slice-2.ensures.items;

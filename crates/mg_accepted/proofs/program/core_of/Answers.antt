@@ -1,4 +1,4 @@
-use Rattle.std.proofs.Common.{ap, ◌∙◌, Err, Result, refl}
+use Rattle.std.proofs.Common.{ap, ◌∙◌, Err, Result}
 use Rattle.std.proofs.lemmas.Result.{err_from_is_err_and}
 use Rattle.jv_core.specs.declared.resolved.Core.{Core}
 use Rattle.mg_sources.specs.Files.{sources}
@@ -19,38 +19,26 @@ returns-in_err-sources c =
 pub judge-requires : goal.judge-requires
 judge-requires c = files_numbered c.in_ok-sources.sources c.in_ok-sources.ensures.answered
 
-pub returns-in_err-judge : goal.returns-in_err-judge
-returns-in_err-judge c =
-    let f = err_from_is_err_and c.from_residual-in_err-judge.result c.from_residual-in_err-judge.ensures.1 in
-    judge_failed (sources c.args.names.now c.args.contents.now) c.in_err-judge.field-0.0 c.from_residual-in_err-judge.result
-    (f.1 ∙ ap failed f.2) (sourced_of c.in_ok-sources.sources) c.in_ok-sources.ensures.answered c.in_err-judge.ensures
+pub returns-in_err-table : goal.returns-in_err-table
+returns-in_err-table c =
+    let f = err_from_is_err_and c.from_residual-in_err-table.result c.from_residual-in_err-table.ensures.1 in
+    judge_failed (sources c.args.names.now c.args.contents.now) c.in_err-table.field-0.0 c.from_residual-in_err-table.result
+    (f.1 ∙ ap failed f.2) (sourced_of c.in_ok-sources.sources) c.in_ok-sources.ensures.answered c.in_err-table.ensures.answered
 
 pub resolve-requires-clause-well_typed : goal.resolve-requires-clause-well_typed
 resolve-requires-clause-well_typed c =
-    is_well_typed c.in_ok-sources.sources (record {
-      files = c.as_slice.ensures.items;
-      typestates = c.as_slice-2.ensures.items;
-      origins =
-          refl;
-    }) c.spelled_is_shaped.ensures
-    c.in_ok-sources.ensures.answered c.in_ok-judge.ensures
+    is_well_typed c.in_ok-sources.sources c.in_ok-table.ensures.program c.spelled_is_shaped.ensures c.in_ok-sources.ensures.answered
+    c.in_ok-table.ensures.answered
 
 pub resolve-requires-clause-shaped : goal.resolve-requires-clause-shaped
 resolve-requires-clause-shaped c =
-    is_shaped c.in_ok-sources.sources (record { files = c.as_slice.ensures.items; typestates = c.as_slice-2.ensures.items; origins = refl })
-    c.spelled_is_shaped.ensures c.in_ok-sources.ensures.answered
+    is_shaped c.in_ok-sources.sources c.in_ok-table.ensures.program c.spelled_is_shaped.ensures c.in_ok-sources.ensures.answered
 
 pub resolve-requires-clause-assigns : goal.resolve-requires-clause-assigns
 resolve-requires-clause-assigns c =
-    only_assigns c.in_ok-sources.sources (record {
-      files = c.as_slice.ensures.items;
-      typestates = c.as_slice-2.ensures.items;
-      origins =
-          refl;
-    }) c.spelled_is_shaped.ensures c.in_ok-sources.ensures.answered
+    only_assigns c.in_ok-sources.sources c.in_ok-table.ensures.program c.spelled_is_shaped.ensures c.in_ok-sources.ensures.answered
 
 pub returns : goal.returns
 returns c =
-    resolved c.in_ok-sources.sources (record { files = c.as_slice.ensures.items; typestates = c.as_slice-2.ensures.items; origins = refl })
-    c.spelled_is_shaped.ensures
-    c.in_ok-sources.ensures.answered c.in_ok-judge.ensures c.in_ok-core.core c.in_ok-core.ensures.stands c.in_ok-core.ensures.resolved
+    resolved c.in_ok-sources.sources c.in_ok-table.ensures.program c.spelled_is_shaped.ensures c.in_ok-sources.ensures.answered
+    c.in_ok-table.ensures.answered c.in_ok-core.core c.in_ok-core.ensures.stands c.in_ok-core.ensures.resolved

@@ -10,7 +10,7 @@ use Rattle.jv_resolve.proofs.body.Body.add_slot.Goals as goal
 
 pub returns-clause-it : goal.returns-clause-it
 returns-clause-it c =
-    slot_made (tables_seen c.args.tables.now) c.args.ty.now c.args.name.now (counted_seen c.args.self.now) c.in_ok-ty.ty
+    slot_made (tables_seen c.args.table.now) c.args.ty.now c.args.name.now (counted_seen c.args.self.now) c.in_ok-ty.ty
     c.in_ok-number.number.0 c.in_ok-slot.slot c.add_name.new.names
     (map slot_of c.push.new.self.items) c.in_ok-ty.ensures c.in_ok-number.ensures.number
     (ap (map slot_of) c.in_ok-push.ensures.ok ∙ map_push slot_of c.args.self.now.slots.items

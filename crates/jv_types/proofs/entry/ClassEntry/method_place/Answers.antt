@@ -1,0 +1,6 @@
+use Rattle.std.proofs.Common.{ap, ◌∙◌, position}
+use Rattle.std.specs.Str.{bytes_eq}
+use Rattle.jv_types.proofs.entry.ClassEntry.method_place.Goals as goal
+
+pub returns : goal.returns
+returns c = c.place_of.ensures ∙ ap (position (bytes_eq c.args.name.now)) c.args.self.now.named_methods
