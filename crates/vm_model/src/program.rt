@@ -42,6 +42,7 @@ impl Linked {
     }
 
     /// The classes, by their numbers.
+    #[inline(always)]
     pub fn classes(&self) -> &[LinkedClass]
         ensures classes { classes_of result.now ≡ self.now }
         ensures linked { IsLinked self.now }
