@@ -39,7 +39,7 @@ pub fn link(alloc: Global, classes: &[Class]) -> Result<Linked, LoadFault> {
 }
 
 fn tell_program(answer: &mut Answer, linked: &Linked) -> Result<(), Memory> {
-    for class in linked.classes.as_slice() {
+    for class in linked.classes() {
         tell_class(answer, class)?;
     }
     Ok(())

@@ -84,11 +84,11 @@ fn unverified(alloc: Global, class: &LinkedClass, method: usize) -> Result<Verif
 /// `Unverified` exactly where one has none: it names the first such one, by the order of the classes
 /// and of their methods. `Memory` else.
 pub fn verify(alloc: Global, linked: &Linked) -> Result<(), VerifyFault>
-    ensures ok { IfOk result (λ _. AllTypable (classes_of linked.now.classes.items)) }
-    ensures err { IfErr result (λ fault. Says (classes_of linked.now.classes.items) fault) }
+    ensures ok { IfOk result (λ _. AllTypable linked.now) }
+    ensures err { IfErr result (λ fault. Says linked.now fault) }
 {
     let program = ProgramKinds::of(alloc, linked)?;
-    let classes = linked.classes.as_slice();
+    let classes = linked.classes();
     let first = first_place(alloc, &program, classes)?;
     let Some(place) = first else {
         return Ok(());

@@ -206,9 +206,9 @@ impl ProgramKinds {
     /// # Errors
     /// `Memory` only.
     pub fn of(alloc: Global, linked: &Linked) -> Result<ProgramKinds, Memory>
-        ensures { IfOk result (λ k. AreKinds (classes_of linked.now.classes.items) k) }
+        ensures { IfOk result (λ k. AreKinds linked.now k) }
     {
-        let classes = linked.classes.as_slice();
+        let classes = linked.classes();
         let names = class_names(alloc, classes)?;
         let counts = counts(alloc, classes, &names)?;
         let classes = classes_kinds(alloc, &names, counts.as_slice(), classes)?;

@@ -10,7 +10,6 @@ use Rattle.vm_load.specs.Faults.{flaw_of, IsRefused}
 use Rattle.vm_load.specs.declared.fault.LoadFault.{LoadFault}
 use Rattle.vm_model.specs.Links.{Links, IsUnlinked}
 use Rattle.vm_model.specs.Program.{Program}
-use Rattle.vm_model.specs.View.{classes_of}
 use Rattle.vm_model.specs.declared.program.Linked.{Linked}
 use Rattle.vm_world_law.specs.declared.role.RoleMain.{RoleMain}
 use Rattle.mg_refusal.specs.Refusals.{Refusal}
@@ -31,7 +30,7 @@ use Rattle.mg_exec.proofs.Told.{flaw_told}
 -- ---- the program
 
 abbrev IsProgramOf : List Source → Result Linked Stop → Type 0
-IsProgramOf files answer = Answers (λ linked. IsProgram files (classes_of linked.classes.items)) (NoProgram files) answer
+IsProgramOf files answer = Answers (IsProgram files) (NoProgram files) answer
 
 -- files that can't be read are no program
 pub unread_program : (files : List Source) (stop : Stop) →
@@ -42,7 +41,7 @@ unread_program files stops.Memory h = tt
 
 -- what linking the classes of files answers is the program of the files
 pub program_linked : (files : List Source) (classes : List File) (result : Result Linked Stop) → AreFiles files classes →
-    Answers (λ linked. Links classes (classes_of linked.classes.items)) (Finds (IsUnlinked classes) flaw_refusal) result → IsProgramOf files result
+    Answers (Links classes) (Finds (IsUnlinked classes) flaw_refusal) result → IsProgramOf files result
 program_linked files classes (Ok linked) are links = (classes, are, links)
 program_linked files classes (Err (stops.Refused r)) are found = at_next classes are found
 program_linked files classes (Err stops.Memory) are h = tt
@@ -50,9 +49,9 @@ program_linked files classes (Err stops.Memory) are h = tt
 -- a flaw that is told is one of the files
 pub unlinked : (classes : List File) (fault : LoadFault) (stop : Stop) → IsRefused fault classes →
     IsStopOf (λ flaw r. r ≡ flaw_refusal flaw) (flaw_of fault) stop →
-    Answers (λ (linked : Linked). Links classes (classes_of linked.classes.items)) (Finds (IsUnlinked classes) flaw_refusal) (Err stop)
+    Answers (Links classes) (Finds (IsUnlinked classes) flaw_refusal) (Err stop)
 unlinked classes fault stop refused h =
-    stop_refused (λ flaw r. r ≡ flaw_refusal flaw) (λ (linked : Linked). Links classes (classes_of linked.classes.items))
+    stop_refused (λ flaw r. r ≡ flaw_refusal flaw) (Links classes)
     (Finds (IsUnlinked classes) flaw_refusal) (flaw_of fault) stop h (λ flaw r e says. (flaw, flaw_told fault classes flaw refused e, says))
 
 -- ---- its run

@@ -3,7 +3,6 @@
 ghost use Rattle.std.specs.Prelude.{◌≡◌, ◌<◌, ◌^◌, ℕ, List as Seq, IfOk, OnOk, Contains, length, map, slice_get, Some};
 ghost use Rattle.std.specs.List.{IsDistinct};
 ghost use Rattle.std.specs.Str.{bytes_eq};
-ghost use Rattle.vm_model.specs.View.{classes_of};
 ghost use Rattle.mg_sources.specs.Files.{sources};
 ghost use Rattle.mg_runs.specs.Going.{IsOrder};
 ghost use Rattle.mg_refusal.specs.Refusals.{Refusal};
@@ -93,7 +92,7 @@ fn ran_roles(
 pub fn program(alloc: Global, contents: &[Bytes]) -> Result<Linked, Stop>
     requires { length contents.now < 2 ^ 32 }
     ensures { (names : Seq (Seq ℕ)) → length names ≡ length contents.now →
-        Answers (λ linked. IsProgram (sources names contents.now) (classes_of linked.classes.items)) (NoProgram (sources names contents.now)) result }
+        Answers (IsProgram (sources names contents.now)) (NoProgram (sources names contents.now)) result }
 {
     let classes = read_all(alloc, contents)?;
     link(alloc, classes.as_slice())
@@ -109,10 +108,10 @@ fn run(
     named: bool,
     traced: bool,
 ) -> Result<Ran, Memory>
-    requires mains { HaveMains (classes_of linked.classes.items) mains.now }
+    requires mains { HaveMains linked mains.now }
     requires roles { IsDistinct bytes_eq (map (λ m. m.role) mains.now) }
     requires order { IsOrder order.now mains.now }
-    ensures { IfOk result (IsRunOf (classes_of linked.classes.items) mains.now order.now limit named traced) }
+    ensures { IfOk result (IsRunOf linked mains.now order.now limit named traced) }
 {
     let gone = go(alloc, linked, mains, order, limit, named)?;
     let events = gone.world.events().as_slice();

@@ -1,6 +1,5 @@
 //! The first role whose class has no `main`.
 
-ghost use Rattle.vm_model.specs.View.{classes_of};
 ghost use Rattle.mg_exec.specs.inner.Mains.{IsFirstWithout};
 
 use vm_model::Linked;
@@ -9,7 +8,7 @@ use vm_world::RoleMain;
 
 /// The number of the first role whose class isn't there, or has no `static void main(String[])`.
 pub(crate) fn first_without(linked: &Linked, mains: &[RoleMain]) -> Option<usize>
-    ensures { IsFirstWithout (classes_of linked.now.classes.items) mains.now result }
+    ensures { IsFirstWithout linked.now mains.now result }
 {
     for number in 0..mains.len() {
         if !has_main(linked, mains[number].class.as_str()) {

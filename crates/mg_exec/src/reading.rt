@@ -4,7 +4,6 @@ ghost use Rattle.std.specs.Prelude.{◌≡◌, ◌<◌, ◌^◌, ℕ, List as Se
 ghost use Rattle.mg_read.specs.First.{Judged};
 ghost use Rattle.cls_tree.specs.View.{class_of as file_of};
 ghost use Rattle.vm_model.specs.Links.{IsUnlinked, Links};
-ghost use Rattle.vm_model.specs.View.{classes_of};
 ghost use Rattle.mg_refusal.specs.Order.{Finds, Answers};
 ghost use Rattle.mg_sources.specs.Files.{source_of, sources};
 ghost use Rattle.mg_exec.specs.Files.{IsFile, AreFiles, Refuses};
@@ -59,7 +58,7 @@ fn read_one(alloc: Global, number: u32, bytes: &[u8]) -> Result<Class, Stop>
 /// # Errors
 /// `Refused` with the first flaw of the lowest number; `Memory` where memory is wanted.
 pub(crate) fn link(alloc: Global, classes: &[Class]) -> Result<Linked, Stop>
-    ensures { Answers (λ linked. Links (map file_of classes.now) (classes_of linked.classes.items))
+    ensures { Answers (Links (map file_of classes.now))
         (Finds (IsUnlinked (map file_of classes.now)) flaw_refusal) result }
 {
     match load(alloc, classes) {

@@ -3,7 +3,6 @@
 ghost use Rattle.std.specs.Prelude.{◌≡◌, map, IfOk};
 ghost use Rattle.std.specs.List.{IsDistinct, AllByRecursion};
 ghost use Rattle.std.specs.Str.{bytes_eq};
-ghost use Rattle.vm_model.specs.View.{classes_of};
 ghost use Rattle.vm_step.specs.Main.{HasMain};
 ghost use Rattle.mg_runs.specs.Going.{IsOrder, IsGone};
 ghost use Rattle.mg_runs.specs.Runs.{names_of};
@@ -43,10 +42,10 @@ pub fn go(
     limit: u32,
     named: bool,
 ) -> Result<Gone, Memory>
-    requires mains { AllByRecursion (λ m. HasMain (classes_of linked.classes.items) m.class) mains.now }
+    requires mains { AllByRecursion (λ m. HasMain linked m.class) mains.now }
     requires roles { IsDistinct bytes_eq (map (λ m. m.role) mains.now) }
     requires order { IsOrder order.now mains.now }
-    ensures { IfOk result (IsGone (classes_of linked.classes.items) mains.now order.now limit named) }
+    ensures { IfOk result (IsGone linked mains.now order.now limit named) }
 {
     let mut world = World::new(alloc, linked, mains)?;
     world.run(alloc, order, limit)?;

@@ -32,7 +32,7 @@ files_tried files p (Err stops.Memory) h t = tt
 
 -- there is no program
 pub no_files : (files : List Source) (stop : Stop) →
-    Answers (λ (linked : Linked). IsProgram files (classes_of linked.classes.items)) (NoProgram files) (Err stop) →
+    Answers (IsProgram files) (NoProgram files) (Err stop) →
     Answers (AreVerified files) (FirstRefusal files) (Err stop)
 no_files files (stops.Refused r) h = at_first h
 no_files files stops.Memory h = tt

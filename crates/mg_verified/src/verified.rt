@@ -53,13 +53,13 @@ fn tried(alloc: Global, contents: &[Bytes]) -> Result<Text, Stop>
 
 // The line of a program: how many methods it has, or the first that has no typing.
 fn judged(alloc: Global, linked: &Linked) -> Result<Text, Stop>
-    ensures { Answers (IsTyped (classes_of linked.now.classes.items)) (LacksTyping (classes_of linked.now.classes.items)) result }
+    ensures { Answers (IsTyped linked.now) (LacksTyping linked.now) result }
 {
     match verify(alloc, linked) {
         Ok(()) => {}
         Err(fault) => return Err(stop_of(alloc, &fault)),
     }
-    let count = count(linked.classes.as_slice())?;
+    let count = count(linked.classes())?;
     Ok(verified_line(alloc, count)?)
 }
 

@@ -39,7 +39,7 @@ impl Notes {
     /// `Memory` only.
     pub(crate) fn new(alloc: Global, linked: &Linked) -> Result<Notes, Memory> {
         let mut numbers = Vec::new(alloc);
-        for class in linked.classes.as_slice() {
+        for class in linked.classes() {
             numbers.push(of_class(alloc, class)?)?;
         }
         Ok(Notes { numbers })

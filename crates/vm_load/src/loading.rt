@@ -78,7 +78,7 @@ fn judge_classes(
 /// in it the super class, the descriptors of fields and of methods, and what instructions name, by
 /// method and place. `Memory` may come at any point.
 pub fn load(alloc: Global, classes: &[Class]) -> Result<Linked, LoadFault>
-    ensures found { IfOk result (λ l. Links (map class_of classes.now) (model.classes_of l.classes.items)) }
+    ensures found { IfOk result (Links (map class_of classes.now)) }
     ensures refused { IfErr result (λ f. IsRefused f (map class_of classes.now)) }
 {
     let outlines = outlines(alloc, classes)?;
@@ -90,6 +90,6 @@ pub fn load(alloc: Global, classes: &[Class]) -> Result<Linked, LoadFault>
     let (linked, best) = judge_classes(alloc, known, &names, classes)?;
     match best {
         Some(fault) => Err(fault),
-        None => Ok(Linked { classes: linked }),
+        None => Ok(Linked::new(linked)),
     }
 }

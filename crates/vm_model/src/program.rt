@@ -1,19 +1,52 @@
-//! A whole linked program.
-//! What its instructions name is there, by its type.
+//! A whole linked program, which contracts see as its classes.
+//! What its instructions name is there.
 
-ghost use Rattle.vm_model.specs.View.{classes_of};
+ghost use Rattle.std.specs.Prelude.{◌≡◌, map};
+ghost use Rattle.vm_model.specs.View.{class_of, classes_of};
 ghost use Rattle.vm_model.specs.Linked.{IsLinked};
 
 use crate::LinkedClass;
 use mg_text::List;
+use std::marker::Model;
 
 /// A program whose references are looked up: classes by their numbers, with their fields and methods.
 ///
-/// By its type each instruction has the arguments of its opcode (JVMS chapter 6), each number of an
-/// instruction, a class, a field or a method in them is in range, and each descriptor is that of a
-/// field or a method whose classes are built-in ones or classes of the program (JVMS 4.3).
+/// Each instruction has the arguments of its opcode (JVMS chapter 6), each number of an instruction,
+/// a class, a field or a method in them is in range, and each descriptor is that of a field or a
+/// method whose classes are built-in ones or classes of the program (JVMS 4.3).
 #[derive(Debug, Drop)]
 pub struct Linked {
-    pub classes: List<LinkedClass>,
-    pub ghost links: { IsLinked (classes_of classes.items) },
+    classes: List<LinkedClass>,
+}
+
+impl Model for Linked {
+    ghost use Rattle.vm_model.specs.Program.{Program};
+
+    ghost Value = { Program };
+
+    ghost use Rattle.vm_model.specs.View.{classes_of};
+    ghost use Rattle.vm_model.specs.Linked.{IsLinked};
+
+    ghost view = { λ l. classes_of l.classes.items };
+
+    ghost invariant = { λ l. IsLinked (classes_of l.classes.items) };
+}
+
+impl Linked {
+    /// The program of these classes.
+    pub fn new(classes: List<LinkedClass>) -> Linked
+        requires { IsLinked (classes_of classes.items) }
+        ensures { result ≡ classes_of classes.items }
+    {
+        Linked { classes }
+    }
+
+    /// The classes, by their numbers.
+    #[inline(always)]
+    pub fn classes(&self) -> &[LinkedClass]
+        ensures classes { classes_of result.now ≡ self.now }
+        ensures linked { IsLinked self.now }
+    {
+        self.classes.as_slice()
+    }
 }

@@ -3,7 +3,7 @@
 
 ghost use Rattle.std.specs.Prelude.{◌≡◌, ℕ, ◌<◌, ◌≤◌, ◌-◌, ◌^◌, ◌++◌, length, map, option_map, IfOk, OnErr, None};
 ghost use Rattle.vm_model.specs.Program.{method_at};
-ghost use Rattle.vm_model.specs.View.{classes_of, method_of};
+ghost use Rattle.vm_model.specs.View.{method_of};
 ghost use Rattle.vm_model.specs.Types.{signature_of};
 ghost use Rattle.vm_model.specs.Kept.{type_kept};
 ghost use Rattle.vm_model.specs.Actions.{Call};
@@ -44,8 +44,8 @@ fn enter(
 ) -> Result<Stepped, Memory>
     requires place { state.old.machine.frame.place < 2 ^ 32 - 1 }
     requires within { callee.taken ≤ length (operands_of state.old) }
-    requires locals { callee.taken ≤ max_locals_in (method_at (classes_of linked.now.classes.items) callee.class callee.method) }
-    ensures ok { IfOk result (λ s. Plays (λ q. model.calls_in (classes_of linked.now.classes.items) q (state_of state.old)
+    requires locals { callee.taken ≤ max_locals_in (method_at linked.now callee.class callee.method) }
+    ensures ok { IfOk result (λ s. Plays (λ q. model.calls_in linked.now q (state_of state.old)
         callee.class callee.method (below callee.taken (operands_of state.old)) (on_top callee.taken (operands_of state.old))
         callee.told event) (state_of state.old) (state_of state.new) s) }
     ensures err { OnErr result (state_of state.new ≡ state_of state.old) }
@@ -69,7 +69,7 @@ fn entered(
     method: u32,
     object: u32,
 ) -> Result<Event, Memory>
-    ensures { IfOk result (λ e. e ≡ Event.Enter object (name_of_method (method_at (classes_of linked.now.classes.items) class method))) }
+    ensures { IfOk result (λ e. e ≡ Event.Enter object (name_of_method (method_at linked.now class method))) }
 {
     let name = method_name(method_at(linked, class, method));
     let method = Text::of(alloc, name)?;
@@ -86,10 +86,10 @@ fn call_on_object(
 ) -> Result<Stepped, Memory>
     requires place { state.old.machine.frame.place < 2 ^ 32 - 1 }
     requires within { callee.taken ≤ length (operands_of state.old) }
-    requires locals { callee.taken ≤ max_locals_in (method_at (classes_of linked.now.classes.items) callee.class callee.method) }
+    requires locals { callee.taken ≤ max_locals_in (method_at linked.now callee.class callee.method) }
     requires receiver { 1 ≤ callee.taken }
     requires silent { callee.told ≡ None }
-    ensures ok { IfOk result (λ s. Plays (λ q. calls_by (classes_of linked.now.classes.items) q (state_of state.old) tells
+    ensures ok { IfOk result (λ s. Plays (λ q. calls_by linked.now q (state_of state.old) tells
         callee.class callee.method (below callee.taken (operands_of state.old)) (on_top callee.taken (operands_of state.old))
         (at_top (operands_of state.old) (callee.taken - 1))) (state_of state.old) (state_of state.new) s) }
     ensures err { OnErr result (state_of state.new ≡ state_of state.old) }
@@ -122,10 +122,10 @@ fn call_tested(
 ) -> Result<Stepped, Memory>
     requires place { state.old.machine.frame.place < 2 ^ 32 - 1 }
     requires within { callee.taken ≤ length (operands_of state.old) }
-    requires locals { callee.taken ≤ max_locals_in (method_at (classes_of linked.now.classes.items) callee.class callee.method) }
+    requires locals { callee.taken ≤ max_locals_in (method_at linked.now callee.class callee.method) }
     requires receiver { IsReceived (calling_of calling) callee.taken }
     requires silent { callee.told ≡ None }
-    ensures ok { IfOk result (λ s. Plays (λ q. model.calls (classes_of linked.now.classes.items) q (state_of state.old)
+    ensures ok { IfOk result (λ s. Plays (λ q. model.calls linked.now q (state_of state.old)
         (calling_of calling) callee.class callee.method (below callee.taken (operands_of state.old))
         (on_top callee.taken (operands_of state.old))) (state_of state.old) (state_of state.new) s) }
     ensures err { OnErr result (state_of state.new ≡ state_of state.old) }
@@ -180,8 +180,8 @@ fn call_takes<'a>(
     class: u32,
     method: u32,
 ) -> Result<Vec<Want<'a>>, Memory>
-    ensures { IfOk result (λ v. wants_of v.items ≡ call_takes (classes_of linked.now.classes.items) (calling_of calling) class
-        (method_at (classes_of linked.now.classes.items) class method)) }
+    ensures { IfOk result (λ v. wants_of v.items ≡ call_takes linked.now (calling_of calling) class
+        (method_at linked.now class method)) }
 {
     let mut takes = receiver(alloc, calling, class_name(linked, class))?;
     add_args(&mut takes, method_at(linked, class, method))?;
@@ -195,7 +195,7 @@ fn call_needs<'a>(
     takes: &'a [Want<'a>],
     method: Option<&LinkedMethod>,
 ) -> Needs<'a>
-    ensures { needs_of result ≡ call_needs (classes_of linked.now.classes.items) (state_of state.now) (wants_of takes.now)
+    ensures { needs_of result ≡ call_needs linked.now (state_of state.now) (wants_of takes.now)
         (option_map (λ m. method_of m.now) method.entry) }
 {
     let mut needs = taking(linked, state, takes, 0);
@@ -216,7 +216,7 @@ pub(crate) fn call(
     method: u32,
 ) -> Result<Stepped, Memory>
     requires { state.old.machine.frame.place < 2 ^ 32 - 1 }
-    ensures ok { IfOk result (λ s. (me : ℕ) → Plays (λ q. model.act (classes_of linked.now.classes.items) q (state_of state.old) me
+    ensures ok { IfOk result (λ s. (me : ℕ) → Plays (λ q. model.act linked.now q (state_of state.old) me
         (Call (calling_of calling) class method)) (state_of state.old) (state_of state.new) s) }
     ensures err { OnErr result (state_of state.new ≡ state_of state.old) }
 {

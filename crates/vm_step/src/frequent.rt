@@ -6,7 +6,7 @@ ghost use Rattle.std.specs.Bool.{OnTrue, OnFalse};
 ghost use Rattle.vm_model.specs.Actions as actions;
 ghost use Rattle.vm_model.specs.Tests.{misfit_sort};
 ghost use Rattle.vm_model.specs.Step.{next};
-ghost use Rattle.vm_model.specs.View.{classes_of, instr_of};
+ghost use Rattle.vm_model.specs.View.{instr_of};
 ghost use Rattle.mg_text.specs.Call.{Name};
 ghost use Rattle.vm_frames.specs.Seen.{value_in, IsSet};
 ghost use Rattle.vm_step.specs.State.{state_of, operands_of};
@@ -330,7 +330,7 @@ fn next_alone(state: &mut State, max: u16, code: &[LinkedInstr]) -> bool
 /// wrong, and answers how many they were.
 pub(crate) fn steps_here(state: &mut State, linked: &Linked, most: u32) -> u32
     ensures most { result ≤ most }
-    ensures steps { AllAlone (classes_of linked.now.classes.items) (state_of state.old) result (state_of state.new) }
+    ensures steps { AllAlone linked.now (state_of state.old) result (state_of state.new) }
 {
     let Some(method) = method_at(linked, state.class(), state.method()) else {
         return 0;

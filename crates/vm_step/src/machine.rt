@@ -3,7 +3,7 @@
 
 ghost use Rattle.std.specs.Prelude.{◌≡◌, ◌∷◌, ◌<◌, ◌≤◌, ◌↔◌, false, length, position, IsTrue, IfSome, IfOk, OnErr};
 ghost use Rattle.std.specs.Str.{bytes_eq};
-ghost use Rattle.vm_model.specs.View.{method_of, classes_of};
+ghost use Rattle.vm_model.specs.View.{method_of};
 ghost use Rattle.vm_model.specs.Program as program;
 ghost use Rattle.vm_model.specs.Start.{IsStart, started, class_named, main_in, is_main};
 ghost use Rattle.vm_model.specs.Step as model;
@@ -59,7 +59,7 @@ fn main_place(methods: &[LinkedMethod]) -> Option<usize>
 
 /// The number of the first `main` of a class.
 fn main_in(linked: &Linked, class: u32) -> Option<u32>
-    ensures { result ≡ main_in (program.class_at (classes_of linked.now.classes.items) class) }
+    ensures { result ≡ main_in (program.class_at linked.now class) }
 {
     let Some(class) = class_at(linked, class) else {
         return None;
@@ -80,9 +80,9 @@ fn named_place(classes: &[LinkedClass], name: &str) -> Option<usize>
 
 /// The number of the first class of this name.
 fn class_named(linked: &Linked, name: &str) -> Option<u32>
-    ensures { result ≡ class_named (classes_of linked.now.classes.items) name.now }
+    ensures { result ≡ class_named linked.now name.now }
 {
-    match named_place(linked.classes.as_slice(), name) {
+    match named_place(linked.classes(), name) {
         Some(place) => Some(place as u32),
         None => None,
     }
@@ -90,7 +90,7 @@ fn class_named(linked: &Linked, name: &str) -> Option<u32>
 
 /// Whether the program has a class of this name with a `static void main(String[])`.
 pub fn has_main(linked: &Linked, main: &str) -> bool
-    ensures { IsTrue result ↔ HasMain (classes_of linked.now.classes.items) main.now }
+    ensures { IsTrue result ↔ HasMain linked.now main.now }
 {
     match class_named(linked, main) {
         Some(class) => main_in(linked, class).is_some(),
@@ -100,7 +100,7 @@ pub fn has_main(linked: &Linked, main: &str) -> bool
 
 /// The state at the beginning of a method.
 fn started(alloc: Global, linked: &Linked, class: u32, method: u32) -> Result<State, Memory>
-    ensures { IfOk result (λ s. state_of s ≡ started (classes_of linked.now.classes.items) class method) }
+    ensures { IfOk result (λ s. state_of s ≡ started linked.now class method) }
 {
     let locals = max_locals(method_at(linked, class, method)) as u16;
     State::start(alloc, linked, class, method, locals)
@@ -108,8 +108,8 @@ fn started(alloc: Global, linked: &Linked, class: u32, method: u32) -> Result<St
 
 /// The state at the `main` of a class.
 fn start(alloc: Global, linked: &Linked, main: &str) -> Result<State, Memory>
-    requires { HasMain (classes_of linked.now.classes.items) main.now }
-    ensures { IfOk result (λ s. IsStart (classes_of linked.now.classes.items) main.now (state_of s)) }
+    requires { HasMain linked.now main.now }
+    ensures { IfOk result (λ s. IsStart linked.now main.now (state_of s)) }
 {
     let Some(class) = class_named(linked, main) else {
         unreachable!()
@@ -143,8 +143,8 @@ impl Machine {
     /// # Errors
     /// `Memory` only.
     pub fn start(alloc: Global, linked: &Linked, main: &str) -> Result<Machine, Memory>
-        requires { HasMain (classes_of linked.now.classes.items) main.now }
-        ensures { IfOk result (λ m. IsStart (classes_of linked.now.classes.items) main.now m.machine) }
+        requires { HasMain linked.now main.now }
+        ensures { IfOk result (λ m. IsStart linked.now main.now m.machine) }
     {
         let state = start(alloc, linked, main)?;
         Ok(Machine { state })
@@ -155,7 +155,7 @@ impl Machine {
     /// lacks the call isn't among them.
     pub fn steps_alone(&mut self, linked: &Linked, most: u32) -> u32
         ensures most { result ≤ most }
-        ensures steps { AllAlone (classes_of linked.now.classes.items) self.old.machine result self.new.machine }
+        ensures steps { AllAlone linked.now self.old.machine result self.new.machine }
     {
         steps_alone(&mut self.state, linked, most)
     }
@@ -175,11 +175,11 @@ impl Machine {
         ports: &mut Ports,
         me: u32,
     ) -> Result<Stepped, Memory>
-        ensures ok { IfOk result (λ s. Does (model.step (classes_of linked.now.classes.items) me self.old.machine ports.old)
+        ensures ok { IfOk result (λ s. Does (model.step linked.now me self.old.machine ports.old)
             self.old.machine ports.old self.new.machine ports.new s) }
         ensures err { OnErr result (self.new.machine ≡ self.old.machine) }
         ensures err_ports { OnErr result (ports.new ≡ ports.old) }
-        ensures steady { OnErr result (is_steady (next_action (classes_of linked.now.classes.items) self.old.machine) ≡ false) }
+        ensures steady { OnErr result (is_steady (next_action linked.now self.old.machine) ≡ false) }
     {
         take_step(&mut self.state, alloc, linked, ports, me)
     }
@@ -187,7 +187,7 @@ impl Machine {
     /// The role for whose message the next instruction waits: exactly where a step would wait for
     /// it. Nothing is allocated and nothing changes.
     pub fn waits(&self, linked: &Linked, ports: &Ports, me: u32) -> Option<u32>
-        ensures { result ≡ waits_in (model.step (classes_of linked.now.classes.items) me self.now.machine ports.now) }
+        ensures { result ≡ waits_in (model.step linked.now me self.now.machine ports.now) }
     {
         waits(&self.state, linked, ports, me)
     }

@@ -5,7 +5,6 @@ ghost use Rattle.std.specs.Prelude.{◌≡◌, ◌+◌, ◌<◌, ◌≤◌, ◌|
 ghost use Rattle.std.specs.Str.{bytes_eq};
 ghost use Rattle.vm_model.specs.Descriptors.{type_view};
 ghost use Rattle.vm_model.specs.Tests as model;
-ghost use Rattle.vm_model.specs.View.{classes_of};
 ghost use Rattle.mg_text.specs.Call.{Name};
 ghost use Rattle.vm_frames.specs.Seen.{value_in};
 ghost use Rattle.vm_frames.specs.Kept.{most};
@@ -70,8 +69,7 @@ pub(crate) fn text<'a>() -> Want<'a>
 
 /// The class of an object, of a text and of the print stream.
 fn class_of_value<'a>(linked: &'a Linked, state: &State, cell: Cell) -> &'a str
-    ensures { result.now ≡ model.class_of_value (classes_of linked.now.classes.items) (state_of state.now).heap
-        (value_in state.now.texts cell) }
+    ensures { result.now ≡ model.class_of_value linked.now (state_of state.now).heap (value_in state.now.texts cell) }
 {
     match cell {
         Cell::Object(number) => match state.class_of_object(number) {
@@ -112,7 +110,7 @@ pub(crate) fn is_null(cell: Cell) -> bool
 /// Why a value isn't one of a class: objects and the print stream are of another class, but in place
 /// of a text, and everything else is of another kind.
 fn misfit_class(linked: &Linked, state: &State, name: &str, cell: Cell) -> Option<BadKind>
-    ensures { result ≡ model.misfit_class (classes_of linked.now.classes.items) (state_of state.now).heap name.now
+    ensures { result ≡ model.misfit_class linked.now (state_of state.now).heap name.now
         (value_in state.now.texts cell) }
 {
     match cell {
@@ -138,7 +136,7 @@ pub(crate) fn misfit_type(
     field_type: FieldType<'_>,
     cell: Cell,
 ) -> Option<BadKind>
-    ensures { result ≡ model.misfit_type (classes_of linked.now.classes.items) (state_of state.now).heap (type_view field_type.entry)
+    ensures { result ≡ model.misfit_type linked.now (state_of state.now).heap (type_view field_type.entry)
         (value_in state.now.texts cell) }
 {
     match field_type {
@@ -159,7 +157,7 @@ fn misfit_sort(sort: Sort, cell: Cell) -> Option<BadKind>
 
 /// Why a value isn't what an operand must be.
 fn misfit(linked: &Linked, state: &State, want: &Want<'_>, cell: Cell) -> Option<BadKind>
-    ensures { result ≡ model.misfit (classes_of linked.now.classes.items) (state_of state.now).heap (want_of want.now)
+    ensures { result ≡ model.misfit linked.now (state_of state.now).heap (want_of want.now)
         (value_in state.now.texts cell) }
 {
     match want {
@@ -193,10 +191,10 @@ fn noted(found: Found, misfit: Option<BadKind>) -> Found
 fn misfits(first: Found, linked: &Linked, state: &State, takes: &[Want<'_>]) -> Found
     requires { length takes.now ≤ length (operands_of state.now) }
     ensures kind { result.kind ≡ (first.kind || model.some_of model.is_kind
-        (model.misfits (classes_of linked.now.classes.items) (state_of state.now).heap (wants_of takes.now)
+        (model.misfits linked.now (state_of state.now).heap (wants_of takes.now)
         (model.on_top (length takes.now) (operands_of state.now)))) }
     ensures member { result.member ≡ (first.member || model.some_of model.is_member
-        (model.misfits (classes_of linked.now.classes.items) (state_of state.now).heap (wants_of takes.now)
+        (model.misfits linked.now (state_of state.now).heap (wants_of takes.now)
         (model.on_top (length takes.now) (operands_of state.now)))) }
 {
     let mut found = first;
@@ -245,7 +243,7 @@ fn judged(needs: &Needs<'_>, found: Found) -> Option<BadKind>
 
 /// What is wrong, where something is. The tests stand in this order.
 pub(crate) fn wrong(linked: &Linked, state: &State, needs: &Needs<'_>) -> Option<BadKind>
-    ensures { result ≡ model.wrong (classes_of linked.now.classes.items) (needs_of needs.now) (state_of state.now) }
+    ensures { result ≡ model.wrong linked.now (needs_of needs.now) (state_of state.now) }
 {
     let takes = needs.takes;
     if state.depth() < takes.len() {
@@ -268,8 +266,8 @@ pub(crate) fn taking<'a>(
     gives: usize,
 ) -> Needs<'a>
     requires { gives ≤ 2 }
-    ensures needs { needs_of result ≡ model.taking (classes_of linked.now.classes.items) (state_of state.now) (wants_of takes.now) gives }
-    ensures small { model.max_stack_in (model.method_of_frame (classes_of linked.now.classes.items) (state_of state.now).frame) ≤ most }
+    ensures needs { needs_of result ≡ model.taking linked.now (state_of state.now) (wants_of takes.now) gives }
+    ensures small { model.max_stack_in (model.method_of_frame linked.now (state_of state.now).frame) ≤ most }
 {
     Needs {
         takes,

@@ -3,7 +3,7 @@
 
 ghost use Rattle.std.specs.Prelude.{◌≡◌, ℕ, ◌<◌, ◌≤◌, ◌-◌, ◌^◌, List, length, map, All, IfOk, OnErr};
 ghost use Rattle.vm_model.specs.Program.{fields_in, class_at};
-ghost use Rattle.vm_model.specs.View.{classes_of, field_of};
+ghost use Rattle.vm_model.specs.View.{field_of};
 ghost use Rattle.vm_model.specs.Tests.{below};
 ghost use Rattle.vm_model.specs.Step as model;
 ghost use Rattle.mg_text.specs.Call.{Name};
@@ -47,7 +47,7 @@ fn blanks(alloc: Global, fields: &[LinkedField]) -> Result<Vec<Cell>, Memory>
 /// What the fields of a new object of a class hold.
 fn blanks_of(alloc: Global, linked: &Linked, class: u32) -> Result<Vec<Cell>, Memory>
     ensures values { IfOk result (λ v. (texts : List Name) → values_in texts v.items
-        ≡ map model.blank (fields_in (class_at (classes_of linked.now.classes.items) class))) }
+        ≡ map model.blank (fields_in (class_at linked.now class))) }
     ensures set { IfOk result (λ v. (count : ℕ) → All (IsSet count) v.items) }
 {
     match class_at(linked, class) {
@@ -65,7 +65,7 @@ pub(crate) fn make(
 ) -> Result<Stepped, Memory>
     requires place { state.old.machine.frame.place < 2 ^ 32 - 1 }
     requires room { length (operands_of state.old) < most }
-    ensures ok { IfOk result (λ s. Plays (λ q. model.makes (classes_of linked.now.classes.items) q (state_of state.old) class
+    ensures ok { IfOk result (λ s. Plays (λ q. model.makes linked.now q (state_of state.old) class
         (operands_of state.old)) (state_of state.old) (state_of state.new) s) }
     ensures err { OnErr result (state_of state.new ≡ state_of state.old) }
 {

@@ -6,21 +6,21 @@ ghost use Rattle.vm_model.specs.Program as model;
 ghost use Rattle.vm_model.specs.Types.{signature_of};
 ghost use Rattle.vm_model.specs.Descriptors.{type_view};
 ghost use Rattle.vm_model.specs.Kept.{type_kept};
-ghost use Rattle.vm_model.specs.View.{classes_of, class_of, method_of, field_of};
+ghost use Rattle.vm_model.specs.View.{class_of, method_of, field_of};
 ghost use Rattle.vm_model.specs.Tests.{max_stack_in, max_locals_in, descriptor_in, result_in, name_of_method};
 
 use vm_model::{FieldType, Linked, LinkedClass, LinkedField, LinkedMethod, LinkedType};
 
 /// The class of this number.
 pub(crate) fn class_at(linked: &Linked, class: u32) -> Option<&LinkedClass>
-    ensures { option_map (λ c. class_of c.now) result ≡ model.class_at (classes_of linked.now.classes.items) class }
+    ensures { option_map (λ c. class_of c.now) result ≡ model.class_at linked.now class }
 {
-    linked.classes.as_slice().get(class as usize)
+    linked.classes().get(class as usize)
 }
 
 /// The name of the class of this number.
 pub(crate) fn class_name(linked: &Linked, class: u32) -> &str
-    ensures { result.now ≡ model.class_name (classes_of linked.now.classes.items) class }
+    ensures { result.now ≡ model.class_name linked.now class }
 {
     match class_at(linked, class) {
         Some(class) => class.name.as_str(),
@@ -30,7 +30,7 @@ pub(crate) fn class_name(linked: &Linked, class: u32) -> &str
 
 /// The method of these numbers.
 pub(crate) fn method_at(linked: &Linked, class: u32, method: u32) -> Option<&LinkedMethod>
-    ensures { option_map (λ m. method_of m.now) result ≡ model.method_at (classes_of linked.now.classes.items) class method }
+    ensures { option_map (λ m. method_of m.now) result ≡ model.method_at linked.now class method }
 {
     match class_at(linked, class) {
         Some(class) => class.methods.as_slice().get(method as usize),
@@ -40,7 +40,7 @@ pub(crate) fn method_at(linked: &Linked, class: u32, method: u32) -> Option<&Lin
 
 /// The field of these numbers.
 pub(crate) fn field_at(linked: &Linked, class: u32, field: u32) -> Option<&LinkedField>
-    ensures { option_map (λ f. field_of f.now) result ≡ model.field_at (classes_of linked.now.classes.items) class field }
+    ensures { option_map (λ f. field_of f.now) result ≡ model.field_at linked.now class field }
 {
     match class_at(linked, class) {
         Some(class) => class.fields.as_slice().get(field as usize),

@@ -9,7 +9,6 @@ ghost use Rattle.vm_model.specs.declared.linked.Built.TheVariants as builts;
 ghost use Rattle.vm_model.specs.Actions as actions;
 ghost use Rattle.vm_model.specs.Kept.{type_kept};
 ghost use Rattle.vm_model.specs.Tests.{Typed, max_stack_in, method_of_frame, misfits, on_top, some_of};
-ghost use Rattle.vm_model.specs.View.{classes_of};
 ghost use Rattle.vm_frames.specs.Frames.{entered};
 ghost use Rattle.vm_step.specs.State.{state_of, operands_of};
 ghost use Rattle.vm_step.specs.Table.{sort_of, calling_of};
@@ -45,7 +44,7 @@ fn object_of(state: &State, cell: Cell, class: u32) -> Option<u32>
 /// How many operands the method that runs may have.
 #[inline(always)]
 fn room(linked: &Linked, state: &State) -> usize
-    ensures { result ≡ max_stack_in (method_of_frame (classes_of linked.now.classes.items) (state_of state.now).frame) }
+    ensures { result ≡ max_stack_in (method_of_frame linked.now (state_of state.now).frame) }
 {
     max_stack(method_at(linked, state.class(), state.method()))
 }
@@ -53,7 +52,7 @@ fn room(linked: &Linked, state: &State) -> usize
 /// Pushes what a field of the object on top holds, in the object's place.
 fn read(state: &mut State, linked: &Linked, class: u32, field: u32) -> bool
     requires { state.old.machine.frame.place < 2 ^ 32 - 1 }
-    ensures { Quiet (classes_of linked.now.classes.items) (actions.Read class field) (state_of state.old) (state_of state.new) result }
+    ensures { Quiet linked.now (actions.Read class field) (state_of state.old) (state_of state.new) result }
 {
     let count = state.depth();
     if count < 1 {
@@ -76,7 +75,7 @@ fn read(state: &mut State, linked: &Linked, class: u32, field: u32) -> bool
 /// Takes the value on top into a field of the object under it.
 fn write(state: &mut State, linked: &Linked, class: u32, field: u32) -> bool
     requires { state.old.machine.frame.place < 2 ^ 32 - 1 }
-    ensures { Quiet (classes_of linked.now.classes.items) (actions.Write class field) (state_of state.old) (state_of state.new) result }
+    ensures { Quiet linked.now (actions.Write class field) (state_of state.old) (state_of state.new) result }
 {
     let count = state.depth();
     if count < 2 {
@@ -104,7 +103,7 @@ fn write(state: &mut State, linked: &Linked, class: u32, field: u32) -> bool
 /// Compares the text under the value on top with it.
 fn equals(state: &mut State, linked: &Linked) -> bool
     requires { state.old.machine.frame.place < 2 ^ 32 - 1 }
-    ensures { Quiet (classes_of linked.now.classes.items) (actions.Use builts.Equals) (state_of state.old) (state_of state.new) result }
+    ensures { Quiet linked.now (actions.Use builts.Equals) (state_of state.old) (state_of state.new) result }
 {
     let count = state.depth();
     if count < 2 {
@@ -130,7 +129,7 @@ fn equals(state: &mut State, linked: &Linked) -> bool
 fn fit(linked: &Linked, state: &State, params: &[LinkedType]) -> bool
     requires { length params.now ≤ length (operands_of state.now) }
     ensures { OnTrue result ((test : Option BadKind → Bool) → test None ≡ false →
-        some_of test (misfits (classes_of linked.now.classes.items)
+        some_of test (misfits linked.now
         (state_of state.now).heap (map Typed (map type_kept params.now)) (on_top (length params.now) (operands_of state.now))) ≡ false) }
 {
     for (at, param) in params.iter().enumerate() {
@@ -166,7 +165,7 @@ fn enter(state: &mut State, class: u32, method: u32, taken: usize, locals: u16) 
 /// Calls a static method.
 fn call_static(state: &mut State, linked: &Linked, class: u32, method: u32) -> bool
     requires { state.old.machine.frame.place < 2 ^ 32 - 1 }
-    ensures { Quiet (classes_of linked.now.classes.items) (actions.Call actions.Static class method) (state_of state.old)
+    ensures { Quiet linked.now (actions.Call actions.Static class method) (state_of state.old)
         (state_of state.new) result }
 {
     let Some(called) = method_at(linked, class, method) else {
@@ -189,7 +188,7 @@ fn call_static(state: &mut State, linked: &Linked, class: u32, method: u32) -> b
 /// Calls a method of an object that doesn't tell of it.
 fn call_silent(state: &mut State, linked: &Linked, class: u32, method: u32) -> bool
     requires { state.old.machine.frame.place < 2 ^ 32 - 1 }
-    ensures { Quiet (classes_of linked.now.classes.items) (actions.Call actions.Silent class method) (state_of state.old)
+    ensures { Quiet linked.now (actions.Call actions.Silent class method) (state_of state.old)
         (state_of state.new) result }
 {
     let Some(called) = method_at(linked, class, method) else {
@@ -215,7 +214,7 @@ fn call_silent(state: &mut State, linked: &Linked, class: u32, method: u32) -> b
 /// Whether a frame waits that may have so many operands more.
 fn has_room(linked: &Linked, state: &State, given: usize) -> bool
     requires { given ≤ 1 }
-    ensures { OnTrue result (HasRoom (classes_of linked.now.classes.items) given (state_of state.now).callers) }
+    ensures { OnTrue result (HasRoom linked.now given (state_of state.now).callers) }
 {
     let Some(waiting) = state.waiting() else {
         return false;
@@ -230,7 +229,7 @@ fn has_room(linked: &Linked, state: &State, given: usize) -> bool
 /// Returns from a method of which no object tells, with no value.
 fn return_nothing(state: &mut State, linked: &Linked) -> bool
     requires { state.old.machine.frame.told ≡ None }
-    ensures { Quiet (classes_of linked.now.classes.items) (actions.Return None) (state_of state.old) (state_of state.new) result }
+    ensures { Quiet linked.now (actions.Return None) (state_of state.old) (state_of state.new) result }
 {
     if let Some(_answer) = result_type(method_at(linked, state.class(), state.method())) {
         return false;
@@ -244,8 +243,7 @@ fn return_nothing(state: &mut State, linked: &Linked) -> bool
 /// The same with a value of this sort.
 fn return_value(state: &mut State, linked: &Linked, sort: Sort) -> bool
     requires { state.old.machine.frame.told ≡ None }
-    ensures { Quiet (classes_of linked.now.classes.items) (actions.Return (Some (sort_of sort))) (state_of state.old)
-        (state_of state.new) result }
+    ensures { Quiet linked.now (actions.Return (Some (sort_of sort))) (state_of state.old) (state_of state.new) result }
 {
     let Some(answer) = result_type(method_at(linked, state.class(), state.method())) else {
         return false;
@@ -268,7 +266,7 @@ fn return_value(state: &mut State, linked: &Linked, sort: Sort) -> bool
 
 /// Returns from a method of which no object tells.
 fn return_from(state: &mut State, linked: &Linked, sort: Option<Sort>) -> bool
-    ensures { Quiet (classes_of linked.now.classes.items) (actions.Return (option_map sort_of sort)) (state_of state.old)
+    ensures { Quiet linked.now (actions.Return (option_map sort_of sort)) (state_of state.old)
         (state_of state.new) result }
 {
     if let Some(_object) = state.told() {
@@ -283,7 +281,7 @@ fn return_from(state: &mut State, linked: &Linked, sort: Option<Sort>) -> bool
 /// Calls a method, where no object tells of it.
 fn call(state: &mut State, linked: &Linked, calling: Calling, class: u32, method: u32) -> bool
     requires { state.old.machine.frame.place < 2 ^ 32 - 1 }
-    ensures { Quiet (classes_of linked.now.classes.items) (actions.Call (calling_of calling) class method) (state_of state.old)
+    ensures { Quiet linked.now (actions.Call (calling_of calling) class method) (state_of state.old)
         (state_of state.new) result }
 {
     match calling {
@@ -296,7 +294,7 @@ fn call(state: &mut State, linked: &Linked, calling: Calling, class: u32, method
 /// Takes the next step, where it works on a field, calls, returns or compares texts, nothing is wrong
 /// with it and it tells nothing. Else nothing changes.
 pub(crate) fn step_quietly(state: &mut State, linked: &Linked) -> bool
-    ensures { QuietStep (classes_of linked.now.classes.items) (state_of state.old) (state_of state.new) result }
+    ensures { QuietStep linked.now (state_of state.old) (state_of state.new) result }
 {
     let Some(instr) = next_instr(linked, state) else {
         return false;
@@ -321,7 +319,7 @@ pub(crate) fn step_quietly(state: &mut State, linked: &Linked) -> bool
 /// something is wrong or for which memory lacks, and answers how many they were.
 pub(crate) fn steps_alone(state: &mut State, linked: &Linked, most: u32) -> u32
     ensures most { result ≤ most }
-    ensures steps { AllAlone (classes_of linked.now.classes.items) (state_of state.old) result (state_of state.new) }
+    ensures steps { AllAlone linked.now (state_of state.old) result (state_of state.new) }
 {
     let mut taken = 0;
     for _round in 0..most {

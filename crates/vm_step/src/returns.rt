@@ -2,7 +2,6 @@
 //! The frame that goes on is the nearest of those that wait.
 
 ghost use Rattle.std.specs.Prelude.{◌≡◌, ℕ, ◌≤◌, List, length, option_map, option_to_list, None, IfSome};
-ghost use Rattle.vm_model.specs.View.{classes_of};
 ghost use Rattle.vm_model.specs.Descriptors.{type_view};
 ghost use Rattle.vm_model.specs.Actions as actions;
 ghost use Rattle.vm_model.specs.Tests as tests;
@@ -50,7 +49,7 @@ fn returning<'a>(
     sort: Option<Sort>,
     mut needs: Needs<'a>,
 ) -> Needs<'a>
-    ensures { needs_of result ≡ tests.returning (classes_of linked.now.classes.items) (state_of state.now).callers
+    ensures { needs_of result ≡ tests.returning linked.now (state_of state.now).callers
         (option_map sort_of sort) (needs_of needs.entry) }
 {
     let Some(frame) = state.waiting() else {
@@ -72,8 +71,8 @@ fn check_taking(
     takes: &[Want<'_>],
 ) -> Option<BadKind>
     requires { wants_of takes.now ≡ tests.returned (option_map sort_of sort) (option_map type_view answer) }
-    ensures { result ≡ tests.wrong (classes_of linked.now.classes.items)
-        (tests.return_needs (classes_of linked.now.classes.items) (state_of state.now) (option_map sort_of sort)
+    ensures { result ≡ tests.wrong linked.now
+        (tests.return_needs linked.now (state_of state.now) (option_map sort_of sort)
         (option_map type_view answer.entry)) (state_of state.now) }
 {
     let mut needs = taking(linked, state, takes, 0);
@@ -89,8 +88,8 @@ fn check(
     sort: Option<Sort>,
     answer: Option<FieldType<'_>>,
 ) -> Option<BadKind>
-    ensures { result ≡ tests.wrong (classes_of linked.now.classes.items)
-        (tests.return_needs (classes_of linked.now.classes.items) (state_of state.now) (option_map sort_of sort)
+    ensures { result ≡ tests.wrong linked.now
+        (tests.return_needs linked.now (state_of state.now) (option_map sort_of sort)
         (option_map type_view answer.entry)) (state_of state.now) }
 {
     match sort {
@@ -141,7 +140,7 @@ fn leave(state: &mut State, value: Option<Cell>) -> Stepped
 
 /// Returns, with a value of this sort or none.
 pub(crate) fn return_from(state: &mut State, linked: &Linked, sort: Option<Sort>) -> Stepped
-    ensures { (me : ℕ) → Plays (λ q. model.act (classes_of linked.now.classes.items) q (state_of state.old) me
+    ensures { (me : ℕ) → Plays (λ q. model.act linked.now q (state_of state.old) me
         (actions.Return (option_map sort_of sort))) (state_of state.old) (state_of state.new) result }
 {
     let method = method_at(linked, state.class(), state.method());

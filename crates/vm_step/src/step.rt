@@ -4,7 +4,7 @@
 ghost use Rattle.std.specs.Prelude.{◌≡◌, true, false, ℕ, ◌+◌, ◌<◌, ◌≤◌, ◌-◌, ◌^◌, option_map, slice_get, Some, IfOk, OnErr, OnSome};
 ghost use Rattle.std.specs.Prelude.{[]};
 ghost use Rattle.vm_model.specs.Program as program;
-ghost use Rattle.vm_model.specs.View.{classes_of, field_of, instr_of};
+ghost use Rattle.vm_model.specs.View.{field_of, instr_of};
 ghost use Rattle.vm_model.specs.Actions as actions;
 ghost use Rattle.vm_model.specs.Types as types;
 ghost use Rattle.vm_model.specs.Tests as tests;
@@ -37,9 +37,9 @@ use vm_model::{Built, FieldType, Linked, LinkedField, LinkedInstr, Ports};
 /// What is wrong with an instruction that takes these operands and gives so many.
 fn check(linked: &Linked, state: &State, takes: &[Want<'_>], gives: usize) -> Option<BadKind>
     requires { gives ≤ 2 }
-    ensures wrong { result ≡ tests.wrong (classes_of linked.now.classes.items)
-        (tests.taking (classes_of linked.now.classes.items) (state_of state.now) (wants_of takes.now) gives) (state_of state.now) }
-    ensures small { tests.max_stack_in (tests.method_of_frame (classes_of linked.now.classes.items) (state_of state.now).frame) ≤ most }
+    ensures wrong { result ≡ tests.wrong linked.now
+        (tests.taking linked.now (state_of state.now) (wants_of takes.now) gives) (state_of state.now) }
+    ensures small { tests.max_stack_in (tests.method_of_frame linked.now (state_of state.now).frame) ≤ most }
 {
     wrong(linked, state, &taking(linked, state, takes, gives))
 }
@@ -53,10 +53,10 @@ fn check_reading(
     gives: usize,
 ) -> Option<BadKind>
     requires { gives ≤ 2 }
-    ensures wrong { result ≡ tests.wrong (classes_of linked.now.classes.items)
-        (record (tests.taking (classes_of linked.now.classes.items) (state_of state.now) [] gives)
+    ensures wrong { result ≡ tests.wrong linked.now
+        (record (tests.taking linked.now (state_of state.now) [] gives)
         { reads = Some (local, sort_of sort); locals = local + 1 }) (state_of state.now) }
-    ensures small { tests.max_stack_in (tests.method_of_frame (classes_of linked.now.classes.items) (state_of state.now).frame) ≤ most }
+    ensures small { tests.max_stack_in (tests.method_of_frame linked.now (state_of state.now).frame) ≤ most }
 {
     let mut needs = taking(linked, state, &[], gives);
     needs.reads = Some((local, sort));
@@ -66,9 +66,9 @@ fn check_reading(
 
 /// What is wrong with an instruction that takes a value of this sort into a local.
 fn check_storing(linked: &Linked, state: &State, sort: Sort, local: u8) -> Option<BadKind>
-    ensures wrong { result ≡ tests.wrong (classes_of linked.now.classes.items)
-        (tests.needs (classes_of linked.now.classes.items) (state_of state.now) (actions.Store (sort_of sort) local)) (state_of state.now) }
-    ensures small { tests.max_stack_in (tests.method_of_frame (classes_of linked.now.classes.items) (state_of state.now).frame) ≤ most }
+    ensures wrong { result ≡ tests.wrong linked.now
+        (tests.needs linked.now (state_of state.now) (actions.Store (sort_of sort) local)) (state_of state.now) }
+    ensures small { tests.max_stack_in (tests.method_of_frame linked.now (state_of state.now).frame) ≤ most }
 {
     let takes = [Want::Sorted(sort)];
     let mut needs = taking(linked, state, &takes, 0);
@@ -78,9 +78,9 @@ fn check_storing(linked: &Linked, state: &State, sort: Sort, local: u8) -> Optio
 
 /// What is wrong with an instruction that stays in its frame.
 fn check_plain(linked: &Linked, state: &State, plain: Plain<'_>) -> Option<BadKind>
-    ensures wrong { result ≡ tests.wrong (classes_of linked.now.classes.items)
-        (tests.needs (classes_of linked.now.classes.items) (state_of state.now) (plain_of plain.entry)) (state_of state.now) }
-    ensures small { tests.max_stack_in (tests.method_of_frame (classes_of linked.now.classes.items) (state_of state.now).frame) ≤ most }
+    ensures wrong { result ≡ tests.wrong linked.now
+        (tests.needs linked.now (state_of state.now) (plain_of plain.entry)) (state_of state.now) }
+    ensures small { tests.max_stack_in (tests.method_of_frame linked.now (state_of state.now).frame) ≤ most }
 {
     match plain {
         Plain::Push(_) => check(linked, state, &[], 1),
@@ -103,7 +103,7 @@ fn check_plain(linked: &Linked, state: &State, plain: Plain<'_>) -> Option<BadKi
 /// Acts on an instruction that stays in its frame.
 fn act_plain(state: &mut State, linked: &Linked, plain: Plain<'_>) -> Result<Stepped, Memory>
     requires { state.old.machine.frame.place < 2 ^ 32 - 1 }
-    ensures ok { IfOk result (λ s. (me : ℕ) → Plays (λ q. model.act (classes_of linked.now.classes.items) q (state_of state.old) me
+    ensures ok { IfOk result (λ s. (me : ℕ) → Plays (λ q. model.act linked.now q (state_of state.old) me
         (plain_of plain.entry)) (state_of state.old) (state_of state.new) s) }
     ensures err { OnErr result (state_of state.new ≡ state_of state.old) }
     ensures steady { OnErr result (is_steady_action (plain_of plain.entry) ≡ false) }
@@ -135,7 +135,7 @@ fn act_plain(state: &mut State, linked: &Linked, plain: Plain<'_>) -> Result<Ste
 
 /// An object of a class, or null.
 fn object<'a>(linked: &'a Linked, class: u32) -> Want<'a>
-    ensures { want_of result ≡ tests.Typed (types.Named (program.class_name (classes_of linked.now.classes.items) class)) }
+    ensures { want_of result ≡ tests.Typed (types.Named (program.class_name linked.now class)) }
 {
     Want::Typed(FieldType::Named(class_name(linked, class)))
 }
@@ -143,7 +143,7 @@ fn object<'a>(linked: &'a Linked, class: u32) -> Want<'a>
 /// Reads a field.
 fn act_read(state: &mut State, linked: &Linked, class: u32, field: u32) -> Result<Stepped, Memory>
     requires { state.old.machine.frame.place < 2 ^ 32 - 1 }
-    ensures ok { IfOk result (λ s. (me : ℕ) → Plays (λ q. model.act (classes_of linked.now.classes.items) q (state_of state.old) me
+    ensures ok { IfOk result (λ s. (me : ℕ) → Plays (λ q. model.act linked.now q (state_of state.old) me
         (actions.Read class field)) (state_of state.old) (state_of state.new) s) }
     ensures err { OnErr result (state_of state.new ≡ state_of state.old) }
     ensures steady { OnErr result (true ≡ false) }
@@ -171,7 +171,7 @@ pub(crate) fn field_want<'a>(field: Option<&'a LinkedField>) -> Want<'a>
 /// Writes a field.
 fn act_write(state: &mut State, linked: &Linked, class: u32, field: u32) -> Result<Stepped, Memory>
     requires { state.old.machine.frame.place < 2 ^ 32 - 1 }
-    ensures ok { IfOk result (λ s. (me : ℕ) → Plays (λ q. model.act (classes_of linked.now.classes.items) q (state_of state.old) me
+    ensures ok { IfOk result (λ s. (me : ℕ) → Plays (λ q. model.act linked.now q (state_of state.old) me
         (actions.Write class field)) (state_of state.old) (state_of state.new) s) }
     ensures err { OnErr result (state_of state.new ≡ state_of state.old) }
     ensures steady { OnErr result (true ≡ false) }
@@ -192,7 +192,7 @@ fn act_make(
     class: u32,
 ) -> Result<Stepped, Memory>
     requires { state.old.machine.frame.place < 2 ^ 32 - 1 }
-    ensures ok { IfOk result (λ s. (me : ℕ) → Plays (λ q. model.act (classes_of linked.now.classes.items) q (state_of state.old) me
+    ensures ok { IfOk result (λ s. (me : ℕ) → Plays (λ q. model.act linked.now q (state_of state.old) me
         (actions.Make class)) (state_of state.old) (state_of state.new) s) }
     ensures err { OnErr result (state_of state.new ≡ state_of state.old) }
 {
@@ -211,9 +211,9 @@ fn named<'a>(name: &'a str) -> Want<'a>
 
 /// What is wrong with the use of a member of a built-in class.
 pub(crate) fn check_built(linked: &Linked, state: &State, built: Built) -> Option<BadKind>
-    ensures wrong { result ≡ tests.wrong (classes_of linked.now.classes.items)
-        (tests.needs (classes_of linked.now.classes.items) (state_of state.now) (actions.Use built)) (state_of state.now) }
-    ensures small { tests.max_stack_in (tests.method_of_frame (classes_of linked.now.classes.items) (state_of state.now).frame) ≤ most }
+    ensures wrong { result ≡ tests.wrong linked.now
+        (tests.needs linked.now (state_of state.now) (actions.Use built)) (state_of state.now) }
+    ensures small { tests.max_stack_in (tests.method_of_frame linked.now (state_of state.now).frame) ≤ most }
 {
     match built {
         Built::Init => check(linked, state, &[named("java/lang/Object")], 0),
@@ -244,7 +244,7 @@ fn act_built(
     built: Built,
 ) -> Result<Stepped, Memory>
     requires { state.old.machine.frame.place < 2 ^ 32 - 1 }
-    ensures ok { IfOk result (λ s. Does (model.act (classes_of linked.now.classes.items) ports.old (state_of state.old) me
+    ensures ok { IfOk result (λ s. Does (model.act linked.now ports.old (state_of state.old) me
         (actions.Use built)) (state_of state.old) ports.old (state_of state.new) ports.new s) }
     ensures err { OnErr result (state_of state.new ≡ state_of state.old) }
     ensures err_ports { OnErr result (ports.new ≡ ports.old) }
@@ -283,7 +283,7 @@ fn act(
     action: Action<'_>,
 ) -> Result<Stepped, Memory>
     requires { state.old.machine.frame.place < 2 ^ 32 - 1 }
-    ensures ok { IfOk result (λ s. Does (model.act (classes_of linked.now.classes.items) ports.old (state_of state.old) me
+    ensures ok { IfOk result (λ s. Does (model.act linked.now ports.old (state_of state.old) me
         (action_of action.entry)) (state_of state.old) ports.old (state_of state.new) ports.new s) }
     ensures err { OnErr result (state_of state.new ≡ state_of state.old) }
     ensures err_ports { OnErr result (ports.new ≡ ports.old) }
@@ -307,7 +307,7 @@ fn act(
 /// The next instruction.
 pub(crate) fn next_instr<'a>(linked: &'a Linked, state: &State) -> Option<&'a LinkedInstr>
     ensures value { option_map (λ i. instr_of i.now) result ≡ slice_get
-        (model.code_in (tests.method_of_frame (classes_of linked.now.classes.items) (state_of state.now).frame))
+        (model.code_in (tests.method_of_frame linked.now (state_of state.now).frame))
         state.now.machine.frame.place }
     ensures place { OnSome result (state.now.machine.frame.place < 2 ^ 32 - 1) }
 {
@@ -323,11 +323,11 @@ pub(crate) fn take_step(
     ports: &mut Ports,
     me: u32,
 ) -> Result<Stepped, Memory>
-    ensures ok { IfOk result (λ s. Does (model.step (classes_of linked.now.classes.items) me (state_of state.old) ports.old)
+    ensures ok { IfOk result (λ s. Does (model.step linked.now me (state_of state.old) ports.old)
         (state_of state.old) ports.old (state_of state.new) ports.new s) }
     ensures err { OnErr result (state_of state.new ≡ state_of state.old) }
     ensures err_ports { OnErr result (ports.new ≡ ports.old) }
-    ensures steady { OnErr result (is_steady (next_action (classes_of linked.now.classes.items) (state_of state.old)) ≡ false) }
+    ensures steady { OnErr result (is_steady (next_action linked.now (state_of state.old)) ≡ false) }
 {
     let Some(instr) = next_instr(linked, state) else {
         return Ok(Stepped::Ended(Ending::Bad(BadKind::FellOff)));

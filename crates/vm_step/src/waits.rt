@@ -2,7 +2,6 @@
 //! Nothing is allocated and nothing changes.
 
 ghost use Rattle.std.specs.Prelude.{◌≡◌, ◌≤◌, length};
-ghost use Rattle.vm_model.specs.View.{classes_of};
 ghost use Rattle.vm_model.specs.Actions.{Use};
 ghost use Rattle.vm_model.specs.Step as model;
 ghost use Rattle.vm_step.specs.State.{state_of, operands_of};
@@ -60,7 +59,7 @@ fn used(action: Action<'_>) -> Option<Built>
 
 /// For whom the use of a member waits.
 fn built_waits(state: &State, linked: &Linked, ports: &Ports, me: u32, built: Built) -> Option<u32>
-    ensures { result ≡ waits_in (model.act (classes_of linked.now.classes.items) ports.now (state_of state.now) me (Use built)) }
+    ensures { result ≡ waits_in (model.act linked.now ports.now (state_of state.now) me (Use built)) }
 {
     if let Some(_kind) = check_built(linked, state, built) {
         return None;
@@ -77,7 +76,7 @@ fn built_waits(state: &State, linked: &Linked, ports: &Ports, me: u32, built: Bu
 
 /// For whose message the next instruction waits.
 pub(crate) fn waits(state: &State, linked: &Linked, ports: &Ports, me: u32) -> Option<u32>
-    ensures { result ≡ waits_in (model.step (classes_of linked.now.classes.items) me (state_of state.now) ports.now) }
+    ensures { result ≡ waits_in (model.step linked.now me (state_of state.now) ports.now) }
 {
     let instr = next_instr(linked, state)?;
     let action = action_of(instr)?;

@@ -3,7 +3,6 @@
 
 ghost use Rattle.std.specs.Prelude.{◌≡◌, ◌+◌, ◌<◌, ◌≤◌, ◌^◌, IfOk, OnErr};
 ghost use Rattle.vm_world.specs.Alone.{RoleAlone};
-ghost use Rattle.vm_model.specs.View.{classes_of};
 ghost use Rattle.vm_world.specs.Outcome.{outcome};
 ghost use Rattle.vm_world.specs.View.{role_of, state_of};
 
@@ -63,7 +62,7 @@ pub(crate) fn take_turn(
 ) -> Result<Taken, Memory>
     requires { role.old.count < 2 ^ 32 }
     ensures ok { IfOk result (λ t. record { role = role_of role.new; messages = ports.new; event = t.event; turned = t.turned }
-        ≡ outcome (classes_of linked.now.classes.items) me (role_of role.old) ports.old) }
+        ≡ outcome linked.now me (role_of role.old) ports.old) }
     ensures err { OnErr result (role_of role.new ≡ role_of role.old) }
     ensures err_ports { OnErr result (ports.new ≡ ports.old) }
 {
@@ -106,7 +105,7 @@ pub(crate) fn take_turn(
 pub(crate) fn turns_alone(role: &mut Role, linked: &Linked, most: u32) -> u32
     requires { role.old.count + most < 2 ^ 32 }
     ensures most { result ≤ most }
-    ensures turns { RoleAlone (classes_of linked.now.classes.items) (role_of role.old) result (role_of role.new) }
+    ensures turns { RoleAlone linked.now (role_of role.old) result (role_of role.new) }
 {
     let State::Runs(machine) = &mut role.state else {
         return 0;

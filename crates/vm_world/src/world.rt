@@ -5,7 +5,6 @@ ghost use Rattle.std.specs.Prelude.{◌≡◌, ◌+◌, ◌<◌, ◌≤◌, ◌^
 ghost use Rattle.std.specs.Prelude.{IfSome};
 ghost use Rattle.std.specs.List.{IsDistinct, AllByRecursion};
 ghost use Rattle.std.specs.Str.{bytes_eq};
-ghost use Rattle.vm_model.specs.View.{classes_of};
 ghost use Rattle.vm_step.specs.Main.{HasMain};
 ghost use Rattle.vm_world_law.specs.World as model;
 ghost use Rattle.vm_world_law.specs.Turns.{over_in};
@@ -33,14 +32,13 @@ pub struct World {
 
 impl Model for World {
     ghost use Rattle.std.specs.Prelude.{◌<◌, ◌^◌, length};
-    ghost use Rattle.vm_model.specs.View.{classes_of};
     ghost use Rattle.vm_world.specs.Seen.{Seen};
     ghost use Rattle.vm_world.specs.View.{roles_of};
 
     ghost Value = { Seen };
 
     ghost view = { λ w. record {
-      program = classes_of w.linked.classes.items;
+      program = w.linked;
       world = record { roles = roles_of w.roles.items; messages = w.ports; events = w.events.items };
     } };
 
@@ -49,9 +47,9 @@ impl Model for World {
 
 /// The machines of these roles, each at its `main`.
 fn begun(alloc: Global, linked: &Linked, mains: &[RoleMain]) -> Result<Vec<Role>, Memory>
-    requires { AllByRecursion (λ m. HasMain (classes_of linked.now.classes.items) m.class) mains.now }
+    requires { AllByRecursion (λ m. HasMain linked.now m.class) mains.now }
     ensures many { IfOk result (λ roles. length roles.items ≡ length mains.now) }
-    ensures begun { IfOk result (λ roles. model.StartAt (classes_of linked.now.classes.items) mains.now (roles_of roles.items)) }
+    ensures begun { IfOk result (λ roles. model.StartAt linked.now mains.now (roles_of roles.items)) }
 {
     let mut roles = Vec::new(alloc);
     for main in mains {
@@ -94,8 +92,8 @@ impl World {
     /// `Memory` only.
     pub fn new(alloc: Global, linked: Linked, mains: &[RoleMain]) -> Result<World, Memory>
         requires distinct { IsDistinct bytes_eq (map (λ m. m.role) mains.now) }
-        requires mains { AllByRecursion (λ m. HasMain (classes_of linked.classes.items) m.class) mains.now }
-        ensures program { IfOk result (λ w. w.program ≡ classes_of linked.classes.items) }
+        requires mains { AllByRecursion (λ m. HasMain linked m.class) mains.now }
+        ensures program { IfOk result (λ w. w.program ≡ linked) }
         ensures begun { IfOk result (λ w. model.IsBegun w.program mains.now w.world) }
     {
         let names = names_of(alloc, mains)?;

@@ -3,7 +3,6 @@ use Rattle.std.proofs.lemmas.Result.{err_from_is_err_and}
 use Rattle.cls_tree.specs.Tree.{Class as File}
 use Rattle.cls_tree.specs.View.{class_of as file_of}
 use Rattle.vm_model.specs.Links.{Links, IsUnlinked}
-use Rattle.vm_model.specs.View.{classes_of}
 use Rattle.mg_refusal.specs.Order.{Finds, Answers}
 use Rattle.mg_sources.specs.Files.{sources}
 use Rattle.mg_exec.specs.Runs.{flaw_refusal}
@@ -19,5 +18,5 @@ pub returns : goal.returns
 returns c = λ names same.
     program_linked (sources names c.args.contents.now) (map file_of c.in_ok-classes.classes.items) c.link.result
     (c.in_ok-classes.ensures names same)
-    (subst (λ (z : List File). Answers (λ linked. Links z (classes_of linked.classes.items)) (Finds (IsUnlinked z) flaw_refusal) c.link.result)
+    (subst (λ (z : List File). Answers (Links z) (Finds (IsUnlinked z) flaw_refusal) c.link.result)
     (ap (map file_of) c.as_slice.ensures.items) c.link.ensures)

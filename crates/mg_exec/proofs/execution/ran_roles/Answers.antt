@@ -1,7 +1,6 @@
 use Rattle.std.proofs.Common.{rules}
 use Rattle.std.proofs.lemmas.Result.{err_from_is_err_and}
 use Rattle.vm_world_law.proofs.Lists.{got_within}
-use Rattle.vm_model.specs.View.{classes_of}
 use Rattle.mg_sources.specs.Files.{sources}
 use Rattle.mg_exec.proofs.Shown.{run_none, run_no_main, run_shown}
 use Rattle.mg_exec.proofs.execution.ran_roles.Goals as goal
@@ -27,7 +26,7 @@ returns-in_err-refusal-in-Some c = λ names same.
 pub returns-in-Some : goal.returns-in-Some
 returns-in-Some c = λ names same.
     run_no_main (sources names c.args.contents.now) c.args.mains.now c.args.order.now c.args.limit c.args.named c.args.traced
-    (classes_of c.in_ok-linked.linked.classes.items) c.in-Some.number _ c.in_ok-refusal-in-Some.refusal (c.in_ok-linked.ensures names same)
+    c.in_ok-linked.linked c.in-Some.number _ c.in_ok-refusal-in-Some.refusal (c.in_ok-linked.ensures names same)
     c.in-Some.ensures c.in_ok-refusal-in-Some.ensures
 
 pub returns-in_err-run : goal.returns-in_err-run
@@ -38,4 +37,4 @@ returns-in_err-run c = λ names same.
 pub returns : goal.returns
 returns c = λ names same.
     run_shown (sources names c.args.contents.now) c.args.mains.now c.args.order.now c.args.limit c.args.named c.args.traced
-    (classes_of c.in_ok-linked.linked.classes.items) c.in_ok-run.field-0 (c.in_ok-linked.ensures names same) c.in_default.ensures c.in_ok-run.ensures
+    c.in_ok-linked.linked c.in_ok-run.field-0 (c.in_ok-linked.ensures names same) c.in_default.ensures c.in_ok-run.ensures

@@ -3,7 +3,6 @@ use Rattle.cls_tree.specs.Tree.{Class as File}
 use Rattle.cls_tree.specs.View.{class_of as file_of}
 use Rattle.jv_core.specs.Core.{tree_of}
 use Rattle.vm_model.specs.Links.{Links}
-use Rattle.vm_model.specs.View.{classes_of}
 use Rattle.vm_load.specs.Faults.{IsRefused}
 use Rattle.mg_runs.proofs.Sound.{have_files, one_spelled_list, refused_never}
 use Rattle.mg_runs.proofs.loading.load_back.Goals as goal
@@ -23,6 +22,6 @@ pub returns-in-Ok : goal.returns-in-Ok
 returns-in-Ok c = (
   map file_of c.in_ok-classes.classes.items,
   c.in_ok-classes.ensures,
-  subst (λ (z : List File). Links z (classes_of c.in-Ok.linked.classes.items)) (ap (map file_of) c.as_slice.ensures.items)
+  subst (λ (z : List File). Links z c.in-Ok.linked) (ap (map file_of) c.as_slice.ensures.items)
       c.in-Ok.ensures.found,
 )

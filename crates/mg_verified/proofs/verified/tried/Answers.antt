@@ -1,5 +1,4 @@
 use Rattle.std.proofs.lemmas.Result.{err_from_is_err_and}
-use Rattle.vm_model.specs.View.{classes_of}
 use Rattle.mg_sources.specs.Files.{sources}
 use Rattle.mg_verified.proofs.Tried.{files_tried, no_files}
 use Rattle.mg_verified.proofs.verified.tried.Goals as goal
@@ -11,5 +10,5 @@ returns-in_err-linked c = λ names same.
 
 pub returns : goal.returns
 returns c = λ names same.
-    files_tried (sources names c.args.contents.now) (classes_of c.in_ok-linked.linked.classes.items) c.judged.result
+    files_tried (sources names c.args.contents.now) c.in_ok-linked.linked c.judged.result
     (c.in_ok-linked.ensures names same) c.judged.ensures

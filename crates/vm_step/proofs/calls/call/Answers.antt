@@ -1,6 +1,5 @@
 use Rattle.std.proofs.Common.{◌≡◌, ◌∙◌, length, ap, sym, refl, arith}
 use Rattle.std.proofs.lemmas.List.{length-map}
-use Rattle.vm_model.specs.View.{classes_of}
 use Rattle.vm_model.specs.Program.{method_at}
 use Rattle.vm_model.specs.Actions.{Call}
 use Rattle.vm_model.specs.Tests.{Needs, needs, wrong, call_takes}
@@ -13,7 +12,7 @@ use Rattle.vm_step.proofs.calls.call.Goals as goal
 
 pub returns-in-Some-clause-ok : goal.returns-in-Some-clause-ok
 returns-in-Some-clause-ok c =
-    let p = classes_of c.args.linked.now.classes.items in
+    let p = c.args.linked.now in
     let m = state_of c.args.state.now in
     let same : needs_of c.call_needs-needs.result ≡ needs p m (Call (calling_of c.args.calling) c.args.class c.args.method) =
     rw (c.as_slice.ensures.value, c.in_ok-takes.ensures, c.method_at.ensures) at c.call_needs-needs.ensures in
@@ -26,7 +25,7 @@ returns-in-Some-clause-ok c =
 
 pub returns-clause-ok : goal.returns-clause-ok
 returns-clause-ok c =
-    let p = classes_of c.args.linked.now.classes.items in
+    let p = c.args.linked.now in
     let m = state_of c.args.state.now in
     let same : needs_of c.call_needs-needs.result ≡ needs p m (Call (calling_of c.args.calling) c.args.class c.args.method) =
     rw (c.as_slice.ensures.value, c.in_ok-takes.ensures, c.method_at.ensures) at c.call_needs-needs.ensures in
@@ -40,7 +39,7 @@ returns-clause-ok c =
 
 pub call_tested-requires-clause-locals : goal.call_tested-requires-clause-locals
 call_tested-requires-clause-locals c =
-    let p = classes_of c.args.linked.now.classes.items in
+    let p = c.args.linked.now in
     let m = state_of c.args.state.now in
     let same : needs_of c.call_needs-needs.result ≡ needs p m (Call (calling_of c.args.calling) c.args.class c.args.method) =
     rw (c.as_slice.ensures.value, c.in_ok-takes.ensures, c.method_at.ensures) at c.call_needs-needs.ensures in

@@ -1,5 +1,4 @@
 use Rattle.std.proofs.Common.{true, false}
-use Rattle.vm_model.specs.View.{classes_of}
 use Rattle.vm_model.specs.Actions.{Telling, Silent}
 use Rattle.vm_model.specs.Tests.{below}
 use Rattle.vm_model.specs.Step as model
@@ -11,7 +10,7 @@ use Rattle.vm_step.proofs.calls.call_tested.Goals as goal
 
 pub returns-in-Telling-clause-ok : goal.returns-in-Telling-clause-ok
 returns-in-Telling-clause-ok c =
-    let p = classes_of c.args.linked.now.classes.items in
+    let p = c.args.linked.now in
     let m = state_of c.args.state.now in
     let rest = below c.args.callee.taken (operands_of c.args.state.now) in
     plays_same m (state_of c.call_on_object.new.state) c.call_on_object.result _ _
@@ -24,7 +23,7 @@ returns-in-Telling-clause-ok c =
 
 pub returns-in-Silent-clause-ok : goal.returns-in-Silent-clause-ok
 returns-in-Silent-clause-ok c =
-    let p = classes_of c.args.linked.now.classes.items in
+    let p = c.args.linked.now in
     let m = state_of c.args.state.now in
     let rest = below c.args.callee.taken (operands_of c.args.state.now) in
     plays_same m (state_of c.call_on_object-in-Silent.new.state) c.call_on_object-in-Silent.result _ _

@@ -1,18 +1,17 @@
 use Rattle.std.proofs.Common.{◌≡◌, ◌||◌, drop, length}
 use Rattle.vm_model.specs.Tests as model
-use Rattle.vm_model.specs.View.{classes_of}
 use Rattle.vm_step.specs.State.{state_of, operands_of}
 use Rattle.vm_step.specs.Needing.{wants_of}
 use Rattle.vm_step.proofs.needs.misfits.Given as goal
 
 abbrev pub invariant-loop-at : goal.invariant-loop-at
 invariant-loop-at l = record {
-  kind : (l.found.kind || model.some_of model.is_kind (model.misfits (classes_of l.linked.classes.items) (state_of l.state).heap
+  kind : (l.found.kind || model.some_of model.is_kind (model.misfits l.linked (state_of l.state).heap
       (wants_of (drop l.at l.takes)) (drop l.at (model.on_top (length l.takes) (operands_of l.state)))))
-      ≡ (l.fn.first.kind || model.some_of model.is_kind (model.misfits (classes_of l.linked.classes.items) (state_of l.state).heap
+      ≡ (l.fn.first.kind || model.some_of model.is_kind (model.misfits l.linked (state_of l.state).heap
       (wants_of l.takes) (model.on_top (length l.takes) (operands_of l.state))));
-  member : (l.found.member || model.some_of model.is_member (model.misfits (classes_of l.linked.classes.items) (state_of l.state).heap
+  member : (l.found.member || model.some_of model.is_member (model.misfits l.linked (state_of l.state).heap
       (wants_of (drop l.at l.takes)) (drop l.at (model.on_top (length l.takes) (operands_of l.state)))))
-      ≡ (l.fn.first.member || model.some_of model.is_member (model.misfits (classes_of l.linked.classes.items) (state_of l.state).heap
+      ≡ (l.fn.first.member || model.some_of model.is_member (model.misfits l.linked (state_of l.state).heap
       (wants_of l.takes) (model.on_top (length l.takes) (operands_of l.state))));
 }

@@ -1,7 +1,6 @@
 use Rattle.std.proofs.Common.{◌≡◌, ◌∙◌, ◌||◌, ◌≤◌, ℕ, length, ap, sym, arith}
 use Rattle.std.proofs.lemmas.List.{length-map}
 use Rattle.vm_model.specs.Tests as model
-use Rattle.vm_model.specs.View.{classes_of}
 use Rattle.vm_step.specs.State.{state_of, operands_of}
 use Rattle.vm_step.specs.Needing.{want_of, wants_of, needs_of}
 use Rattle.vm_step.proofs.Testing.{wrong_is}
@@ -9,7 +8,7 @@ use Rattle.vm_step.proofs.needs.wrong.Goals as goal
 
 pub returns : goal.returns
 returns c =
-    let p = classes_of c.args.linked.now.classes.items in
+    let p = c.args.linked.now in
     let m = state_of c.args.state.now in
     let takes = wants_of c.args.needs.now.takes.now in
     let reads = (needs_of c.args.needs.now).reads in

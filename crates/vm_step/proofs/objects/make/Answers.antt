@@ -1,5 +1,4 @@
 use Rattle.std.proofs.Common.{◌∙◌}
-use Rattle.vm_model.specs.View.{classes_of}
 use Rattle.vm_frames.specs.Seen.{values_in}
 use Rattle.vm_step.specs.State.{state_of}
 use Rattle.vm_step.proofs.Frames.{makes_is}
@@ -7,7 +6,7 @@ use Rattle.vm_step.proofs.objects.make.Goals as goal
 
 pub returns-clause-ok : goal.returns-clause-ok
 returns-clause-ok c = λ q.
-    makes_is (classes_of c.args.linked.now.classes.items) q (state_of c.args.state.now) (state_of c.make.new.self)
+    makes_is c.args.linked.now q (state_of c.args.state.now) (state_of c.make.new.self)
     (state_of c.push.new.self) c.args.class c.in_ok-object.object c.place-place.result c.in_ok-name.name
     (values_in c.args.state.now.texts c.in_ok-fields.fields.items)
     (c.in_ok-name.ensures ∙ c.class_name.ensures) c.in_ok-object.ensures.number

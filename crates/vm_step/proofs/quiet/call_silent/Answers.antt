@@ -6,7 +6,7 @@ use Rattle.vm_model.specs.Kept.{type_kept}
 use Rattle.vm_model.specs.Actions.{Call, Silent}
 use Rattle.vm_model.specs.Tests.{params_in, descriptor_in, max_locals_in}
 use Rattle.vm_model.proofs.KeptTypes.{params_are}
-use Rattle.vm_model.specs.View.{classes_of, method_of}
+use Rattle.vm_model.specs.View.{method_of}
 use Rattle.vm_frames.specs.Seen.{value_in}
 use Rattle.vm_step.specs.State.{state_of}
 use Rattle.vm_step.proofs.Ready.{when_true}
@@ -15,7 +15,7 @@ use Rattle.vm_step.proofs.quiet.call_silent.Goals as goal
 
 pub returns : goal.returns
 returns c =
-    let p = classes_of c.args.linked.now.classes.items in
+    let p = c.args.linked.now in
     let m = state_of c.args.state.now in
     let called = c.in-Some.called.now in
     let e : Some (method_of called) ≡ method_at p c.args.class c.args.method = rw c.in-Some.is at c.method_at.ensures in

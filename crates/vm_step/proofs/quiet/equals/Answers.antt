@@ -2,7 +2,6 @@ use Rattle.std.proofs.Common.{◌+◌, ◌++◌, ◌∷◌, [], length, ap, ◌�
 use Rattle.vm_model.specs.Machine.{Machine}
 use Rattle.vm_model.specs.Tests.{below}
 use Rattle.vm_model.specs.Step.{at_place, truth}
-use Rattle.vm_model.specs.View.{classes_of}
 use Rattle.vm_frames.specs.Seen.{value_in}
 use Rattle.vm_step.specs.State.{state_of}
 use Rattle.vm_step.proofs.Quietly.{quiet_equals}
@@ -15,7 +14,7 @@ put-requires-clause-set c = c.truth-same.ensures.set (length c.args.state.now.te
 pub returns : goal.returns
 returns c =
     let m : Machine = state_of c.args.state.now in
-    quiet_equals (classes_of c.args.linked.now.classes.items) m (state_of c.put.new.self) c.in-Some.text.now
+    quiet_equals c.args.linked.now m (state_of c.put.new.self) c.in-Some.text.now
     (value_in c.args.state.now.texts c.operand-value.result) (omega arith) (omega arith) (rw c.in-Some.is at c.text_at.ensures)
     c.operand-value.ensures.value
     (when_true c.is_of_sort.result c.if-not-is_of_sort.false c.is_of_sort.ensures c.args.state.now.texts)

@@ -2,7 +2,6 @@ use Rattle.std.proofs.Common.{◌+◌, ◌++◌, ◌∷◌, [], Some, ap, ◌∙
 use Rattle.vm_model.specs.Machine.{Machine}
 use Rattle.vm_model.specs.Tests.{below}
 use Rattle.vm_model.specs.Step.{at_place}
-use Rattle.vm_model.specs.View.{classes_of}
 use Rattle.vm_frames.specs.Seen.{value_in}
 use Rattle.vm_step.specs.State.{state_of}
 use Rattle.vm_step.proofs.Quietly.{quiet_read}
@@ -11,7 +10,7 @@ use Rattle.vm_step.proofs.quiet.read.Goals as goal
 pub returns : goal.returns
 returns c =
     let m : Machine = state_of c.args.state.now in
-    quiet_read (classes_of c.args.linked.now.classes.items) m (state_of c.put.new.self) c.args.class c.args.field c.in-Some.object
+    quiet_read c.args.linked.now m (state_of c.put.new.self) c.args.class c.args.field c.in-Some.object
     (value_in c.args.state.now.texts c.in-Some-field.cell) (omega arith) (omega arith)
     (c.operand.ensures.value ∙ ap (λ x. Some (value_in c.args.state.now.texts x)) c.in-Some.ensures.object)
     c.in-Some.ensures.class (rw c.in-Some-field.is at c.field.ensures.value)

@@ -5,7 +5,6 @@ use Rattle.vm_model.specs.Types.{signature_of}
 use Rattle.vm_model.specs.Descriptors.{type_view}
 use Rattle.vm_model.specs.Actions.{Return}
 use Rattle.vm_model.specs.Tests.{result_in, descriptor_in, method_of_frame}
-use Rattle.vm_model.specs.View.{classes_of}
 use Rattle.vm_step.specs.State.{state_of}
 use Rattle.vm_step.proofs.Ready.{when_true}
 use Rattle.vm_step.proofs.Quietly.{quiet_if, quiet_return}
@@ -13,7 +12,7 @@ use Rattle.vm_step.proofs.quiet.return_nothing.Goals as goal
 
 pub returns : goal.returns
 returns c =
-    let p = classes_of c.args.linked.now.classes.items in
+    let p = c.args.linked.now in
     let m = state_of c.args.state.now in
     let same : option_map type_view c.result_type.result ≡ result_in (signature_of (descriptor_in (method_of_frame p m.frame))) =
     (rw (c.method_at.ensures) at c.result_type.ensures)

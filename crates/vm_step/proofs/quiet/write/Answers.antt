@@ -3,7 +3,6 @@ use Rattle.vm_model.specs.Descriptors.{type_view}
 use Rattle.vm_model.specs.Machine.{Machine}
 use Rattle.vm_model.specs.Tests.{below, type_in}
 use Rattle.vm_model.specs.Step.{at_place}
-use Rattle.vm_model.specs.View.{classes_of}
 use Rattle.vm_frames.specs.Seen.{value_in}
 use Rattle.vm_step.specs.State.{state_of}
 use Rattle.vm_frames.specs.Frames.{with_field}
@@ -20,7 +19,7 @@ returns c =
     let written : state_of c.set_field.new.self
     ≡ record m { heap = set m.heap n (record o.0 { fields = set o.0.fields c.args.field w }) } =
     c.set_field.ensures.machine ∙ ap (λ r. record m { heap = with_field m.heap n c.args.field w r }) o.1 in
-    quiet_write (classes_of c.args.linked.now.classes.items) m (state_of c.drop.new.self) c.args.class c.args.field n w
+    quiet_write c.args.linked.now m (state_of c.drop.new.self) c.args.class c.args.field n w
     (type_view c.in-Typed.wanted) o.0 (omega arith) (omega arith)
     (c.operand.ensures.value ∙ ap (λ x. Some (value_in c.args.state.now.texts x)) c.in-Some.ensures.object)
     c.operand-cell.ensures.value c.in-Some.ensures.class o.1

@@ -1,7 +1,6 @@
 use Rattle.std.proofs.Common.{◌≡◌, ◌∙◌, Option, Ok, sym, ap, refl}
 use Rattle.std.specs.Option.{option_map}
 use Rattle.vm_model.specs.Program.{method_at}
-use Rattle.vm_model.specs.View.{classes_of}
 use Rattle.vm_model.specs.Types.{FieldType, signature_of}
 use Rattle.vm_model.specs.Descriptors.{type_view}
 use Rattle.vm_model.specs.Actions.{Return}
@@ -15,7 +14,7 @@ use Rattle.vm_step.proofs.returns.return_from.Goals as goal
 
 pub returns-in-Some : goal.returns-in-Some
 returns-in-Some c =
-    let p = classes_of c.args.linked.now.classes.items in
+    let p = c.args.linked.now in
     let m = state_of c.args.state.now in
     let same : option_map type_view c.result_type-answer.result ≡ result_in (signature_of (descriptor_in (method_of_frame p m.frame))) =
     (rw (c.method_at-method.ensures) at c.result_type-answer.ensures)
@@ -26,7 +25,7 @@ returns-in-Some c =
 
 pub returns-in-None : goal.returns-in-None
 returns-in-None c =
-    let p = classes_of c.args.linked.now.classes.items in
+    let p = c.args.linked.now in
     let m = state_of c.args.state.now in
     let same : option_map type_view c.result_type-answer.result ≡ result_in (signature_of (descriptor_in (method_of_frame p m.frame))) =
     (rw (c.method_at-method.ensures) at c.result_type-answer.ensures)
@@ -39,7 +38,7 @@ returns-in-None c =
 
 pub returns-in-Some-sort : goal.returns-in-Some-sort
 returns-in-Some-sort c =
-    let p = classes_of c.args.linked.now.classes.items in
+    let p = c.args.linked.now in
     let m = state_of c.args.state.now in
     let same : option_map type_view c.result_type-answer.result ≡ result_in (signature_of (descriptor_in (method_of_frame p m.frame))) =
     (rw (c.method_at-method.ensures) at c.result_type-answer.ensures)

@@ -1,5 +1,4 @@
 use Rattle.std.proofs.Common.{Ok}
-use Rattle.vm_model.specs.View.{classes_of}
 use Rattle.vm_model.specs.Actions.{Return}
 use Rattle.vm_model.specs.Step as model
 use Rattle.std.specs.Option.{option_map}
@@ -12,5 +11,5 @@ pub returns-in-Return-clause-ok : goal.returns-in-Return-clause-ok
 returns-in-Return-clause-ok c =
     rw c.in-Return.is
     (does_plays_for (state_of c.args.state.now) (state_of c.return_from.new.state) c.args.me c.args.ports.now (Ok c.return_from.result)
-    (λ me q. model.act (classes_of c.args.linked.now.classes.items) q (state_of c.args.state.now) me
+    (λ me q. model.act c.args.linked.now q (state_of c.args.state.now) me
     (Return (option_map sort_of c.in-Return.sort))) c.return_from.ensures)

@@ -1,5 +1,4 @@
 use Rattle.std.proofs.Common.{◌∙◌, ◌∷◌, [], sym, ap, Ok, refl}
-use Rattle.vm_model.specs.View.{classes_of}
 use Rattle.vm_model.specs.Actions as actions
 use Rattle.vm_model.specs.Tests.{Want, Typed, taking, wrong, type_in}
 use Rattle.vm_model.specs.Types.{Named}
@@ -12,14 +11,14 @@ use Rattle.vm_step.proofs.step.act_write.Goals as goal
 
 pub returns-in-Some-clause-ok : goal.returns-in-Some-clause-ok
 returns-in-Some-clause-ok c = λ me q. (
-  act_wrong (classes_of c.args.linked.now.classes.items) q (state_of c.args.state.now) me
+  act_wrong c.args.linked.now q (state_of c.args.state.now) me
       (actions.Write c.args.class c.args.field) c.in-Some.kind (sym c.in-Some.is ∙ c.check.ensures.wrong
-      ∙ ap (λ (w : Want). wrong (classes_of c.args.linked.now.classes.items)
-      (taking (classes_of c.args.linked.now.classes.items) (state_of c.args.state.now) (w ∷ want_of c.field_want-value.result ∷ []) 0)
+      ∙ ap (λ (w : Want). wrong c.args.linked.now
+      (taking c.args.linked.now (state_of c.args.state.now) (w ∷ want_of c.field_want-value.result ∷ []) 0)
       (state_of c.args.state.now)) c.object.ensures
-      ∙ ap (λ (w : Want). wrong (classes_of c.args.linked.now.classes.items)
-      (taking (classes_of c.args.linked.now.classes.items) (state_of c.args.state.now)
-      (Typed (Named (class_name (classes_of c.args.linked.now.classes.items) c.args.class)) ∷ w ∷ []) 0)
+      ∙ ap (λ (w : Want). wrong c.args.linked.now
+      (taking c.args.linked.now (state_of c.args.state.now)
+      (Typed (Named (class_name c.args.linked.now c.args.class)) ∷ w ∷ []) 0)
       (state_of c.args.state.now)) (c.field_want-value.ensures ∙ ap type_in c.field_at.ensures)),
   refl,
   refl,
@@ -28,12 +27,12 @@ returns-in-Some-clause-ok c = λ me q. (
 pub returns-clause-ok : goal.returns-clause-ok
 returns-clause-ok c =
     plays_for (state_of c.args.state.now) (state_of c.write.new.state) (Ok c.write.result) _ _
-    (λ me q. write_is (classes_of c.args.linked.now.classes.items) q (state_of c.args.state.now) me c.args.class c.args.field
+    (λ me q. write_is c.args.linked.now q (state_of c.args.state.now) me c.args.class c.args.field
     (sym c.in_default.is ∙ c.check.ensures.wrong
-    ∙ ap (λ (w : Want). wrong (classes_of c.args.linked.now.classes.items)
-    (taking (classes_of c.args.linked.now.classes.items) (state_of c.args.state.now) (w ∷ want_of c.field_want-value.result ∷ []) 0)
+    ∙ ap (λ (w : Want). wrong c.args.linked.now
+    (taking c.args.linked.now (state_of c.args.state.now) (w ∷ want_of c.field_want-value.result ∷ []) 0)
     (state_of c.args.state.now)) c.object.ensures
-    ∙ ap (λ (w : Want). wrong (classes_of c.args.linked.now.classes.items)
-    (taking (classes_of c.args.linked.now.classes.items) (state_of c.args.state.now)
-    (Typed (Named (class_name (classes_of c.args.linked.now.classes.items) c.args.class)) ∷ w ∷ []) 0)
+    ∙ ap (λ (w : Want). wrong c.args.linked.now
+    (taking c.args.linked.now (state_of c.args.state.now)
+    (Typed (Named (class_name c.args.linked.now c.args.class)) ∷ w ∷ []) 0)
     (state_of c.args.state.now)) (c.field_want-value.ensures ∙ ap type_in c.field_at.ensures))) c.write.ensures

@@ -1,12 +1,11 @@
 use Rattle.std.proofs.Common.{◌∷◌, [], ◌∙◌}
-use Rattle.vm_model.specs.View.{classes_of}
 use Rattle.vm_model.specs.Tests.{taking, wrong}
 use Rattle.vm_step.specs.State.{state_of}
 use Rattle.vm_step.proofs.step.check_built.Goals as goal
 
 pub returns-in-Equals-clause-wrong : goal.returns-in-Equals-clause-wrong
 returns-in-Equals-clause-wrong c =
-    let p = classes_of c.args.linked.now.classes.items in
+    let p = c.args.linked.now in
     let m = state_of c.args.state.now in
     rw c.in-Equals.is
     (c.check-in-Equals.ensures.wrong

@@ -1,5 +1,4 @@
 use Rattle.std.proofs.Common.{◌∙◌, sym, ap}
-use Rattle.vm_model.specs.View.{classes_of}
 use Rattle.vm_model.specs.Actions.{Use}
 use Rattle.vm_model.specs.Tests.{below}
 use Rattle.vm_model.specs.Step as model
@@ -14,7 +13,7 @@ use Rattle.vm_step.proofs.waits.built_waits.Goals as goal
 
 pub returns-in-Some : goal.returns-in-Some
 returns-in-Some c =
-    sym (ap waits_in (act_wrong (classes_of c.args.linked.now.classes.items) c.args.ports.now (state_of c.args.state.now) c.args.me
+    sym (ap waits_in (act_wrong c.args.linked.now c.args.ports.now (state_of c.args.state.now) c.args.me
     (Use c.args.built) c.in-Some._kind (sym c.in-Some.is ∙ c.check_built.ensures.wrong)))
 
 pub returns-in-Look : goal.returns-in-Look
@@ -24,7 +23,7 @@ returns-in-Look c =
     ∙ looks_await c.args.ports.now (state_of c.args.state.now) (below 1 (operands_of c.args.state.now)) c.args.me
     (text_in (at_top (operands_of c.args.state.now) 0))
     ∙ ap waits_in
-    (sym (look_is (classes_of c.args.linked.now.classes.items) c.args.ports.now (state_of c.args.state.now) c.args.me
+    (sym (look_is c.args.linked.now c.args.ports.now (state_of c.args.state.now) c.args.me
     (rw c.in-Look.is at (sym c.in_default.is ∙ c.check_built.ensures.wrong)))))
 
 pub returns-in-Take : goal.returns-in-Take
@@ -35,7 +34,7 @@ returns-in-Take c =
     (text_in (at_top (operands_of c.args.state.now) 1))
     (text_in (at_top (operands_of c.args.state.now) 0))
     ∙ ap waits_in
-    (sym (take_is (classes_of c.args.linked.now.classes.items) c.args.ports.now (state_of c.args.state.now) c.args.me
+    (sym (take_is c.args.linked.now c.args.ports.now (state_of c.args.state.now) c.args.me
     (rw c.in-Take.is at (sym c.in_default.is ∙ c.check_built.ensures.wrong)))))
 
 pub returns-in-TakeInt : goal.returns-in-TakeInt
@@ -46,7 +45,7 @@ returns-in-TakeInt c =
     (text_in (at_top (operands_of c.args.state.now) 1))
     (text_in (at_top (operands_of c.args.state.now) 0))
     ∙ ap waits_in
-    (sym (take_int_is (classes_of c.args.linked.now.classes.items) c.args.ports.now (state_of c.args.state.now) c.args.me
+    (sym (take_int_is c.args.linked.now c.args.ports.now (state_of c.args.state.now) c.args.me
     (rw c.in-TakeInt.is at (sym c.in_default.is ∙ c.check_built.ensures.wrong)))))
 
 pub returns-in-TakeTruth : goal.returns-in-TakeTruth
@@ -57,7 +56,7 @@ returns-in-TakeTruth c =
     (text_in (at_top (operands_of c.args.state.now) 1))
     (text_in (at_top (operands_of c.args.state.now) 0))
     ∙ ap waits_in
-    (sym (take_truth_is (classes_of c.args.linked.now.classes.items) c.args.ports.now (state_of c.args.state.now) c.args.me
+    (sym (take_truth_is c.args.linked.now c.args.ports.now (state_of c.args.state.now) c.args.me
     (rw c.in-TakeTruth.is at (sym c.in_default.is ∙ c.check_built.ensures.wrong)))))
 
 pub returns-in-TakeText : goal.returns-in-TakeText
@@ -68,11 +67,11 @@ returns-in-TakeText c =
     (text_in (at_top (operands_of c.args.state.now) 1))
     (text_in (at_top (operands_of c.args.state.now) 0))
     ∙ ap waits_in
-    (sym (take_text_is (classes_of c.args.linked.now.classes.items) c.args.ports.now (state_of c.args.state.now) c.args.me
+    (sym (take_text_is c.args.linked.now c.args.ports.now (state_of c.args.state.now) c.args.me
     (rw c.in-TakeText.is at (sym c.in_default.is ∙ c.check_built.ensures.wrong)))))
 
 pub returns-in_default-built : goal.returns-in_default-built
 returns-in_default-built c =
-    sym (rests (classes_of c.args.linked.now.classes.items) c.args.ports.now (state_of c.args.state.now) c.args.me (Use c.args.built)
+    sym (rests c.args.linked.now c.args.ports.now (state_of c.args.state.now) c.args.me (Use c.args.built)
     (other_member c.args.built c.in_default-built.not-Look c.in_default-built.not-Take c.in_default-built.not-TakeInt
     c.in_default-built.not-TakeTruth c.in_default-built.not-TakeText))

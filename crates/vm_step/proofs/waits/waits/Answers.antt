@@ -1,5 +1,4 @@
 use Rattle.std.proofs.Common.{rules, ◌≡◌, ◌∙◌, None, sym, ap}
-use Rattle.vm_model.specs.View.{classes_of}
 use Rattle.vm_model.specs.Step.{act, act_at, act_some, step}
 use Rattle.vm_step.specs.State.{state_of}
 use Rattle.vm_step.specs.Table.{action_of}
@@ -10,7 +9,7 @@ use Rattle.vm_step.proofs.waits.waits.Goals as goal
 
 pub returns-in_err-built : goal.returns-in_err-built
 returns-in_err-built c =
-    let p = classes_of c.args.linked.now.classes.items in
+    let p = c.args.linked.now in
     let q = c.args.ports.now in
     let m = state_of c.args.state.now in
     let a = action_of c.in_ok-action.action in

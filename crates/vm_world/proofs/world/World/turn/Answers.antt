@@ -1,6 +1,5 @@
 use Rattle.std.proofs.Common.{◌≡◌, ℕ, ◌<◌, ◌++◌, length, map, sym, ap, ap₂, ◌∙◌, subst}
 use Rattle.vm_model.specs.Machine.{noted}
-use Rattle.vm_model.specs.View.{classes_of}
 use Rattle.vm_world_law.specs.World as model
 use Rattle.vm_world.specs.Seen.{Seen}
 use Rattle.vm_world.specs.View.{roles_of}
@@ -17,15 +16,15 @@ returns-in_err-taken-clause-err c =
     let events = c.reserve.ensures.items in
     on_err_of _
     (ap (λ l. record {
-      program = classes_of c.self.inside.linked.classes.items;
+      program = c.self.inside.linked;
       world = record { roles = l; messages = c.take_turn.new.ports; events = c.reserve.new.self.items };
     }) roles
     ∙ ap (λ q. record {
-      program = classes_of c.self.inside.linked.classes.items;
+      program = c.self.inside.linked;
       world = record { roles = roles_of c.self.inside.roles.items; messages = q; events = c.reserve.new.self.items };
     }) c.in_err-taken.ensures.err_ports
     ∙ ap (λ es. record {
-      program = classes_of c.self.inside.linked.classes.items;
+      program = c.self.inside.linked;
       world = record { roles = roles_of c.self.inside.roles.items; messages = c.self.inside.ports; events = es };
     }) events
     ∙ c.self.view_is)
@@ -41,7 +40,7 @@ returns-clause-ok c =
       events = es;
     }) (c.note.ensures ∙ ap (λ l. l ++ map (model.of_role c.args.role) (noted c.in_ok-taken.taken.event)) c.reserve.ensures.items)
     ∙ turned_world c.self.inside.roles.items c.args.role c.index_mut.result.now lt c.index_mut.ensures.value
-    (classes_of c.self.inside.linked.classes.items) c.self.inside.ports c.take_turn.new.ports c.self.inside.events.items
+    c.self.inside.linked c.self.inside.ports c.take_turn.new.ports c.self.inside.events.items
     c.take_turn.new.role c.in_ok-taken.taken.event c.in_ok-taken.taken.turned c.in_ok-taken.ensures.ok
     ∙ ap (λ (s : Seen). model.turn s.program s.world c.args.role) c.self.view_is
 
@@ -51,6 +50,6 @@ returns-clause-turned c =
     subst (λ k. c.args.role < k) (many c.self.inside.roles.items)
     (subst (λ (s : Seen). c.args.role < length s.world.roles) (sym c.self.view_is) c.requires.number) in
     turned_answer c.self.inside.roles.items c.args.role c.index_mut.result.now lt c.index_mut.ensures.value
-    (classes_of c.self.inside.linked.classes.items) c.self.inside.ports c.take_turn.new.ports c.self.inside.events.items
+    c.self.inside.linked c.self.inside.ports c.take_turn.new.ports c.self.inside.events.items
     c.take_turn.new.role c.in_ok-taken.taken.event c.in_ok-taken.taken.turned c.in_ok-taken.ensures.ok
     ∙ ap (λ (s : Seen). model.turned s.program s.world c.args.role) c.self.view_is

@@ -1,5 +1,4 @@
 use Rattle.std.proofs.Common.{◌<◌, length, sym, subst}
-use Rattle.vm_model.specs.View.{classes_of}
 use Rattle.vm_world.specs.Alone.{TurnsAlone}
 use Rattle.vm_world.specs.Seen.{Seen}
 use Rattle.vm_world.specs.View.{roles_of}
@@ -17,6 +16,6 @@ returns-clause-turns c =
       messages = c.self.inside.ports;
       events = c.self.inside.events.items;
     })) c.self.view_is
-    (turns_world (classes_of c.self.inside.linked.classes.items) c.self.inside.roles.items c.args.role c.index_mut.result.now lt
+    (turns_world c.self.inside.linked c.self.inside.roles.items c.args.role c.index_mut.result.now lt
     c.index_mut.ensures.value c.self.inside.ports c.self.inside.events.items c.turns_alone.new.role c.turns_alone.result
     c.turns_alone.ensures.turns)
