@@ -1,5 +1,5 @@
 pub mod Steps
-pub mod Acts
+pub mod Instructions
 pub mod Taking
 pub mod Forms
 pub mod Logic
