@@ -77,7 +77,7 @@ use Rattle.gen_sound.proofs.Calling.{CallsDo, static_calls, helper_calls, protoc
 use Rattle.gen_sound.proofs.Printing.{shown_type}
 use Rattle.gen_sound.proofs.Joining.{joins_does}
 use Rattle.gen_sound.proofs.Joining as joining
-use Rattle.gen_sound.proofs.Nulls.{equals_null, differs_null, null_equals, null_differs}
+use Rattle.gen_sound.proofs.Operations.{equals_null, differs_null, null_equals, null_differs}
 use Rattle.gen_sound.proofs.Instructions.{push_does}
 use Rattle.gen_sound.proofs.Leaves.{constant_does, literal_does, neg_does}
 

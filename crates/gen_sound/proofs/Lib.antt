@@ -12,16 +12,14 @@ pub mod LocalSteps
 pub mod Peers
 pub mod Sessions
 pub mod Joining
-pub mod Nulls
 pub mod Expressions
 pub mod Comparing
 pub mod Comparisons
 pub mod Slots
 pub mod Completing
 pub mod Control
-pub mod Uses
 pub mod Printing
-pub mod Effects
+pub mod Uses
 pub mod Switches
 pub mod Execution
 pub mod Bodies
