@@ -8,14 +8,14 @@ use Rattle.mg_text.specs.declared.memory.Memory.{Memory}
 use Rattle.vm_model.specs.Program.{Program, MethodOf, ClassOf, class_at, method_at, class_name, fields_in, methods_in, name_in}
 use Rattle.vm_model.specs.Types.{FieldType, signature_of}
 use Rattle.vm_model.specs.Linked.{is_built_in}
-use Rattle.vm_model.specs.Actions.{Action, Calling, Telling, Silent, Static, Return, Read, Write, Make, Call}
+use Rattle.vm_model.specs.Actions.{Action, Telling, Silent, Static, Return, Read, Write, Make, Call}
 use Rattle.vm_model.specs.Actions as actions
 use Rattle.vm_model.specs.Tests.{Typed, result_in, params_in, descriptor_in, max_locals_in, is_sort, call_takes}
 use Rattle.vm_actions.specs.declared.action.Sort.{Sort}
 use Rattle.vm_actions.specs.declared.action.Calling.{Calling as Called}
 use Rattle.vm_actions.specs.declared.action.Calling.TheVariants as callings
 use Rattle.vm_actions.specs.Table.{sort_of, calling_of}
-use Rattle.cls_verify.specs.Kinds.{Instance, kind_of_type, kind_named}
+use Rattle.cls_verify.specs.Kinds.{Instance, kind_of_type}
 use Rattle.cls_verify.specs.Kinds as model
 use Rattle.cls_verify.specs.Rows.{Names, IsOwn, NamesField, SuitsMethod}
 use Rattle.cls_kinds.specs.declared.kind.Kind.{Kind}
@@ -35,7 +35,7 @@ use Rattle.cls_rows.specs.Coming.{Comes, suits_in}
 use Rattle.cls_rows.proofs.Settled.{IsPlain, row_settles}
 use Rattle.cls_rows.proofs.Coming.{stays_settled, settled_comes, settles_come, went_settles}
 use Rattle.cls_rows.proofs.Members.{not_text, takes_typed, return_none, return_some, return_wrong, read_plain, write_plain, make_plain}
-use Rattle.cls_rows.proofs.Members.{MayCall, call_types, call_plain}
+use Rattle.cls_rows.proofs.Members.{MayCall, call_types, call_plain, map_get, get_map}
 
 get_within : {A : Type 0} (xs : List A) (i : ℕ) (a : A) → slice_get xs i ≡ Some a → i < length xs
 get_within [] i a e = absurd (cc e)
@@ -80,17 +80,6 @@ class_missed p k a i e h =
     let n = a.classes in
     let c = get_some k.classes.items i (omega (arith, n, h)) in
     let no : Some c.0 ≡ None = sym c.1 ∙ e in cc no
-
-map_get : {A B : Type 0} (g : A → B) (xs : List A) (i : ℕ) (y : B) → slice_get (map g xs) i ≡ Some y →
-    (x : A) × ((slice_get xs i ≡ Some x) × (g x ≡ y))
-map_get g [] i y e = absurd (cc e)
-map_get g (x ∷ xs) zero y e = (x, (refl, cc e))
-map_get g (x ∷ xs) (suc i) y e = map_get g xs i y e
-
-get_map : {A B : Type 0} (g : A → B) (xs : List A) (i : ℕ) (x : A) → slice_get xs i ≡ Some x → slice_get (map g xs) i ≡ Some (g x)
-get_map g [] i x e = absurd (cc e)
-get_map g (y ∷ xs) zero x e = ap (option_map g) e
-get_map g (y ∷ xs) (suc i) x e = get_map g xs i x e
 
 -- what a row names is a field of the class's own, and kept
 pub field_there : (p : Program) (names : List Name) (c f : ℕ) (x : ClassKinds) → IsKept p names c x → NamesField p c f →

@@ -32,13 +32,13 @@ use Rattle.cls_rows.proofs.Alike.{AllAlike, both_say, sorted_says, kind_alike}
 use Rattle.cls_rows.proofs.Settled.{IsPlain}
 
 -- an element of a list that is made of another
-map_get : {A B : Type 0} (g : A → B) (xs : List A) (i : ℕ) (y : B) → slice_get (map g xs) i ≡ Some y →
+pub map_get : {A B : Type 0} (g : A → B) (xs : List A) (i : ℕ) (y : B) → slice_get (map g xs) i ≡ Some y →
     (x : A) × ((slice_get xs i ≡ Some x) × (g x ≡ y))
 map_get g [] i y e = absurd (cc e)
 map_get g (x ∷ xs) zero y e = (x, (refl, cc e))
 map_get g (x ∷ xs) (suc i) y e = map_get g xs i y e
 
-get_map : {A B : Type 0} (g : A → B) (xs : List A) (i : ℕ) (x : A) → slice_get xs i ≡ Some x → slice_get (map g xs) i ≡ Some (g x)
+pub get_map : {A B : Type 0} (g : A → B) (xs : List A) (i : ℕ) (x : A) → slice_get xs i ≡ Some x → slice_get (map g xs) i ≡ Some (g x)
 get_map g [] i x e = absurd (cc e)
 get_map g (y ∷ xs) zero x e = ap (option_map g) e
 get_map g (y ∷ xs) (suc i) x e = get_map g xs i x e

@@ -50,7 +50,7 @@ use Rattle.gen_sound.specs.Standing.{return_of}
 use Rattle.gen_sound.proofs.Plain.{ArePlain}
 use Rattle.gen_sound.specs.Begun.{outermost}
 use Rattle.gen_sound.proofs.Steps.{stays, follows_paid}
-use Rattle.gen_sound.proofs.Acts.{acts_well}
+use Rattle.cls_verify.proofs.Acts.{acts_well}
 use Rattle.gen_sound.proofs.Taking.{step_is}
 use Rattle.gen_sound.proofs.Linkage.{Linkage}
 use Rattle.gen_sound.proofs.Entering.{with_object, first_locals, row_first}

@@ -45,10 +45,10 @@ use Rattle.world_meant_law.specs.Meant.{Holds}
 use Rattle.gen_sound.specs.Standing.{Returning, return_of}
 use Rattle.gen_sound.proofs.Steps.{stays, comes_on, lead_of, ClosedBefore, follows_then}
 use Rattle.gen_sound.proofs.Peers.{seen_holds}
-use Rattle.gen_sound.proofs.Acts.{AllMeet, acts_well, as_many}
+use Rattle.cls_verify.proofs.Acts.{AllMeet, acts_well, as_many}
 use Rattle.gen_sound.proofs.Taking.{step_is}
-use Rattle.gen_sound.proofs.Slots.{sort_of}
-use Rattle.gen_sound.proofs.Linkage.{Linkage, MethodStands, invoke, calling_of}
+use Rattle.gen_sound.proofs.Instructions.{sort_of}
+use Rattle.gen_sound.proofs.Linkage.{Linkage, MethodStands}
 use Rattle.gen_sound.proofs.Fitting.{all_meet, object_fits, returned_fits, has_result}
 use Rattle.gen_sound.proofs.Entering.{with_object, first_locals, params_usable, args_fit}
 

@@ -33,8 +33,9 @@ use Rattle.gen_sound.specs.Arriving.{Arrives}
 use Rattle.gen_sound.specs.Standing.{HoldsRow, Stands, Leaps, CompletesAt}
 use Rattle.gen_sound.proofs.Steps.{comes_on, comes_lead, ClosedBefore, follows_later, follows_paid}
 use Rattle.gen_sound.proofs.Forms.{arrives_later, jumps_later, jump_arrives, goto_goes, next_place, Value_at}
-use Rattle.gen_sound.proofs.Slots.{sort_of}
-use Rattle.gen_sound.proofs.Rows.{set_there, laid_less}
+use Rattle.gen_sound.proofs.Instructions.{sort_of}
+use Rattle.vm_world_law.proofs.Lists.{set_there}
+use Rattle.gen_sound.proofs.Rows.{laid_less}
 use Rattle.gen_sound.proofs.LocalSteps.{store_goes}
 
 -- the object stays in local 0 where another local is set

@@ -41,7 +41,7 @@ first_locals k args = map Some args ++ replicate (max_locals k - length args) No
 
 -- a statement takes locals above those that are taken
 mutual
-  at_least : (n : ℕ) (s : Stmt) → n ≤ locals_of n s
+  pub at_least : (n : ℕ) (s : Stmt) → n ≤ locals_of n s
   at_least n (Block q body end) = at_least_all n body
   at_least n (Empty q) = omega arith
   at_least n (Local q k e) = omega arith
@@ -62,7 +62,7 @@ mutual
   at_least_all n (Then s more) = let h = at_least n s in omega (arith, h)
   at_least_all n (Declare q k e more) = let h = at_least_all (suc n) more in omega (arith, h)
 
-  at_least_groups : (n : ℕ) (gs : Groups) → n ≤ locals_of_groups n gs
+  pub at_least_groups : (n : ℕ) (gs : Groups) → n ≤ locals_of_groups n gs
   at_least_groups n NoGroup = omega arith
   at_least_groups n (Group labels body end more) = let h = at_least_all n body in omega (arith, h)
 

@@ -56,8 +56,7 @@ use Rattle.gen_sound.proofs.Completing.{Stand, Complete, DoesHere, goto_leaps, c
 use Rattle.gen_sound.proofs.Control.{if_does, if_else_does, while_does, do_does, next_does}
 use Rattle.gen_sound.proofs.Switches.{switch_does, chosen_does, groups_match}
 use Rattle.gen_sound.proofs.Comparing.{written}
-use Rattle.gen_sound.proofs.Uses.{used, test_unless, test_when, declares, assigns, returns}
-use Rattle.gen_sound.proofs.Effects.{prints, drops}
+use Rattle.gen_sound.proofs.Uses.{used, test_unless, test_when, declares, assigns, returns, prints, drops}
 
 left_fits : (a b c : ℕ) → max a b ≤ c → a ≤ c
 left_fits a b c h = omega (arith, h)

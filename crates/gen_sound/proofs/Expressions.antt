@@ -77,8 +77,9 @@ use Rattle.gen_sound.proofs.Calling.{CallsDo, static_calls, helper_calls, protoc
 use Rattle.gen_sound.proofs.Printing.{shown_type}
 use Rattle.gen_sound.proofs.Joining.{joins_does}
 use Rattle.gen_sound.proofs.Joining as joining
-use Rattle.gen_sound.proofs.Nulls.{equals_null, differs_null, null_equals, null_differs}
-use Rattle.gen_sound.proofs.Leaves.{constant_does, literal_does, neg_does, push_does}
+use Rattle.gen_sound.proofs.Operations.{equals_null, differs_null, null_equals, null_differs}
+use Rattle.gen_sound.proofs.Instructions.{push_does}
+use Rattle.gen_sound.proofs.Leaves.{constant_does, literal_does, neg_does}
 
 module _ (p : Program) (m : Method) where
   comparing_room : (c : Compared) (d e : Depths) → 1 ≤ (comparison_depths c d e).value

@@ -22,8 +22,8 @@ use Rattle.jv_sound.proofs.Worlds.{World, Fits, AllFit}
 use Rattle.jv_sound.proofs.Worlds as worlds
 use Rattle.jv_sound.proofs.Objects.{Heap, IsObject, there}
 use Rattle.gen_sound.specs.Related.{flat, object_in, heap_in}
-use Rattle.gen_sound.proofs.Acts.{AllMeet}
-use Rattle.gen_sound.proofs.Slots.{sort_of}
+use Rattle.cls_verify.proofs.Acts.{AllMeet}
+use Rattle.gen_sound.proofs.Instructions.{sort_of}
 use Rattle.gen_sound.proofs.Linkage.{Linkage}
 
 pub pass : {A : Type 0} (a b : Bool) (x y : A) → b ≡ true → (if a || b then x else y) ≡ x

@@ -1,7 +1,7 @@
 -- Constants and locals.
-use Rattle.std.proofs.Common.{◌≡◌, ℕ, zero, suc, ◌+◌, ◌≤◌, Bool, true, false, List, [], ◌∷◌, ◌++◌, length, Option, Some, None, refl}
-use Rattle.std.proofs.Common.{sym, subst, arith, ℤ, pos, negsuc}
-use Rattle.std.specs.Prelude.{if◌then◌else◌, slice_get, neg_ℤ}
+use Rattle.std.proofs.Common.{◌≡◌, ℕ, suc, ◌+◌, ◌≤◌, Bool, true, false, List, [], ◌∷◌, ◌++◌, length, Option, Some, None, refl}
+use Rattle.std.proofs.Common.{sym, subst, arith}
+use Rattle.std.specs.Prelude.{slice_get, neg_ℤ}
 use Rattle.jv_values.specs.Values.{Value, Shared, Inputs}
 use Rattle.jv_values.specs.Values as values
 use Rattle.jv_values.specs.Doing.{Run, Outcome, Gives, Ends, and_then, ◌>>=◌, give, found, valued, valuing}
@@ -13,11 +13,11 @@ use Rattle.vm_model.specs.declared.value.Value.TheVariants as held
 use Rattle.vm_model.specs.Program as linked
 use Rattle.vm_model.specs.Links.{Outline}
 use Rattle.vm_model.specs.Messages.{Messages}
-use Rattle.vm_model.specs.Actions.{Push, Negate, plain_action}
+use Rattle.vm_model.specs.Actions.{Push, Negate}
 use Rattle.vm_model.specs.Tests.{number}
 use Rattle.vm_model.specs.Step.{step}
 use Rattle.cls_tree.specs.Pool.{Int}
-use Rattle.gen_rules.specs.Symbolic.{Instr, Number, Constant, plain, iconst, push, push_truth, ineg, goto, lies_within}
+use Rattle.gen_rules.specs.Symbolic.{Instr, Constant, push_truth, ineg, goto}
 use Rattle.gen_rules.specs.Spans.{◌then◌, Forms, one, by_value}
 use Rattle.gen_rules.specs.Templates.{literal}
 use Rattle.gen_rules.specs.Frames.{max_stack, Depths, depths_by_value}
@@ -29,42 +29,6 @@ use Rattle.gen_sound.specs.Arriving.{Arrives, Jumps}
 use Rattle.gen_sound.proofs.Steps.{stays}
 use Rattle.gen_sound.proofs.Taking.{step_takes}
 use Rattle.gen_sound.proofs.Forms.{Does, does_value, At, Value_at, value_closed, goes, push_goes, goto_goes}
-
--- an int is pushed, by one instruction or another
-short : (n : ℕ) → n ≤ 5 → plain_action (3 + n) ≡ Some (Push (held.Int (pos n)))
-short zero h = refl
-short (suc zero) h = refl
-short (suc (suc zero)) h = refl
-short (suc (suc (suc zero))) h = refl
-short (suc (suc (suc (suc zero)))) h = refl
-short (suc (suc (suc (suc (suc zero))))) h = refl
-short (suc (suc (suc (suc (suc (suc n)))))) h = absurd (omega (arith, h))
-
-at_most_five : (n : ℕ) → lies_within (negsuc 0) (pos 5) (pos n) ≡ true → n ≤ 5
-at_most_five n h = grind (arith, h)
-
-not_below : (n : ℕ) → lies_within (negsuc 0) (pos 5) (negsuc (suc n)) ≡ true → ⊥
-not_below n h = grind (arith, h)
-
-one_of : (os : List Outline) (a b c : Bool) (v : Held) (i j k l : Instr) → (a ≡ true → action_of os i ≡ Some (Push v)) →
-    action_of os j ≡ Some (Push v) → action_of os k ≡ Some (Push v) → action_of os l ≡ Some (Push v) →
-    action_of os (if a then i else if b then j else if c then k else l) ≡ Some (Push v)
-one_of os true b c v i j k l f g h e = f refl
-one_of os false true c v i j k l f g h e = g
-one_of os false false true v i j k l f g h e = h
-one_of os false false false v i j k l f g h e = e
-
-pushed_by : (os : List Outline) (z : ℤ) → (lies_within (negsuc 0) (pos 5) z ≡ true → plain_action (iconst z) ≡ Some (Push (held.Int z))) →
-    action_of os (push z) ≡ Some (Push (held.Int z))
-pushed_by os z f = one_of os (lies_within (negsuc 0) (pos 5) z) (lies_within (negsuc 127) (pos 127) z) (lies_within (negsuc 32767) (pos
-    32767) z)
-    (held.Int z) (plain (iconst z)) (record { op = 16; operand = Number z }) (record { op = 17; operand = Number z })
-    (record { op = 18; operand = Constant (Int z) }) f refl refl refl
-
-pub push_does : (os : List Outline) (z : ℤ) → action_of os (push z) ≡ Some (Push (held.Int z))
-push_does os (pos n) = pushed_by os (pos n) (λ h. short n (at_most_five n h))
-push_does os (negsuc zero) = refl
-push_does os (negsuc (suc n)) = pushed_by os (negsuc (suc n)) (λ h. absurd (not_below n h))
 
 module _ (p : Program) (ok : IsCore p) (os : List Outline) (program : linked.Program) (inputs : Inputs) (me : ℕ) (r : Running) (m : Method)
     (code : List Instr) (runs : RunsCode p os program me r m code) (n : ℕ) where

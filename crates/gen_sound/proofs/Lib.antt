@@ -1,5 +1,5 @@
 pub mod Steps
-pub mod Acts
+pub mod Instructions
 pub mod Taking
 pub mod Forms
 pub mod Logic
@@ -12,16 +12,14 @@ pub mod LocalSteps
 pub mod Peers
 pub mod Sessions
 pub mod Joining
-pub mod Nulls
 pub mod Expressions
 pub mod Comparing
 pub mod Comparisons
 pub mod Slots
 pub mod Completing
 pub mod Control
-pub mod Uses
 pub mod Printing
-pub mod Effects
+pub mod Uses
 pub mod Switches
 pub mod Execution
 pub mod Bodies

@@ -8,12 +8,12 @@ use Rattle.mg_text.specs.Call.{Name}
 use Rattle.ts_tree.specs.Proper.{AreDistinct}
 use Rattle.cls_tree.specs.Pool.{Reference}
 use Rattle.vm_model.specs.Program as linked
-use Rattle.vm_model.specs.Types.{FieldType, IsPlain, IsPlainResult, signature_text, main_signature, signature_of, type_of}
+use Rattle.vm_model.specs.Types.{IsPlain, IsPlainResult, signature_text, main_signature, signature_of, type_of}
 use Rattle.vm_model.specs.Types as descriptors
 use Rattle.vm_model.proofs.Spelled.{method_exact, field_exact}
 use Rattle.vm_model.specs.Links.{Outline, is_member, is_static, built_in, built_members, member_args, named_args, loaded_member}
 use Rattle.vm_model.specs.Links.{method_of_class, args_by, field_of_class, field_made}
-use Rattle.vm_model.specs.Actions.{Calling, Telling, Silent, Static, Call, action, Read, Write, Make}
+use Rattle.vm_model.specs.Actions.{Silent, Call, action, Read, Write, Make}
 use Rattle.vm_model.specs.Tests.{name_of_method}
 use Rattle.jv_core.specs.declared.program.CoreType.{CoreType}
 use Rattle.jv_core.specs.declared.program.CoreType.TheVariants as types
@@ -23,15 +23,15 @@ use Rattle.jv_core.specs.Tree.{Field, Class, Method, Program, Expr, Null, New, T
 use Rattle.jv_core.specs.Lookup.{text_at, param_types, is_main}
 use Rattle.jv_core.specs.Members.{IsUsable, IsResult, IsField}
 use Rattle.jv_core.specs.Conditions.{IsMethod, IsCore}
-use Rattle.gen_rules.specs.Symbolic.{Instr, invokevirtual, invokespecial, invokestatic, getfield, putfield, new}
+use Rattle.gen_rules.specs.Symbolic.{Instr, invokespecial, getfield, putfield, new}
 use Rattle.gen_rules.specs.Members.{member, class_name, type_in, result_in, descriptor_of, method_descriptor, method_member}
-use Rattle.gen_rules.specs.Members.{method_reference, field_member, field_reference, field_descriptor, init_of}
+use Rattle.gen_rules.specs.Members.{method_reference, field_member, field_reference, field_descriptor, init_of, init_descriptor}
 use Rattle.mg_text.specs.declared.place.Place.{Place}
-use Rattle.gen_rules.specs.Frames.{depth_of_all}
+use Rattle.gen_rules.specs.Frames.{depth_of_all, max_locals}
 use Rattle.gen_rules.specs.Templates.{IsCode}
 use Rattle.gen_rules.specs.Classes.{Compiled, compiled, access_of, constructors, methods_in, IsCompiledClass, IsCompiled, class_file}
-use Rattle.gen_rules.specs.Classes.{constructor, constructor_code, constructor_stack, all_initialised}
-use Rattle.gen_rules.specs.Linked.{declared_method, or_nothing, outlines_of, linked_program, declared_field}
+use Rattle.gen_rules.specs.Classes.{constructor, constructor_code, constructor_stack, all_initialised, method_in_file}
+use Rattle.gen_rules.specs.Linked.{declared_method, or_nothing, outlines_of, linked_method, linked_program, declared_field}
 use Rattle.jv_sound.proofs.Lists.{each_at}
 use Rattle.jv_sound.proofs.Expressions.{method_ok}
 use Rattle.gen_links.specs.Files.{IsPlainName, HasPlainNames}
@@ -39,26 +39,20 @@ use Rattle.gen_links.proofs.Apart.{other_than, not_object, not_string, not_print
 use Rattle.gen_links.proofs.Called.{Among, among, plain_names}
 use Rattle.gen_links.proofs.Described.{params_usable}
 use Rattle.gen_links.proofs.Looked.{named_class, plain_class, member_named, same_text}
-use Rattle.gen_sound.specs.Related.{Running, action_of, RunsCode}
+use Rattle.gen_sound.specs.Related.{Running, action_of, invoke, calling_of, RunsCode}
 use Rattle.gen_sound.proofs.Loading.{MethodAt, method_at, linked_runs, compiled_runs}
 use Rattle.gen_sound.proofs.Starting.{LinkedClass, linked_class_at, CompiledAt, compiled_at, Behind, behind, names_of, all_apart, in_class}
-
--- the instruction that calls a method of this kind, and how it calls it; `main` isn't called
-abbrev pub invoke : MethodKind → Reference → Instr
-invoke kinds.Protocol r = invokevirtual r
-invoke kinds.Helper r = invokespecial r
-invoke _ r = invokestatic r
-
-abbrev pub calling_of : MethodKind → Calling
-calling_of kinds.Protocol = Telling
-calling_of kinds.Helper = Silent
-calling_of _ = Static
 
 -- A method of a core in a linked program: its frames run its code, and the instructions that call it find it.
 pub record MethodStands (p : Program) (os : List Outline) (program : linked.Program) (me : ℕ) (number : ℕ) (k : Method) : Type 0 where
   pub method : ℕ
   pub code : List Instr
   pub is_code : IsCode p k code
+  pub is : linked.MethodOf
+  pub there : linked.method_at program k.class method ≡ Some is
+  pub static : is.is_static ≡ is_static (access_of k.kind)
+  pub locals : is.max_locals ≡ max_locals k
+  pub descriptor : is.descriptor ≡ method_descriptor p k
   pub runs : (r : Running) → r.class ≡ k.class → r.method ≡ method → RunsCode p os program me r k code
   pub named : name_of_method (linked.method_at program k.class method) ≡ text_at p k.name
   pub signature : k.kind ≢ kinds.Main →
@@ -95,6 +89,11 @@ constructor_method p c k = record {
 
 -- The constructor of a class in a linked program: `new` finds the class, the call finds the constructor, and its frame runs its code.
 pub record ConstructorStands (p : Program) (os : List Outline) (program : linked.Program) (me : ℕ) (c : ℕ) (k : Class) : Type 0 where
+  pub is : linked.MethodOf
+  pub there : linked.method_at program c 0 ≡ Some is
+  pub static : is.is_static ≡ false
+  pub locals : is.max_locals ≡ 1
+  pub descriptor : is.descriptor ≡ init_descriptor
   pub makes : action_of os (new (class_name p c)) ≡ Some (Make c)
   pub called : action_of os (invokespecial (init_of (class_name p c))) ≡ Some (Call Silent c 0)
   pub runs : (r : Running) → r.class ≡ c → r.method ≡ 0 → RunsCode p os program me r (constructor_method p c k) (constructor_code p c k)
@@ -177,7 +176,7 @@ module _ (p : Program) (core : IsCore p) (plain : HasPlainNames p) (all : List (
   result_plain (types.Object c) h = type_plain (types.Object c) h
   result_plain (types.Enum e) h = tt
 
-  signature_is : (k : Method) → IsMethod p k → k.kind ≢ kinds.Main →
+  pub signature_is : (k : Method) → IsMethod p k → k.kind ≢ kinds.Main →
       signature_of (method_descriptor p k) ≡ Some (record { params = map (type_in p) (param_types k); result = result_in p k.result })
   signature_is k is n =
       let d : Name = descriptor_of p (param_types k) k.result in
@@ -280,13 +279,22 @@ module _ (p : Program) (core : IsCore p) (plain : HasPlainNames p) (all : List (
         ∙ ap (λ o. action 182 (or_nothing o))
         (found 182 false (not_182 reference plain_here) refl (subst (λ y. Fits false (access_of y)) (sym e) refl))
 
+    there : linked.method_at (linked_program p all) m.class b.number
+        ≡ Some (linked_method os (compiled p m x.code) (method_in_file (compiled p m x.code) j.pool).0)
+    there = ap (λ o. slice_get (linked.methods_in o) b.number) l.linked ∙ j.at
+
     pub method_stands : (me : ℕ) → MethodStands p os (linked_program p all) me number m
     method_stands me = record {
       method = b.number;
       code = x.code;
       is_code = x.is_code;
+      is = linked_method os (compiled p m x.code) (method_in_file (compiled p m x.code) j.pool).0;
+      there = there;
+      static = refl;
+      locals = refl;
+      descriptor = refl;
       runs = λ r e f. linked_runs p core plain all made me m.class b.number l.methods l.class_is m x.code here r e f;
-      named = ap (λ o. name_of_method (slice_get (linked.methods_in o) b.number)) l.linked ∙ ap name_of_method j.at;
+      named = ap name_of_method there;
       signature = λ n. signature_is m is n;
       called = called;
     }
@@ -360,8 +368,16 @@ module _ (p : Program) (core : IsCore p) (plain : HasPlainNames p) (all : List (
         ∙ ap (λ xs. position (is_member init.member false) (map declared_method xs)) first_is
         ∙ at_once (is_member init.member false) (declared_method (constructor p c k)) (map declared_method compiled_class.methods) refl)
 
+    abbrev init_at : MethodAt os lies.methods (class_file p k lies.methods).methods 0 (constructor p c k)
+    init_at = method_at os lies.methods _ 0 (constructor p c k) (ap (λ xs. slice_get xs 0) first_is)
+
     pub constructor_stands : (me : ℕ) → ConstructorStands p os (linked_program p all) me c k
     constructor_stands me = record {
+      is = linked_method os (constructor p c k) (method_in_file (constructor p c k) init_at.pool).0;
+      there = ap (λ o. slice_get (linked.methods_in o) 0) lies.linked ∙ init_at.at;
+      static = refl;
+      locals = refl;
+      descriptor = refl;
       makes = ap (λ o. action 187 (or_nothing (args_by linked.Class o))) (named_class p core plain all made.classes c k at);
       called = ap (λ o. action 183 (or_nothing o)) init_found;
       runs = λ r e f.

@@ -84,10 +84,11 @@ as_many : (is : List Instr) (pool : List Const) → length (all_numbered is pool
 as_many [] pool = refl
 as_many (i ∷ is) pool = ap suc (as_many is (numbered i pool).1)
 
-record LinkedAt (os : List Outline) (code : List linked.Instr) (place : ℕ) (i : Instr) : Type 0 where
-  instr : linked.Instr
-  at : slice_get code place ≡ Some instr
-  does : action instr.op instr.args ≡ action_of os i
+-- what is linked of an instruction stands at a place
+pub record LinkedAt (os : List Outline) (code : List linked.Instr) (place : ℕ) (i : Instr) : Type 0 where
+  pub instr : linked.Instr
+  pub at : slice_get code place ≡ Some instr
+  pub does : action instr.op instr.args ≡ action_of os i
 
 linked_at : (os : List Outline) (starts places : List ℕ) (is : List Instr) (pool : List Const) → length places ≡ length is →
     AllByRecursion IsPushed is → (place : ℕ) (i : Instr) → slice_get is place ≡ Some i →
@@ -134,6 +135,19 @@ class_at p os first (k ∷ ks) (x ∷ all) h (suc c) cs e =
     let g = class_at p os (suc first) ks all h.1 c cs e in
     record { class = g.class; at = g.at }
 
+-- the code of a compiled method stands in the linked one
+pub code_at : (p : Program) → IsCore p → HasPlainNames p → (all : List (List Compiled)) → IsCompiled p all → (class method : ℕ)
+    (cs : List Compiled) → slice_get all class ≡ Some cs → (x : Compiled) → slice_get cs method ≡ Some x → (pool : List Const)
+    (place : ℕ) (i : Instr) → slice_get x.code place ≡ Some i →
+    LinkedAt (outlines_of p p.classes all) (linked_method (outlines_of p p.classes all) x (method_in_file x pool).0).code place i
+code_at p core plain all made class method cs class_is x method_is pool place i h =
+    let os : List Outline = outlines_of p p.classes all in
+    let knows = (all_found p core plain all made.classes).knows in
+    let right = each_at (CodesRight os) all class (classes_right p os knows core.methods 0 p.classes all
+    (λ i k g. let same : i ≡ 0 + i = omega arith in subst (λ n. slice_get p.classes n ≡ Some k) same g) made.classes) class_is in
+    let pushed = all_pushed os (length x.code) x.code (each_at (λ c. AreRight os c.code) cs method right method_is) in
+    linked_at os _ _ x.code _ (length-starts 0 _ ∙ as_many x.code _) pushed place i h
+
 -- What runs of a compiled method: its frame has its sizes, and at each place stands what is linked of its instruction there.
 pub record RunsAs (os : List Outline) (program : linked.Program) (me : ℕ) (r : Running) (x : Compiled) : Type 0 where
   pub method : linked.MethodOf
@@ -150,10 +164,6 @@ pub compiled_runs : (p : Program) → IsCore p → HasPlainNames p → (all : Li
     (r : Running) → r.class ≡ class → r.method ≡ method → RunsAs (outlines_of p p.classes all) (linked_program p all) me r x
 compiled_runs p core plain all made me class method cs class_is x method_is r e f =
     let os : List Outline = outlines_of p p.classes all in
-    let knows = (all_found p core plain all made.classes).knows in
-    let right = each_at (CodesRight os) all class (classes_right p os knows core.methods 0 p.classes all
-    (λ i k g. let same : i ≡ 0 + i = omega arith in subst (λ n. slice_get p.classes n ≡ Some k) same g) made.classes) class_is in
-    let pushed = all_pushed os (length x.code) x.code (each_at (λ c. AreRight os c.code) cs method right method_is) in
     let k = class_at p os 0 p.classes all made.classes class cs class_is in
     let at = method_at os cs _ method x method_is in
     record {
@@ -166,7 +176,7 @@ compiled_runs p core plain all made me class method cs class_is x method_is r e 
       locals = refl;
       descriptor = refl;
       does = λ place i h q state.
-          let l = linked_at os _ _ x.code _ (length-starts 0 _ ∙ as_many x.code _) pushed place i h in
+          let l = code_at p core plain all made class method cs class_is x method_is at.pool place i h in
           ap (act_at (linked_program p all) q state me) l.at ∙ ap (act_some (linked_program p all) q state me) l.does;
     }
 

@@ -24,12 +24,11 @@ use Rattle.jv_sound.proofs.Worlds.{World}
 use Rattle.gen_sound.specs.Following.{Leads}
 use Rattle.gen_sound.specs.Related.{Running, flat, RunsCode}
 use Rattle.gen_sound.proofs.Steps.{lead_of}
-use Rattle.gen_sound.proofs.Acts.{acts_well}
+use Rattle.cls_verify.proofs.Acts.{acts_well}
 use Rattle.gen_sound.proofs.Taking.{step_is, most}
 use Rattle.gen_sound.proofs.Forms.{Does, does_value, At, goes}
 use Rattle.gen_sound.proofs.Leaves.{gives_value}
-use Rattle.gen_sound.proofs.Slots.{sort_of, load_does}
-use Rattle.gen_sound.proofs.Rows.{store_does}
+use Rattle.gen_sound.proofs.Instructions.{sort_of, load_does, store_does}
 
 -- what stays of the room of operands once one is taken
 one_less : (whole rest room : ℕ) → whole ≡ rest + 1 → rest ≤ room → whole - 1 + 0 ≤ room

@@ -44,9 +44,9 @@ use Rattle.gen_sound.specs.Following.{Moment, Comes, Leads}
 use Rattle.gen_sound.specs.Related.{Running, moment, flat, object_in, heap_in, action_of, RunsCode}
 use Rattle.gen_sound.proofs.Steps.{stays, comes_on, lead_of}
 use Rattle.gen_sound.proofs.LocalSteps.{load_goes}
-use Rattle.gen_sound.proofs.Acts.{AllMeet, acts_well, as_many}
+use Rattle.cls_verify.proofs.Acts.{AllMeet, acts_well, as_many}
 use Rattle.gen_sound.proofs.Taking.{step_is, step_takes}
-use Rattle.gen_sound.proofs.Leaves.{push_does}
+use Rattle.gen_sound.proofs.Instructions.{push_does}
 use Rattle.gen_sound.proofs.Calling.{waiting, inner}
 use Rattle.gen_sound.proofs.Forms.{goes as goes_there, push_goes}
 use Rattle.gen_sound.proofs.Linkage.{Linkage, ConstructorStands, sized, constructor_method}

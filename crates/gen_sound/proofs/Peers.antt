@@ -18,7 +18,7 @@ use Rattle.vm_model.specs.Step.{other_role}
 use Rattle.jv_sound.proofs.Lists.{some_is}
 use Rattle.world_meant_law.specs.Meant.{PeerHolds, Holds}
 use Rattle.world_meant_law.specs.Meant as meaning
-use Rattle.gen_sound.proofs.Rows.{set_here, set_there}
+use Rattle.vm_world_law.proofs.Lists.{set_here, set_there}
 
 -- What was taken.
 

@@ -1,72 +1,27 @@
 -- Locals of a method as they are set: the variables of a row stand in them.
-use Rattle.std.proofs.Common.{◌≡◌, ◌≢◌, ℕ, zero, suc, ◌+◌, ◌≤◌, ◌<◌, Bool, true, false, List, [], ◌∷◌, length, drop, Option, Some, None}
+use Rattle.std.proofs.Common.{◌≡◌, ◌≢◌, ℕ, suc, ◌+◌, ◌≤◌, ◌<◌, Bool, true, false, List, [], ◌∷◌, length, drop, Option, Some, None}
 use Rattle.std.proofs.Common.{refl}
 use Rattle.std.proofs.Common.{sym, ap, ◌∙◌, subst, arith}
-use Rattle.std.specs.Prelude.{slice_get, slice_set, nat_eq, nat_le, if◌then◌else◌}
+use Rattle.std.specs.Prelude.{slice_get, slice_set, nat_eq, if◌then◌else◌}
 use Rattle.jv_values.specs.Values.{Value, Row, put, over}
 use Rattle.jv_core.specs.declared.program.CoreType.{CoreType}
-use Rattle.jv_core.specs.declared.program.CoreType.TheVariants as types
 use Rattle.jv_core.specs.declared.program.MethodKind.{MethodKind}
 use Rattle.jv_core.specs.Tree.{Method, Program}
 use Rattle.vm_model.specs.declared.value.Value.{Value as Held}
-use Rattle.vm_model.specs.Links.{Outline}
-use Rattle.vm_model.specs.Actions.{Number, Reference, Store}
 use Rattle.vm_model.specs.Tests.{misfit_sort}
-use Rattle.gen_rules.specs.Symbolic.{store, istore, astore, plain, Local}
 use Rattle.gen_rules.specs.Locals.{first_local, next_local, local_of}
 use Rattle.jv_sound.proofs.Lists.{some_is}
 use Rattle.jv_sound.proofs.Worlds.{World, Fits, RowFits}
 use Rattle.jv_sound.proofs.Worlds as worlds
-use Rattle.gen_sound.specs.Related.{flat, Laid, action_of}
-use Rattle.gen_sound.proofs.Slots.{sort_of, as_long, turned}
+use Rattle.vm_world_law.proofs.Lists.{set_here, set_there}
+use Rattle.gen_sound.specs.Related.{flat, Laid}
+use Rattle.gen_sound.proofs.Instructions.{sort_of}
+use Rattle.gen_sound.proofs.Slots.{as_long, turned}
 
 -- Lists.
 
-pub set_here : {A : Type 0} (xs : List A) (i : ℕ) (x : A) → i < length xs → slice_get (slice_set xs i x) i ≡ Some x
-set_here [] i x h = absurd (omega (arith, h))
-set_here (y ∷ xs) zero x h = refl
-set_here (y ∷ xs) (suc i) x h = set_here xs i x (omega (arith, h))
-
-pub set_there : {A : Type 0} (xs : List A) (i j : ℕ) (x : A) → j ≢ i → slice_get (slice_set xs i x) j ≡ slice_get xs j
-set_there [] i j x n = refl
-set_there (y ∷ xs) zero zero x n = absurd (n refl)
-set_there (y ∷ xs) zero (suc j) x n = refl
-set_there (y ∷ xs) (suc i) zero x n = refl
-set_there (y ∷ xs) (suc i) (suc j) x n = set_there xs i j x (λ e. n (ap suc e))
-
 pub less_differs : (j i : ℕ) → j < i → j ≢ i
 less_differs j i h e = absurd (omega (arith, h, e))
-
--- Instructions that set locals.
-
-beyond : (k : ℕ) → nat_le (suc (suc (suc (suc k)))) 3 ≡ false
-beyond k = grind arith
-
-store_number : (os : List Outline) (k : ℕ) → action_of os (istore k) ≡ Some (Store Number k)
-store_number os zero = refl
-store_number os (suc zero) = refl
-store_number os (suc (suc zero)) = refl
-store_number os (suc (suc (suc zero))) = refl
-store_number os (suc (suc (suc (suc k)))) =
-    let n : ℕ = suc (suc (suc (suc k))) in
-    ap (λ b. action_of os (if b then plain (59 + n) else record { op = 54; operand = Local n })) (beyond k)
-
-store_reference : (os : List Outline) (k : ℕ) → action_of os (astore k) ≡ Some (Store Reference k)
-store_reference os zero = refl
-store_reference os (suc zero) = refl
-store_reference os (suc (suc zero)) = refl
-store_reference os (suc (suc (suc zero))) = refl
-store_reference os (suc (suc (suc (suc k)))) =
-    let n : ℕ = suc (suc (suc (suc k))) in
-    ap (λ b. action_of os (if b then plain (75 + n) else record { op = 58; operand = Local n })) (beyond k)
-
-pub store_does : (os : List Outline) (type : CoreType) (k : ℕ) → action_of os (store type k) ≡ Some (Store (sort_of type) k)
-store_does os types.Int k = store_number os k
-store_does os types.Boolean k = store_number os k
-store_does os types.Void k = store_number os k
-store_does os (types.Enum e) k = store_number os k
-store_does os types.Text k = store_reference os k
-store_does os (types.Object c) k = store_reference os k
 
 pub fits_sort : (p : Program) (w : World) (v : Value) (t : CoreType) → Fits p w v t → misfit_sort (sort_of t) (flat v) ≡ None
 fits_sort p w v t worlds.int = refl

@@ -1,52 +1,14 @@
 -- Locals of a method: where they stand, and how they are read.
-use Rattle.std.proofs.Common.{◌≡◌, ℕ, zero, suc, ◌+◌, Bool, true, false, List, length, Option, Some, None, refl, ap, ◌∙◌, subst, arith}
-use Rattle.std.specs.Prelude.{slice_get, nat_eq, nat_le, if◌then◌else◌}
+use Rattle.std.proofs.Common.{◌≡◌, ℕ, suc, ◌+◌, Bool, true, false, List, length, Option, Some, None, refl, ap, ◌∙◌, subst, arith}
+use Rattle.std.specs.Prelude.{slice_get, nat_eq, if◌then◌else◌}
 use Rattle.jv_values.specs.Values.{Value, Row, find}
-use Rattle.jv_core.specs.declared.program.CoreType.{CoreType}
-use Rattle.jv_core.specs.declared.program.CoreType.TheVariants as types
 use Rattle.jv_core.specs.declared.program.MethodKind.{MethodKind}
 use Rattle.jv_core.specs.Tree.{Method, Program}
 use Rattle.vm_model.specs.declared.value.Value.{Value as Held}
-use Rattle.vm_model.specs.Links.{Outline}
-use Rattle.vm_model.specs.Actions.{Sort, Number, Reference, Load}
-use Rattle.gen_rules.specs.Symbolic.{load, iload, aload, plain, Local, is_reference}
 use Rattle.gen_rules.specs.Locals.{first_local, next_local, local_of}
 use Rattle.jv_sound.proofs.Worlds.{World, RowFits}
 use Rattle.jv_sound.proofs.Worlds as worlds
-use Rattle.gen_sound.specs.Related.{flat, Laid, action_of}
-
--- the sort of the values of a type
-abbrev pub sort_of : CoreType → Sort
-sort_of type = if is_reference type then Reference else Number
-
-beyond : (k : ℕ) → nat_le (suc (suc (suc (suc k)))) 3 ≡ false
-beyond k = grind arith
-
-load_number : (os : List Outline) (k : ℕ) → action_of os (iload k) ≡ Some (Load Number k)
-load_number os zero = refl
-load_number os (suc zero) = refl
-load_number os (suc (suc zero)) = refl
-load_number os (suc (suc (suc zero))) = refl
-load_number os (suc (suc (suc (suc k)))) =
-    let n : ℕ = suc (suc (suc (suc k))) in
-    ap (λ b. action_of os (if b then plain (26 + n) else record { op = 21; operand = Local n })) (beyond k)
-
-load_reference : (os : List Outline) (k : ℕ) → action_of os (aload k) ≡ Some (Load Reference k)
-load_reference os zero = refl
-load_reference os (suc zero) = refl
-load_reference os (suc (suc zero)) = refl
-load_reference os (suc (suc (suc zero))) = refl
-load_reference os (suc (suc (suc (suc k)))) =
-    let n : ℕ = suc (suc (suc (suc k))) in
-    ap (λ b. action_of os (if b then plain (42 + n) else record { op = 25; operand = Local n })) (beyond k)
-
-pub load_does : (os : List Outline) (type : CoreType) (k : ℕ) → action_of os (load type k) ≡ Some (Load (sort_of type) k)
-load_does os types.Int k = load_number os k
-load_does os types.Boolean k = load_number os k
-load_does os types.Void k = load_number os k
-load_does os (types.Enum e) k = load_number os k
-load_does os types.Text k = load_reference os k
-load_does os (types.Object c) k = load_reference os k
+use Rattle.gen_sound.specs.Related.{flat, Laid}
 
 module _ (p : Program) (m : Method) where
   pub as_long : {w : World} {sc : List ℕ} {row : Row ℕ} → RowFits p m w sc row → length row ≡ length sc

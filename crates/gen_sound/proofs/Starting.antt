@@ -81,7 +81,7 @@ linked_class_at p os first (x ∷ ks) (cs ∷ all) h (suc i) k e =
       outline = g.outline;
     }
 
-linked_names : (p : Program) (os : List Outline) (first : ℕ) (ks : List Class) (all : List (List Compiled)) →
+pub linked_names : (p : Program) (os : List Outline) (first : ℕ) (ks : List Class) (all : List (List Compiled)) →
     AreCompiledClasses p first ks all → map (λ c. c.name) (linked_classes p os ks all) ≡ map (λ k. text_at p k.name) ks
 linked_names p os first [] [] h = refl
 linked_names p os first [] (x ∷ all) h = absurd h

@@ -15,7 +15,7 @@ use Rattle.vm_model.specs.Step.{step, act, act_at, act_some, acts, code_in}
 use Rattle.gen_rules.specs.Symbolic.{Instr}
 use Rattle.gen_rules.specs.Frames.{max_stack}
 use Rattle.gen_sound.specs.Related.{Running, moment, heap_in, action_of, RunsCode}
-use Rattle.gen_sound.proofs.Acts.{AllMeet, acts_well, as_many}
+use Rattle.cls_verify.proofs.Acts.{AllMeet, acts_well, as_many}
 
 -- what stays of the room of operands once some are taken
 left_room : (whole rest args takes gives most : ℕ) → whole ≡ rest + args → takes ≡ args → rest + gives ≤ most →

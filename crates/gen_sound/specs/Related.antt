@@ -12,10 +12,13 @@ use Rattle.vm_model.specs.Messages.{Messages}
 use Rattle.vm_model.specs.Step.{truth}
 use Rattle.vm_model.specs.Program as linked
 use Rattle.vm_model.specs.Links.{Outline}
-use Rattle.vm_model.specs.Actions.{Action, action}
+use Rattle.vm_model.specs.Actions.{Action, Calling, Telling, Silent, Static, action}
+use Rattle.cls_tree.specs.Pool.{Reference}
+use Rattle.jv_core.specs.declared.program.MethodKind.{MethodKind}
+use Rattle.jv_core.specs.declared.program.MethodKind.TheVariants as kinds
 use Rattle.vm_model.specs.Step.{act_at, act_some}
 use Rattle.jv_core.specs.Tree.{Method}
-use Rattle.gen_rules.specs.Symbolic.{Instr}
+use Rattle.gen_rules.specs.Symbolic.{Instr, invokevirtual, invokespecial, invokestatic}
 use Rattle.gen_rules.specs.Frames.{max_stack, max_locals}
 use Rattle.gen_rules.specs.Members.{method_descriptor}
 use Rattle.gen_rules.specs.Linked.{linked_operand}
@@ -86,6 +89,17 @@ moment p r place operands locals s q = record {
 -- what an instruction does, where these are the classes
 abbrev pub action_of : List Outline → Instr → Option Action
 action_of os i = action i.op (linked_operand os i.op i.operand)
+
+-- the instruction that calls a method of this kind, and how it calls it; `main` isn't called
+abbrev pub invoke : MethodKind → Reference → Instr
+invoke kinds.Protocol r = invokevirtual r
+invoke kinds.Helper r = invokespecial r
+invoke _ r = invokestatic r
+
+abbrev pub calling_of : MethodKind → Calling
+calling_of kinds.Protocol = Telling
+calling_of kinds.Helper = Silent
+calling_of _ = Static
 
 -- The code of a method runs: its frame is that of the method, and at each place stands what is linked of its instruction there.
 pub record RunsCode (p : Program) (os : List Outline) (program : linked.Program) (me : ℕ) (r : Running) (m : Method) (code : List Instr)

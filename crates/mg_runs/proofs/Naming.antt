@@ -1,8 +1,7 @@
 -- Methods and classes by their names.
-use Rattle.std.proofs.Common.{◌≡◌, ◌≢◌, ◌↔◌, ◌&&◌, ◌||◌, ◌+◌, IsTrue, ℕ, suc, Bool, true, false, not, cond, List, [], ◌∷◌, length, map}
-use Rattle.std.proofs.Common.{Some, None, nat_lt, nat_eq, refl, sym, ap, ◌∙◌}
-use Rattle.std.proofs.lemmas.List.{length-map}
-use Rattle.std.specs.List.{position, position_or_len, list_any}
+use Rattle.std.proofs.Common.{◌≡◌, ◌≢◌, ◌↔◌, ◌&&◌, ◌||◌, IsTrue, ℕ, suc, Bool, true, false, List, [], ◌∷◌, map}
+use Rattle.std.proofs.Common.{Some, None, nat_eq, refl, sym, ap, ◌∙◌}
+use Rattle.std.specs.List.{list_any}
 use Rattle.mg_text.specs.Call.{Name}
 use Rattle.jv_core.specs.Tree.{Method, Program}
 use Rattle.jv_core.specs.Lookup.{is_main, class_numbered}
@@ -10,15 +9,6 @@ use Rattle.jv_core.specs.Meaning.{main_in, main_of}
 use Rattle.std.specs.Prelude.{option_and_then}
 
 module _ {A B : Type 0} (f : A → B) (p : B → Bool) where
-  prefix-map : (xs : List A) → position_or_len p (map f xs) ≡ position_or_len (λ x. p (f x)) xs
-  prefix-map [] = refl
-  prefix-map (x ∷ xs) = ap (λ n. cond (not (p (f x))) (1 + n) 0) (prefix-map xs)
-
-  pub position-map : (xs : List A) → position p (map f xs) ≡ position (λ x. p (f x)) xs
-  position-map xs =
-      ap (λ n. cond (nat_lt n (length (map f xs))) (Some n) None) (prefix-map xs)
-      ∙ ap (λ k. cond (nat_lt (position_or_len (λ x. p (f x)) xs) k) (Some (position_or_len (λ x. p (f x)) xs)) None) (length-map xs f)
-
   pub any-map : (xs : List A) → list_any p (map f xs) ≡ list_any (λ x. p (f x)) xs
   any-map [] = refl
   any-map (x ∷ xs) = ap (λ (b : Bool). p (f x) || b) (any-map xs)

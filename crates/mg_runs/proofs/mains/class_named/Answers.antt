@@ -4,7 +4,7 @@ use Rattle.jv_core.specs.Core.{tree_of}
 use Rattle.jv_core.specs.Lookup.{text_at}
 use Rattle.jv_core.specs.Tree.{Class}
 use Rattle.jv_core.specs.View.{class_of}
-use Rattle.mg_runs.proofs.Naming.{position-map}
+use Rattle.vm_step.proofs.Places.{position-map}
 use Rattle.mg_runs.proofs.mains.class_named.Goals as goal
 
 pub returns : goal.returns
