@@ -25,6 +25,7 @@ use Rattle.mg_runs.specs.View.{Shows, IsOfRun}
 use Rattle.mg_top.specs.Commands.{prints, kept_in, role_mains_of, run_said, run_printed, status_of, Gives, checked, ran, refined, refined_status}
 use Rattle.mg_top.specs.Commands.{verified}
 use Rattle.mg_verified.specs.Verified.{AreVerified}
+use Rattle.mg_typed_law.specs.Laws.{RunsAreTypable}
 use Rattle.mg_top.specs.Commands.{IsRefused, judged_names, Yields, gives, refused}
 use Rattle.mg_refined.specs.Refined.{AreJudged}
 use Rattle.mg_read.specs.First.{Judged, with_earlier}
@@ -150,13 +151,13 @@ run_asked asked files mains order limit named shown m o l n h =
     (subst (λ (z : List RoleMain). IsOfRun files z order limit named asked.traced shown) m h)))
 
 -- the class files of a run, what it printed, its trace and the lines of its roles
-pub run_given : (asked : Asked) (files : List Word) (contents : List (List ℕ)) (mains : List RoleMain) (order : List ℕ) (limit : ℕ)
-    (named : Bool) (shown : Ran) (d : Delivery) → mains ≡ role_mains_of asked → order ≡ order_of asked → limit ≡ limit_of asked →
+pub run_given : RunsAreTypable → (asked : Asked) (files : List Word) (contents : List (List ℕ)) (mains : List RoleMain)
+    (order : List ℕ) (limit : ℕ) (named : Bool) (shown : Ran) (d : Delivery) → mains ≡ role_mains_of asked → order ≡ order_of asked → limit ≡ limit_of asked →
     named ≡ are_named asked → IsOfRun (sources files contents) mains order limit named asked.traced shown →
     d.actions.items ≡ shown_so asked shown.files.items shown.printed shown.trace (names_of mains)
     (map (λ r. r.instructions) shown.roles.items) (map (λ r. r.stand) shown.roles.items) →
     d.status ≡ status_of (map (λ r. r.stand) shown.roles.items) → Gives (Run asked files) contents d.actions.items d.status
-run_given asked files contents mains order limit named shown d m o l n given actions status =
+run_given typable asked files contents mains order limit named shown d m o l n given actions status =
     let h : IsOfRun (sources files contents) (role_mains_of asked) (order_of asked) (limit_of asked) (are_named asked) asked.traced shown =
     run_asked asked (sources files contents) mains order limit named shown m o l n given in
     gives_so (Run asked files) contents (shown_by asked shown) (status_of (map (λ r. r.stand) shown.roles.items)) d
@@ -164,7 +165,8 @@ run_given asked files contents mains order limit named shown d m o l n given act
     (map (λ r. r.instructions) shown.roles.items) (map (λ r. r.stand) shown.roles.items)) m) status
     (subst (λ (z : Status). Gives (Run asked files) contents (shown_by asked shown) z) (ap status_of (sym h.shows.stands))
     (subst (λ (z : List Action). Gives (Run asked files) contents z (status_of (stands_in h.run.program h.run.last)))
-    (sym (shown_same asked h.run shown h.shows)) (ran h.run h.is)))
+    (sym (shown_same asked h.run shown h.shows))
+    (ran h.run h.is (typable (sources files contents) (role_mains_of asked) (order_of asked) (limit_of asked) h.run h.is))))
 
 -- ---- what all commands give
 

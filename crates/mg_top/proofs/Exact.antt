@@ -111,17 +111,17 @@ not_both {r = r} (conforms {protocol = protocol} {calls = calls} {bytes = bytes}
     then_never (λ r h. excludes (source_of 0 protocol bytes) (Protocol local) r o h)
     (λ local' o' r h. listed_once (source_of 1 calls listed) list r l h) r h
 not_both {contents = contents} {r = r} (checked {files = files} core a report) (commands.check h) = not_unmet (sources files contents) core r a h
-not_both {contents = contents} {r = r} (compiled {files = files} written a) (commands.compile h) =
+not_both {contents = contents} {r = r} (compiled {files = files} written a typable) (commands.compile h) =
     not_exceeded (sources files contents) written r a h
-not_both {contents = contents} {r = r} (ran {asked = asked} {files = files} course is) (commands.run h) =
+not_both {contents = contents} {r = r} (ran {asked = asked} {files = files} course is typable) (commands.run h) =
     not_halted (sources files contents) (role_mains_of asked) (order_of asked) (limit_of asked) course r is h
-not_both {contents = contents} {r = r} (executed {asked = asked} {files = files} course is) (commands.exec h) =
+not_both {contents = contents} {r = r} (executed {asked = asked} {files = files} course is never) (commands.exec h) =
     not_stopped (sources files contents) (role_mains_of asked) (order_of asked) (limit_of asked) course r is h
 not_both {contents = contents} {r = r} (refined {files = files} a) (commands.refine h) =
     none_spelled (sources files contents) _ r a.spell h
 not_both {contents = contents} {r = r} (projected {files = files} written a) (commands.project h) =
     not_unprojected (sources files contents) written r a h
-not_both {r = r} (loaded {branches = n} {seed = seed} course is) (commands.load h) =
+not_both {r = r} (loaded {branches = n} {seed = seed} course is typable) (commands.load h) =
     not_halted (load_sources n seed) (role_mains_of load_asked) (order_of load_asked) (limit_of load_asked) course r is h
 not_both {contents = contents} {r = r} (verified {files = files} {line = line} a) (commands.verify h) =
     not_unverified (sources files contents) line r a h
@@ -144,16 +144,16 @@ gives_status {m = m} {n = n} (conforms {protocol = protocol} {calls = calls} {by
     (conforms {text = u} local' list' o' l' c') =
     conform_status (source_of 0 protocol bytes) (source_of 1 calls listed) local local' list list' t u m n o o' l l' c c'
 gives_status (checked core a r) (checked core' a' r') = refl
-gives_status (compiled written h) (compiled written' h') = refl
-gives_status {contents = contents} (ran {asked = asked} {files = files} r h) (ran s k) =
+gives_status (compiled written h typable) (compiled written' h' typable') = refl
+gives_status {contents = contents} (ran {asked = asked} {files = files} r h typable) (ran s k typable') =
     ap status_of (one_stand (sources files contents) (role_mains_of asked) (order_of asked) (limit_of asked) r s h k)
-gives_status {contents = contents} (executed {asked = asked} {files = files} r h) (executed s k) =
+gives_status {contents = contents} (executed {asked = asked} {files = files} r h never) (executed s k never') =
     let same = one_course (sources files contents) (role_mains_of asked) (order_of asked) (limit_of asked) r s h k in
     ap status_of (λ i. stands_in (same.program i) (same.last i))
 gives_status {contents = contents} (refined {files = files} {text = x} {stands = s} h) (refined {text = y} {stands = t} k) =
     ap refined_status (one_telling (sources files contents) x y s t h k).1
 gives_status (projected written h) (projected written' h') = refl
-gives_status (loaded {branches = n} {seed = seed} r h) (loaded s k) =
+gives_status (loaded {branches = n} {seed = seed} r h typable) (loaded s k typable') =
     ap status_of (one_stand (load_sources n seed) (role_mains_of load_asked) (order_of load_asked) (limit_of load_asked) r s h k)
 gives_status (verified h) (verified k) = refl
 
@@ -205,12 +205,12 @@ gives_proper : {command : Command} {contents : List (List ℕ)} {actions : List 
 gives_proper (translated t) = done_proper
 gives_proper (conforms local list o l c) = answer_proper c
 gives_proper (checked core a r) = done_proper
-gives_proper (compiled written h) = done_proper
-gives_proper (ran r h) = stands_proper (stands_in r.program r.last)
-gives_proper (executed r h) = stands_proper (stands_in r.program r.last)
+gives_proper (compiled written h typable) = done_proper
+gives_proper (ran r h typable) = stands_proper (stands_in r.program r.last)
+gives_proper (executed r h never) = stands_proper (stands_in r.program r.last)
 gives_proper (refined {stands = stands} h) = told_proper stands
 gives_proper (projected written h) = done_proper
-gives_proper (loaded r h) = stands_proper (stands_in r.program r.last)
+gives_proper (loaded r h typable) = stands_proper (stands_in r.program r.last)
 gives_proper (verified h) = done_proper
 
 pub proper : {command : Command} {contents : List (List ℕ)} {actions : List Action} {status : Status} →
@@ -255,12 +255,12 @@ gives_says : {command : Command} {contents : List (List ℕ)} {actions : List Ac
 gives_says (translated t) e = absurd cc
 gives_says (conforms local list o l c) e = answer_says c e
 gives_says (checked core a r) e = absurd cc
-gives_says (compiled written h) e = absurd cc
-gives_says (ran r h) e = absurd (never_refused (stands_in r.program r.last) e)
-gives_says (executed r h) e = absurd (never_refused (stands_in r.program r.last) e)
+gives_says (compiled written h typable) e = absurd cc
+gives_says (ran r h typable) e = absurd (never_refused (stands_in r.program r.last) e)
+gives_says (executed r h never) e = absurd (never_refused (stands_in r.program r.last) e)
 gives_says (refined {text = text} {stands = stands} h) e = told_says h.a h.b text stands h.tells e
 gives_says (projected written h) e = absurd cc
-gives_says (loaded r h) e = absurd (never_refused (stands_in r.program r.last) e)
+gives_says (loaded r h typable) e = absurd (never_refused (stands_in r.program r.last) e)
 gives_says (verified h) e = absurd cc
 
 pub refusal_says : {command : Command} {contents : List (List ℕ)} {actions : List Action} {status : Status} →
@@ -293,19 +293,19 @@ gives_whole : {command : Command} {contents : List (List ℕ)} {actions : List A
 gives_whole (translated t) e = absurd cc
 gives_whole (conforms local list o l c) e = absurd (answer_whole c e)
 gives_whole (checked core a r) e = absurd cc
-gives_whole (compiled written h) e = absurd cc
-gives_whole {contents = contents} (ran {asked = asked} {files = files} r h) e =
+gives_whole (compiled written h typable) e = absurd cc
+gives_whole {contents = contents} (ran {asked = asked} {files = files} r h typable) e =
     let all : List Stand = stands_in r.program r.last in
     absurd (tests_whole (list_any is_bound all) (list_any is_broken all) (list_any is_zero all) (list_any is_mismatch all) (list_any is_waiting all)
     (none_broken (sources files contents) (role_mains_of asked) (order_of asked) (limit_of asked) r h) e)
 gives_whole (refined {stands = stands} h) e = absurd (told_whole stands e)
 gives_whole (projected written h) e = absurd cc
-gives_whole (loaded {branches = n} {seed = seed} r h) e =
+gives_whole (loaded {branches = n} {seed = seed} r h typable) e =
     let all : List Stand = stands_in r.program r.last in
     absurd (tests_whole (list_any is_bound all) (list_any is_broken all) (list_any is_zero all) (list_any is_mismatch all)
     (list_any is_waiting all)
     (none_broken (load_sources n seed) (role_mains_of load_asked) (order_of load_asked) (limit_of load_asked) r h) e)
-gives_whole (executed {asked = asked} {files = files} r h) e = (asked, files, refl)
+gives_whole (executed {asked = asked} {files = files} r h never) e = (asked, files, refl)
 gives_whole (verified h) e = absurd cc
 
 pub broken_command : {command : Command} {contents : List (List ℕ)} {actions : List Action} {status : Status} →

@@ -189,19 +189,19 @@ given_once {m = m} {n = n} (conforms {protocol = protocol} {calls = calls} {byte
 given_once {contents = contents} (checked {files = files} {text = t} core h r) (checked {text = u} other k q) e =
     let same : core ≡ other = one_core (sources files contents) core other h.have k.have in
     ap prints (one_report other t u (subst (λ (p : Core.Program). IsReport p t) same r) q)
-given_once {contents = contents} (compiled {folder = folder} {files = files} written h) (compiled written' k) e =
+given_once {contents = contents} (compiled {folder = folder} {files = files} written h typable) (compiled written' k typable') e =
     ap (classes_written folder) (one_compiled (sources files contents) written written' h k)
-given_once {contents = contents} (ran {asked = asked} {files = files} r h) (ran s k) e =
+given_once {contents = contents} (ran {asked = asked} {files = files} r h typable) (ran s k typable') e =
     let same = one_of_run (sources files contents) (role_mains_of asked) (order_of asked) (limit_of asked) r s h k in
     λ i. run_actions asked (record { core = same.core i; written = same.written i; program = same.program i; first = r.first; last = same.last i })
-given_once {contents = contents} (executed {asked = asked} {files = files} r h) (executed s k) e =
+given_once {contents = contents} (executed {asked = asked} {files = files} r h never) (executed s k never') e =
     let same = one_course (sources files contents) (role_mains_of asked) (order_of asked) (limit_of asked) r s h k in
     λ i. exec_actions asked (record { program = same.program i; first = r.first; last = same.last i })
 given_once {contents = contents} (refined {files = files} {text = x} {stands = s} h) (refined {text = y} {stands = t} k) e =
     ap (λ (text : List ℕ). Print text ∷ []) (one_telling (sources files contents) x y s t h k).0
 given_once {contents = contents} (projected {folder = folder} {files = files} written h) (projected written' k) e =
     ap (roles_written folder) (written_once (sources files contents) written written' h k)
-given_once (loaded {branches = n} {seed = seed} r h) (loaded s k) e =
+given_once (loaded {branches = n} {seed = seed} r h typable) (loaded s k typable') e =
     let same = one_of_run (load_sources n seed) (role_mains_of load_asked) (order_of load_asked) (limit_of load_asked) r s h k in
     λ i. load_actions n seed (record {
       core = same.core i;

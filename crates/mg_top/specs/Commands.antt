@@ -10,6 +10,7 @@ use Rattle.mg_accepted.specs.Accepted as accepted
 use Rattle.mg_compile.specs.declared.files.ClassFile.{ClassFile}
 use Rattle.mg_compile.specs.Compiled.{AreCompiled}
 use Rattle.mg_compile.specs.Compiled as compiling
+use Rattle.cls_verify.specs.Typing.{AllTypable}
 use Rattle.vm_world_law.specs.declared.role.RoleMain.{RoleMain}
 use Rattle.vm_world_law.specs.declared.stand.Stand.{Stand}
 use Rattle.vm_world_law.specs.Turns.{stands_in, is_bound, is_broken, is_zero, is_mismatch, is_waiting}
@@ -23,6 +24,7 @@ use Rattle.mg_refined.specs.Refined as refining
 use Rattle.mg_exec.specs.Runs as executing
 use Rattle.mg_verified.specs.Verified.{AreVerified}
 use Rattle.mg_verified.specs.Verified as verifying
+use Rattle.mg_typed_law.specs.Typed.{NeverBad, LinkTypable}
 use Rattle.mg_load.specs.Workload.{file_names, file_texts, loaded_line}
 use Rattle.mg_projected.specs.declared.files.RoleFile.{RoleFile}
 use Rattle.mg_projected.specs.Told.{AreWritten}
@@ -118,14 +120,19 @@ pub data Gives : Command → List (List ℕ) → List Action → Status → Type
       Gives (Conform (protocol ∷ calls ∷ [])) (bytes ∷ listed ∷ []) (Print text ∷ []) status
   checked : {files : List Word} {contents : List (List ℕ)} {text : List ℕ} (core : Core.Program) →
       AreAccepted (sources files contents) core → IsReport core text → Gives (Check files) contents (prints text) Done
+  -- each method of the classes has a typing
   compiled : {folder : Option Word} {files : List Word} {contents : List (List ℕ)} (written : List ClassFile) →
-      AreCompiled (sources files contents) written → Gives (Compile folder files) contents (classes_written folder written) Done
+      AreCompiled (sources files contents) written → LinkTypable written →
+      Gives (Compile folder files) contents (classes_written folder written) Done
+  -- so has each of the classes that run
   ran : {asked : Asked} {files : List Word} {contents : List (List ℕ)} (r : Course) →
-      IsRun (sources files contents) (role_mains_of asked) (order_of asked) (limit_of asked) r →
+      IsRun (sources files contents) (role_mains_of asked) (order_of asked) (limit_of asked) r → AllTypable r.program →
       Gives (Run asked files) contents (kept_in asked.folder r.written ++ (prints (run_printed asked r) ++ Say (run_said asked r) ∷ []))
       (status_of (stands_in r.program r.last))
+  -- of class files as they are that isn't known; where each method has a typing no role ends badly
   executed : {asked : Asked} {files : List Word} {contents : List (List ℕ)} (r : executing.Course) →
       executing.IsRun (sources files contents) (role_mains_of asked) (order_of asked) (limit_of asked) r →
+      (AllTypable r.program → NeverBad r) →
       Gives (Exec asked files) contents (prints (exec_printed asked r) ++ Say (exec_said asked r) ∷ []) (status_of (stands_in r.program r.last))
   refined : {files : List Word} {contents : List (List ℕ)} {text : List ℕ} {stands : Bool} → AreJudged (sources files contents) text stands →
       Gives (Refine files) contents (Print text ∷ []) (refined_status stands)
@@ -134,7 +141,7 @@ pub data Gives : Command → List (List ℕ) → List Action → Status → Type
       AreWritten (sources files contents) written → Gives (Project folder files) contents (roles_written folder written) Done
   -- a workload is run as other files are; behind what is printed stands the line that tells how large it was
   loaded : {branches seed : ℕ} {contents : List (List ℕ)} (r : Course) →
-      IsRun (load_sources branches seed) (role_mains_of load_asked) (order_of load_asked) (limit_of load_asked) r →
+      IsRun (load_sources branches seed) (role_mains_of load_asked) (order_of load_asked) (limit_of load_asked) r → AllTypable r.program →
       Gives (Load branches seed) contents
       (Print (run_printed load_asked r ++ loaded_line branches seed (messages_in r.last.events)) ∷ Say (run_said load_asked r) ∷ [])
       (status_of (stands_in r.program r.last))
