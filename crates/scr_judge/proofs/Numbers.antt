@@ -5,7 +5,6 @@ use Rattle.std.proofs.lemmas.Result.{IfOk-weaker}
 use Rattle.mg_text.specs.declared.memory.Memory.{Memory}
 use Rattle.mg_read.specs.First.{FirstOf, none, this, next}
 use Rattle.mg_read.specs.Culprit.{Culprit}
-use Rattle.scr_tree.specs.Faults.{Of}
 use Rattle.scr_judge.specs.inner.View.{named_of}
 use Rattle.scr_judge.specs.declared.culprit.Named.{Named}
 

@@ -2,8 +2,8 @@
 -- tokens behind it.
 use Rattle.std.specs.Prelude.{ℕ, zero, suc, List, [], ◌∷◌, map, Option, Some, None, if◌then◌else◌}
 use Rattle.mg_text.specs.Call.{Name}
-use Rattle.mg_read.specs.Reader.{Reader, ◌>>=◌, all_of}
-use Rattle.mg_read.proofs.Loop.{with_front}
+use Rattle.mg_text.specs.declared.place.Place.{Place}
+use Rattle.mg_read.specs.Reader.{Reader, ◌>>=◌}
 use Rattle.scr_tree.specs.Tok.{Tok}
 use Rattle.scr_tree.specs.declared.token.Mark.TheVariants as marks
 use Rattle.scr_tree.specs.declared.written.Declaration.{Declaration}
