@@ -14,7 +14,8 @@ use Rattle.cls_blocks.specs.Rows.{Row, RowAt}
 use Rattle.cls_blocks.specs.Blocks.{falls, jumps, Jumps, Runs, AreBlocks}
 use Rattle.cls_blocks.specs.Blocks as blocks
 use Rattle.cls_blocks.specs.Laws.{BlocksAreTyped}
-use Rattle.cls_blocks.proofs.Splits.{pass_many, all_each, front_of, back_of}
+use Rattle.cls_verify.proofs.Searching.{pass_many}
+use Rattle.cls_blocks.proofs.Splits.{all_each, front_of, back_of}
 use Rattle.cls_blocks.proofs.Running.{behind, leads_are}
 
 set_length : (ks : List Kind) (i : ℕ) (k : Kind) → length (slice_set ks i k) ≡ length ks

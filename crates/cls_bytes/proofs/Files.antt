@@ -1,26 +1,10 @@
 -- What can stand in a file can be laid out.
-use Rattle.std.proofs.Common.{Bool, true, false, List}
-use Rattle.cls_tree.specs.declared.class.Const.{Const}
-use Rattle.cls_tree.specs.Tree.{Attr, Coded, Other, Member, Class}
+use Rattle.std.proofs.Common.{true, false}
+use Rattle.cls_tree.specs.Tree.{Class}
 use Rattle.cls_tree.specs.Fits.{FitsConst, FitsAttr, FitsMember, Fits}
 use Rattle.cls_tree.specs.ClassFile.{FileConst, FileAttr, FileMember, IsClassFile}
-use Rattle.cls_tree.proofs.Files.{file_fits, all_map}
+use Rattle.cls_tree.proofs.Files.{file_fits, all_map, attr_fits, member_fits}
 use Rattle.cls_bytes.specs.File.{IsFile}
-
-attr_fits : (pool : List Const) (of_method : Bool) (a : Attr) → FileAttr pool of_method a → FitsAttr a
-attr_fits pool true (Coded c) f = f.0
-attr_fits pool false (Coded c) f = f.0
-attr_fits pool true (Other name bytes) f = (f.0, f.1)
-attr_fits pool false (Other name bytes) f = (f.0, f.1)
-
-member_fits : (pool : List Const) (is_method : Bool) (m : Member) → FileMember pool is_method m → FitsMember m
-member_fits pool is_method m f =
-    record {
-      access = f.access;
-      name = f.name;
-      descriptor = f.descriptor;
-      attributes = (all_map (FileAttr pool is_method) FitsAttr (attr_fits pool is_method) m.attributes f.attributes.0, f.attributes.1);
-    }
 
 pub class_fits : (c : Class) → IsFile c → Fits c
 class_fits c f =

@@ -18,7 +18,7 @@ use Rattle.cls_verify.specs.Kinds as model
 use Rattle.cls_verify.specs.Rows.{kinds_in}
 use Rattle.cls_verify.specs.Typing.{Kinds}
 use Rattle.cls_blocks.specs.Rows.{Row}
-use Rattle.cls_blocks.proofs.Splits.{pass_many}
+use Rattle.cls_verify.proofs.Searching.{pass_many}
 use Rattle.cls_kinds.specs.declared.kind.Kind.{Kind}
 use Rattle.cls_kinds.specs.Stacks.{stack_at}
 use Rattle.cls_kinds.specs.Named.{kind_of, kinds_of}

@@ -32,13 +32,13 @@ pub all_map : {A : Type 0} (P Q : A → Type 0) → ((a : A) → P a → Q a) �
 all_map P Q f [] all = tt
 all_map P Q f (x ∷ xs) all = (f x all.0, all_map P Q f xs all.1)
 
-attr_fits : (pool : List Const) (of_method : Bool) (a : Attr) → FileAttr pool of_method a → FitsAttr a
+pub attr_fits : (pool : List Const) (of_method : Bool) (a : Attr) → FileAttr pool of_method a → FitsAttr a
 attr_fits pool true (Coded c) f = f.0
 attr_fits pool false (Coded c) f = f.0
 attr_fits pool true (Other name bytes) f = (f.0, f.1)
 attr_fits pool false (Other name bytes) f = (f.0, f.1)
 
-member_fits : (pool : List Const) (is_method : Bool) (m : Member) → FileMember pool is_method m → FitsMember m
+pub member_fits : (pool : List Const) (is_method : Bool) (m : Member) → FileMember pool is_method m → FitsMember m
 member_fits pool is_method m f =
     record {
       access = f.access;

@@ -102,17 +102,17 @@ none_is_init xs h c = not_init (subst IsPlainName c.2 (plain_get xs c.0 init_nam
 
 -- No method of a program is one of a built-in class.
 
-not_182 : (r : Reference) → IsPlainName r.class → built_in 182 r built_members ≡ None
+pub not_182 : (r : Reference) → IsPlainName r.class → built_in 182 r built_members ≡ None
 not_182 r h = rw (
   other_than r.class (codes "java/lang/String") h not_string,
   other_than r.class
       (codes "java/io/PrintStream") h not_print_stream,
 ) refl
 
-not_183 : (r : Reference) → IsPlainName r.class → built_in 183 r built_members ≡ None
+pub not_183 : (r : Reference) → IsPlainName r.class → built_in 183 r built_members ≡ None
 not_183 r h = rw (other_than r.class (codes "java/lang/Object") h not_object) refl
 
-not_184 : (r : Reference) → IsPlainName r.class → built_in 184 r built_members ≡ None
+pub not_184 : (r : Reference) → IsPlainName r.class → built_in 184 r built_members ≡ None
 not_184 r h = rw (
   other_than r.class (codes "java/lang/String") h not_string,
   other_than r.class
@@ -120,7 +120,7 @@ not_184 r h = rw (
 ) refl
 
 -- whether a method of this access is found as a static one, or as another
-abbrev Fits : (static : Bool) → (access : ℕ) → Type 0
+abbrev pub Fits : (static : Bool) → (access : ℕ) → Type 0
 Fits static access = (if static then is_static access else not (is_static access)) ≡ true
 
 module _ (p : Program) (core : IsCore p) (plain : HasPlainNames p) (all : List (List Compiled))

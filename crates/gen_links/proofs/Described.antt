@@ -57,7 +57,7 @@ module _ (p : Program) (core : IsCore p) (plain : HasPlainNames p) (all : List (
   string_plain : IsPlain (type_in p types.Text)
   string_plain = omega arith
 
-  type_plain : (t : CoreType) → IsUsable p t → IsPlain (type_in p t)
+  pub type_plain : (t : CoreType) → IsUsable p t → IsPlain (type_in p t)
   type_plain types.Void h = absurd h
   type_plain types.Int h = tt
   type_plain types.Boolean h = tt
@@ -112,10 +112,10 @@ module _ (p : Program) (core : IsCore p) (plain : HasPlainNames p) (all : List (
 
   -- Methods.
 
-  abbrev signature : List CoreType → CoreType → Signature
+  abbrev pub signature : List CoreType → CoreType → Signature
   signature params result = record { params = map (type_in p) params; result = result_in p result }
 
-  signature_plain : (params : List CoreType) (result : CoreType) → AllByRecursion (IsUsable p) params → IsResult p result →
+  pub signature_plain : (params : List CoreType) (result : CoreType) → AllByRecursion (IsUsable p) params → IsResult p result →
       IsMethodDescriptor (descriptor_of p params result) (signature params result)
   signature_plain params result h r = descriptors.plain (types_plain params h) (result_plain result r) refl
 

@@ -1,6 +1,6 @@
 -- What the linked program of a core has: each class under its number, and each method under its number in its class.
 use Rattle.std.proofs.Common.{◌≡◌, ◌≢◌, ℕ, ◌+◌, Bool, true, false, ◌&&◌, not, List, [], ◌∷◌, ◌++◌, map, Some, None, slice_get, refl, sym}
-use Rattle.std.proofs.Common.{ap, ap₂, ◌∙◌, subst, arith, codes}
+use Rattle.std.proofs.Common.{ap, ap₂, ◌∙◌, subst, arith}
 use Rattle.std.specs.Prelude.{nat_eq, if◌then◌else◌, option_and_then, position, max}
 use Rattle.std.specs.List.{AllByRecursion, filter}
 use Rattle.std.proofs.lemmas.Bool.Decides.{nat_tests}
@@ -8,20 +8,19 @@ use Rattle.mg_text.specs.Call.{Name}
 use Rattle.ts_tree.specs.Proper.{AreDistinct}
 use Rattle.cls_tree.specs.Pool.{Reference}
 use Rattle.vm_model.specs.Program as linked
-use Rattle.vm_model.specs.Types.{IsPlain, IsPlainResult, signature_text, main_signature, signature_of, type_of}
+use Rattle.vm_model.specs.Types.{signature_text, main_signature, signature_of, type_of}
 use Rattle.vm_model.specs.Types as descriptors
 use Rattle.vm_model.proofs.Spelled.{method_exact, field_exact}
 use Rattle.vm_model.specs.Links.{Outline, is_member, is_static, built_in, built_members, member_args, named_args, loaded_member}
 use Rattle.vm_model.specs.Links.{method_of_class, args_by, field_of_class, field_made}
 use Rattle.vm_model.specs.Actions.{Silent, Call, action, Read, Write, Make}
 use Rattle.vm_model.specs.Tests.{name_of_method}
-use Rattle.jv_core.specs.declared.program.CoreType.{CoreType}
 use Rattle.jv_core.specs.declared.program.CoreType.TheVariants as types
 use Rattle.jv_core.specs.declared.program.MethodKind.{MethodKind}
 use Rattle.jv_core.specs.declared.program.MethodKind.TheVariants as kinds
 use Rattle.jv_core.specs.Tree.{Field, Class, Method, Program, Expr, Null, New, Then, NoStmt, Eval}
 use Rattle.jv_core.specs.Lookup.{text_at, param_types, is_main}
-use Rattle.jv_core.specs.Members.{IsUsable, IsResult, IsField}
+use Rattle.jv_core.specs.Members.{IsField}
 use Rattle.jv_core.specs.Conditions.{IsMethod, IsCore}
 use Rattle.gen_rules.specs.Symbolic.{Instr, invokespecial, getfield, putfield, new}
 use Rattle.gen_rules.specs.Members.{member, class_name, type_in, result_in, descriptor_of, method_descriptor, method_member}
@@ -35,9 +34,9 @@ use Rattle.gen_rules.specs.Linked.{declared_method, or_nothing, outlines_of, lin
 use Rattle.jv_sound.proofs.Lists.{each_at}
 use Rattle.jv_sound.proofs.Expressions.{method_ok}
 use Rattle.gen_links.specs.Files.{IsPlainName, HasPlainNames}
-use Rattle.gen_links.proofs.Apart.{other_than, not_object, not_string, not_print_stream, not_session, passes_at, slice_get-map, at_once}
-use Rattle.gen_links.proofs.Called.{Among, among, plain_names}
-use Rattle.gen_links.proofs.Described.{params_usable}
+use Rattle.gen_links.proofs.Apart.{passes_at, slice_get-map, at_once}
+use Rattle.gen_links.proofs.Called.{Among, among, plain_names, not_182, not_183, not_184, Fits}
+use Rattle.gen_links.proofs.Described.{params_usable, type_plain, signature_plain}
 use Rattle.gen_links.proofs.Looked.{named_class, plain_class, member_named, same_text}
 use Rattle.gen_sound.specs.Related.{Running, action_of, invoke, calling_of, RunsCode}
 use Rattle.gen_sound.proofs.Loading.{MethodAt, method_at, linked_runs, compiled_runs}
@@ -110,27 +109,6 @@ pub record Linkage (p : Program) (os : List Outline) (program : linked.Program) 
 
 -- Names and descriptors.
 
-no_semicolon : (name : Name) → IsPlainName name → AllByRecursion (λ b. b ≢ 59) name
-no_semicolon [] h = tt
-no_semicolon (b ∷ name) h = ((h.0).1, no_semicolon name h.1)
-
-not_182 : (r : Reference) → IsPlainName r.class → built_in 182 r built_members ≡ None
-not_182 r h = rw (
-  other_than r.class (codes "java/lang/String") h not_string,
-  other_than r.class
-      (codes "java/io/PrintStream") h not_print_stream,
-) refl
-
-not_183 : (r : Reference) → IsPlainName r.class → built_in 183 r built_members ≡ None
-not_183 r h = rw (other_than r.class (codes "java/lang/Object") h not_object) refl
-
-not_184 : (r : Reference) → IsPlainName r.class → built_in 184 r built_members ≡ None
-not_184 r h = rw (
-  other_than r.class (codes "java/lang/String") h not_string,
-  other_than r.class
-      (codes "mungo/lib/Session") h not_session,
-) refl
-
 field_names : (p : Program) (ds : List Field) → map (λ d. d.name) (map (declared_field p) ds) ≡ map (λ f. text_at p f.name) ds
 field_names p [] = refl
 field_names p (d ∷ ds) = ap (λ xs. text_at p d.name ∷ xs) (field_names p ds)
@@ -145,36 +123,9 @@ descriptor_is kinds.Static x y n = refl
 descriptor_is kinds.Helper x y n = refl
 descriptor_is kinds.Protocol x y n = refl
 
--- whether a method of this access is found as a static one, or as another
-abbrev Fits : (static : Bool) → (access : ℕ) → Type 0
-Fits static access = (if static then is_static access else not (is_static access)) ≡ true
-
 module _ (p : Program) (core : IsCore p) (plain : HasPlainNames p) (all : List (List Compiled)) (made : IsCompiled p all) where
   abbrev os : List Outline
   os = outlines_of p p.classes all
-
-  string_plain : IsPlain (type_in p types.Text)
-  string_plain = omega arith
-
-  type_plain : (t : CoreType) → IsUsable p t → IsPlain (type_in p t)
-  type_plain types.Void h = absurd h
-  type_plain types.Int h = tt
-  type_plain types.Boolean h = tt
-  type_plain types.Text h = string_plain
-  type_plain (types.Object c) h = no_semicolon (class_name p c) (plain_class p core plain all made.classes c h.class h.at)
-  type_plain (types.Enum e) h = tt
-
-  types_plain : (ts : List CoreType) → AllByRecursion (IsUsable p) ts → AllByRecursion IsPlain (map (type_in p) ts)
-  types_plain [] h = tt
-  types_plain (t ∷ ts) h = (type_plain t h.0, types_plain ts h.1)
-
-  result_plain : (t : CoreType) → IsResult p t → IsPlainResult (result_in p t)
-  result_plain types.Void h = tt
-  result_plain types.Int h = tt
-  result_plain types.Boolean h = tt
-  result_plain types.Text h = string_plain
-  result_plain (types.Object c) h = type_plain (types.Object c) h
-  result_plain (types.Enum e) h = tt
 
   pub signature_is : (k : Method) → IsMethod p k → k.kind ≢ kinds.Main →
       signature_of (method_descriptor p k) ≡ Some (record { params = map (type_in p) (param_types k); result = result_in p k.result })
@@ -182,8 +133,7 @@ module _ (p : Program) (core : IsCore p) (plain : HasPlainNames p) (all : List (
       let d : Name = descriptor_of p (param_types k) k.result in
       ap signature_of (descriptor_is k.kind (signature_text main_signature) d n)
       ∙ (method_exact d (record { params = map (type_in p) (param_types k); result = result_in p k.result })).1
-      (descriptors.plain (types_plain (param_types k) (params_usable p core plain all made.classes k is)) (result_plain k.result is.result)
-      refl)
+      (signature_plain p core plain all made.classes (param_types k) k.result (params_usable p core plain all made.classes k is) is.result)
 
   class_named : (c : ℕ) (k : Class) → slice_get p.classes c ≡ Some k → linked.class_name (linked_program p all) c ≡ text_at p k.name
   class_named c k at = ap linked.name_in (linked_class_at p os 0 p.classes all made.classes c k at).linked
@@ -339,7 +289,7 @@ module _ (p : Program) (core : IsCore p) (plain : HasPlainNames p) (all : List (
           ∙ slice_get-map field_made (map (declared_field p) k.fields) f (declared_field p d)
           (slice_get-map (declared_field p) k.fields f d of);
       typed = (field_exact (field_descriptor p d.ty) (type_in p d.ty)).1
-          (descriptors.plain (type_plain d.ty (each_at (IsField p) k.fields f (core.classes c k at).fields of).type) refl);
+          (descriptors.plain (type_plain p core plain all made.classes d.ty (each_at (IsField p) k.fields f (core.classes c k at).fields of).type) refl);
     }
 
   stack_is : (q : Place) (m : Method) (inits : List Instr) →

@@ -9,7 +9,7 @@ use Rattle.jv_tree.specs.Source.{Stmt, Block, Empty, Local, Assign, If, IfElse, 
 use Rattle.jv_tree.specs.Source.{Stmts, NoStmt, Then, Groups, NoGroup, Group}
 use Rattle.jv_values.specs.Values.{Value, Row, Shared, Lives, Here, Inputs, Wrong, put}
 use Rattle.jv_values.specs.Values as values
-use Rattle.jv_values.specs.Doing.{Run, ◌>>=◌, give, stop, found, valued, valuing, within}
+use Rattle.jv_values.specs.Doing.{Run, ◌>>=◌, give, stop, within}
 use Rattle.jv_values.specs.Statements.{Normal, Does, next_do, is_default, any_label}
 use Rattle.jv_values.specs.Further.{FurtherShared, FurtherLives, FurtherDoes, FurtherBelow, IsMonotone}
 use Rattle.jv_values.proofs.Combine.{if_alike, next_alike, switch_alike, while_alike, do_alike}
@@ -17,6 +17,7 @@ use Rattle.jv_values.proofs.Combine as combine
 use Rattle.jv_values.proofs.Expressions as expressions
 use Rattle.jv_values.proofs.Further.{further_shares, lives_closed, within_further, declared_further, assigned_further, same_exits}
 use Rattle.jv_values.proofs.Further as further
+use Rattle.jv_values.proofs.FurtherSteps.{E, then_e, give_e, stop_e, found_e, valued_e, valuing_e}
 use Rattle.jv_meaning.specs.Program.{Sources, class_named, enum_named}
 use Rattle.jv_values.specs.Operators.{operator_of}
 use Rattle.jv_meaning.specs.Names.{session_named, method_of, main_of, Referent, ALocal, AField, NoVariable, referent, constant_named}
@@ -26,30 +27,8 @@ use Rattle.jv_meaning.specs.Meaning.{Target, Own, OfClass, OfValue, target_of, p
 use Rattle.jv_meaning.specs.Meaning.{eval_all, value, test, exec, exec_all, exec_from, exec_groups, language}
 use Rattle.jv_meaning.specs.Budget.{BudgetLaw}
 
--- the lemmas of the library, for this relation
-abbrev E : {A : Type 0} → Run Shared A → Run Shared A → Type 0
-E {A} m n = FurtherShared A A ◌≡◌ m n
-
 abbrev Q : {A : Type 0} → Run (Lives Name) A → Run (Lives Name) A → Type 0
 Q {A} m n = FurtherLives Name A A ◌≡◌ m n
-
-then_e : {A B : Type 0} {m n : Run Shared A} {f g : A → Run Shared B} → E m n → ((a : A) → E (f a) (g a)) → E (m >>= f) (n >>= g)
-then_e h k = expressions.then_same FurtherShared further_shares h k
-
-give_e : {A : Type 0} (a : A) → E (give a) (give a)
-give_e a = expressions.give_same FurtherShared further_shares a
-
-stop_e : {A : Type 0} → E (stop {A = A} Wrong) (stop Wrong)
-stop_e = expressions.stop_same FurtherShared further_shares Wrong
-
-found_e : {A : Type 0} (o : Option A) → E (found o) (found o)
-found_e o = expressions.found_same FurtherShared further_shares o
-
-valued_e : {m n : Run Shared (Option Value)} → E m n → E (valued m) (valued n)
-valued_e h = expressions.valued_same FurtherShared further_shares h
-
-valuing_e : {m n : Run Shared Value} → E m n → E (valuing m) (valuing n)
-valuing_e h = expressions.valuing_same FurtherShared further_shares h
 
 -- What has no budget is the same.
 

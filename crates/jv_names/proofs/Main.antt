@@ -1,13 +1,12 @@
 -- `main` of a class is the same method in the core and in the source, so programs mean the same.
-use Rattle.std.proofs.Common.{◌≡◌, ◌≢◌, ℕ, suc, ◌+◌, Bool, true, false, not, cond, List, [], ◌∷◌, length, Option, Some, None, option_map}
+use Rattle.std.proofs.Common.{◌≡◌, ◌≢◌, ℕ, suc, ◌+◌, Bool, true, false, cond, List, [], ◌∷◌, Option, Some, None, option_map}
 use Rattle.std.proofs.Common.{option_and_then, slice_get, refl, sym, ap, ◌∙◌, subst, ⊎_elim, arith, true≢false}
-use Rattle.std.specs.Prelude.{if◌then◌else◌, find, position, nat_eq, nat_lt, ◌&&◌}
+use Rattle.std.specs.Prelude.{if◌then◌else◌, find, position, nat_eq, ◌&&◌}
 use Rattle.std.specs.Str.{bytes_eq}
-use Rattle.std.specs.List.{position_or_len}
 use Rattle.std.proofs.lemmas.Bool.Decides.{nat_tests}
 use Rattle.mg_text.specs.Call.{Name}
 use Rattle.jv_tree.specs.Source
-use Rattle.jv_values.specs.Values.{Value, Shared, Inputs, Ended, Wrong, Done}
+use Rattle.jv_values.specs.Values.{Value, Shared, Wrong, Done}
 use Rattle.jv_values.specs.Values as values
 use Rattle.jv_values.specs.Doing.{Outcome, Gives, Ends}
 use Rattle.jv_values.specs.Budget.{below, ended, ran}
@@ -22,30 +21,12 @@ use Rattle.jv_core.specs.Lookup.{text_at, class_numbered, is_main}
 use Rattle.jv_core.specs.Meaning as core_meaning
 use Rattle.jv_names.specs.Resolves.{Aligned, none, more, Owned, methods_of, ClassIs, MethodIs, Resolves}
 use Rattle.jv_names.specs.Laws.{MainsAreTheSame, MeansTheSame}
+use Rattle.jv_values.proofs.Positions.{position_is}
 use Rattle.jv_names.proofs.Tables.{some_is, none_some, aligned_at, text_is}
 use Rattle.jv_names.proofs.Lookups.{owned_by, found_in_class}
 use Rattle.jv_names.proofs.Calls.{runs_like, belows_like}
 
 -- Searches.
-
-position_first : (b : Bool) (n len : ℕ) →
-    cond (nat_lt (cond (not b) (1 + n) 0) (suc len)) (Some (cond (not b) (1 + n) 0)) None ≡ cond b (Some 0)
-    (option_map suc (cond (nat_lt n len) (Some n) None))
-position_first true n len =
-    let e : nat_lt 0 (suc len) ≡ true = grind (arith, nat_tests) in
-    ap (λ t. cond t (Some 0) None) e
-position_first false n len =
-    let e : nat_lt (1 + n) (suc len) ≡ nat_lt n len = grind (arith, nat_tests) in
-    let s : 1 + n ≡ suc n = omega arith in
-    ap (λ t. cond t (Some (1 + n)) None) e ∙ ap (λ k. cond (nat_lt n len) (Some k) None) s ∙ go (nat_lt n len)
-  where
-    go : (t : Bool) → cond t (Some (suc n)) None ≡ option_map suc (cond t (Some n) None)
-    go true = refl
-    go false = refl
-
-position_is : {A : Type 0} (p : A → Bool) (x : A) (xs : List A) → position p (x ∷ xs) ≡ cond (p x) (Some 0)
-    (option_map suc (position p xs))
-position_is p x xs = position_first (p x) (position_or_len p xs) (length xs)
 
 some_none : {A : Type 0} {a : A} → Some a ≡ None → ⊥
 some_none e = cc

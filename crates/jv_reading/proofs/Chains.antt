@@ -1,6 +1,6 @@
 -- Operators between expressions are read exactly.
 use Rattle.std.proofs.Common.{◌≡◌, ℕ, zero, suc, ◌-◌, ◌<◌, ◌≤◌, List, [], ◌∷◌, ◌++◌, length, true, eqb, Option, Some, None, refl, sym, ap}
-use Rattle.std.proofs.Common.{◌∙◌, subst, append_assoc, append-nil, length-append, arith, inl, inr}
+use Rattle.std.proofs.Common.{subst, append_assoc, length-append, arith, inl, inr}
 use Rattle.mg_text.specs.declared.place.Place.{Place}
 use Rattle.mg_read.specs.Reader.{◌>>=◌}
 use Rattle.mg_read.proofs.Steps.{bind_some, some_is, none_is_not, chosen, Takes}
@@ -22,7 +22,8 @@ use Rattle.jv_reading.specs.Grow.{grown}
 use Rattle.jv_reading.specs.Exprs.{Reads, operator, op_if, op_in, op_at, is_op, joined_with, binary_with}
 use Rattle.jv_reading.proofs.Steps.{after, glue, fits_is, fits_again}
 use Rattle.jv_reading.proofs.Args.{Within, Ends, Reading}
-use Rattle.jv_reading.proofs.Grows.{grow_sound, Reaches, Reaches-here, Reaches-step, Reaches-end}
+use Rattle.jv_reading.proofs.Grows.{grow_sound, Reaches-end}
+use Rattle.jv_reading.proofs.Begins as begins
 use Rattle.jv_reading.proofs.Unaries.{unary_exact}
 
 operator_is : (s : Sign) (o : Op) → operator s ≡ Some o → s ≡ sign_of o
@@ -187,46 +188,11 @@ module _ (k : ℕ) (part : ℕ → Reads) (P : Language) (exact : (d : ℕ) → 
       record { front = one.front ++ more.front; parts = glue one.front more.front x.1 one.parts more.parts; holds = more.holds }
 
   -- Behind the tokens of a chain the reader is at this chain, having begun with its first part.
-  record Begun (e : Expr) (us rest : List Token) : Type 0 where
-    first : Expr
-    front : List Token
-    back : List Token
-    parts : us ≡ front ++ back
-    begins : P first front
-    less : depth first ≤ d
-    ends : Ends k (back ++ rest)
-    goes : Reaches (is_op k) step first (back ++ rest) e rest
+  abbrev Begun : Expr → (us rest : List Token) → Type 0
+  Begun = begins.Begun (is_op k) step P (Ends k) d
 
   begun_alone : (e : Expr) (us rest : List Token) → Ends k rest → P e us → depth e ≤ d → Begun e us rest
-  begun_alone e us rest fine h le =
-      record {
-        first = e;
-        front = us;
-        back = [];
-        parts = sym (append-nil us);
-        begins = h;
-        less = le;
-        ends = fine;
-        goes =
-            Reaches-here (is_op k) step e rest;
-      }
-
-  begun_more : (e f : Expr) (us vs rest : List Token) → Begun e us (vs ++ rest) → is_op k (vs ++ rest) ≡ true →
-      step e (vs ++ rest) ≡ Some (f, rest) → 0 < length vs → Begun f (us ++ vs) rest
-  begun_more e f us vs rest b goes reads some =
-      let together : (b.back ++ vs) ++ rest ≡ b.back ++ (vs ++ rest) = append_assoc b.back vs rest in
-      let shorter : length rest < length (vs ++ rest) = omega (arith, length-append vs rest) in
-      record {
-        first = b.first;
-        front = b.front;
-        back = b.back ++ vs;
-        parts = ap (λ (r : List Token). r ++ vs) b.parts ∙ append_assoc b.front b.back vs;
-        begins = b.begins;
-        less = b.less;
-        ends = subst (Ends k) (sym together) b.ends;
-        goes = subst (λ (r : List Token). Reaches (is_op k) step b.first r f rest) (sym together)
-            (Reaches-step (is_op k) step b.first e f (b.back ++ (vs ++ rest)) (vs ++ rest) rest goes reads shorter b.goes);
-      }
+  begun_alone = begins.begun_alone (is_op k) step P (Ends k) d
 
   begun : (e : Expr) (us rest : List Token) → Ends k rest → IsChain k P e us → depth e ≤ d → Begun e us rest
   unfolding joined_with
@@ -250,7 +216,7 @@ module _ (k : ℕ) (part : ℕ → Reads) (P : Language) (exact : (d : ℕ) → 
       rw place (fits_again d (Binary (place_of l) o l r) rest le) in
       let reads : step l (tail ++ rest) ≡ Some (Binary p o l r, rest) =
       rw (comes, (exact (d - 1)).complete r ws rest fine (right, omega arith)) whole in
-      subst (λ (z : List Token). Begun (Binary p o l r) z rest) (sym parts) (begun_more l (Binary p o l r) vs tail rest before goes reads
+      subst (λ (z : List Token). Begun (Binary p o l r) z rest) (sym parts) (begins.begun_more (is_op k) step P (Ends k) d l (Binary p o l r) vs tail rest before goes reads
       (omega arith))
   begun (Call p n args) us rest fine h le = begun_alone (Call p n args) us rest fine h le
   begun (MethodCall p e n args) us rest fine h le = begun_alone (MethodCall p e n args) us rest fine h le
@@ -260,7 +226,7 @@ module _ (k : ℕ) (part : ℕ → Reads) (P : Language) (exact : (d : ℕ) → 
       (part d (ts ++ rest) >>= λ first. grown (is_op k) step first.0 first.1) ≡ Some (e, rest)
   chain_complete e ts rest fine (h, le) =
       let b = begun e ts rest fine.0 h le in
-      let first = (exact d).complete b.first b.front (b.back ++ rest) b.ends (b.begins, b.less) in
+      let first = (exact d).complete b.first b.front (b.back ++ rest) b.fine (b.begins, b.less) in
       let more = Reaches-end (is_op k) step b.first e (b.back ++ rest) rest fine.1 b.goes in
       rw (b.parts, append_assoc, first) more
 

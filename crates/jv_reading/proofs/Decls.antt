@@ -6,7 +6,7 @@ use Rattle.std.specs.Str.{bytes_eq}
 use Rattle.std.proofs.lemmas.Slice.Eq.{bytes_eq-Decides}
 use Rattle.mg_text.specs.Call.{Name}
 use Rattle.mg_text.specs.declared.place.Place.{Place}
-use Rattle.mg_read.specs.Reader.{Reader, all_of}
+use Rattle.mg_read.specs.Reader.{all_of}
 use Rattle.mg_read.proofs.Steps.{bind_some, some_is, none_is_not, chosen, Takes}
 use Rattle.mg_read.proofs.Lists.{Each, IsExact, Starts, all_sound, all_complete}
 use Rattle.jv_tree.specs.declared.token.Sign.{Sign}
@@ -17,7 +17,6 @@ use Rattle.jv_tree.specs.declared.token.Token.{Token}
 use Rattle.jv_tree.specs.Tokens.{word, quoted, sign, is_among, IsName}
 use Rattle.jv_reading.specs.Base.{sign_at, is_sign, is_sign_kind, word_at, is_word, is_word_kind, name_at}
 use Rattle.std.specs.List.{list_all}
-use Rattle.mg_read.specs.Reader.{many}
 use Rattle.jv_tree.specs.Source.{Class, Enum, Decl, ClassDecl, EnumDecl, File}
 use Rattle.jv_tree.specs.Depth.{depth_of_fields, depth_of_methods, depth_of_decl, depth_of_file}
 use Rattle.jv_tree.specs.Files.{fields_among, methods_among, is_kind_among, AreModifiers, IsAnnotation, IsClass, AreMoreNames, AreNames}
@@ -26,6 +25,7 @@ use Rattle.jv_reading.specs.Files.{after_mods, members_at, text_kind, text_at, a
 use Rattle.jv_reading.specs.Files.{is_more_names, next_name_at, names_at, past, enum_at, is_enum, decl_at, is_more_steps, next_step_at}
 use Rattle.jv_reading.specs.Files.{path_at, package_at, star_at, import_at, is_some_token, file_at}
 use Rattle.jv_reading.proofs.Steps.{Anything, after, glue, sign_is, word_is, name_is}
+use Rattle.jv_reading.proofs.Nested.{many_stops}
 use Rattle.jv_reading.proofs.Members.{mods_front, mods_again, mods_words, and_is, members_exact}
 
 -- ---- annotations
@@ -602,21 +602,6 @@ imports_each (suc n) us (ps, qs, parts, h, more) = (ps, qs, parts, h, imports_ea
 none_left : (ts : List Token) → is_some_token ts ≡ false → ts ≡ []
 none_left [] h = refl
 none_left (t ∷ ts) h = absurd cc
-
--- where a loop stops its test says no
-many_stops : {A : Type 0} (go : List Token → Bool) (g : Reader Token A) (n : ℕ) (ts : List Token) (x : List A × List Token) →
-    many go g n ts ≡ Some x → go x.1 ≡ false
-unfolding many
-many_stops {A = A} go g zero ts x e = absurd (none_is_not x e)
-many_stops {A = A} go g (suc n) ts x e =
-    elim (chosen (go ts) _ _ (Some x) e) [
-      | inl t ↦
-          let y = bind_some (g ts) _ x t.1 in
-          let ys = bind_some (many go g n y.0.1) _ x y.2 in
-          let stops = many_stops go g n y.0.1 ys.0 ys.1 in
-          subst (λ (z : List A × List Token). go z.1 ≡ false) (some_is (y.0.0 ∷ ys.0.0, ys.0.1) x ys.2) stops
-      | inr h ↦ subst (λ (z : List A × List Token). go z.1 ≡ false) (some_is ([], ts) x h.1) h.0
-    ]
 
 -- a word that is no modifier does not stand first behind modifiers
 mods_no_word : (words : List Name) (w : Name) (us rest : List Token) → AreModifiers words us → is_among words w ≡ false →

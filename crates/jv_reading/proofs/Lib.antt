@@ -2,6 +2,7 @@ pub mod Steps
 pub mod Args
 pub mod Primaries
 pub mod Grows
+pub mod Begins
 pub mod Posts
 pub mod Beginnings
 pub mod Unaries

@@ -107,6 +107,21 @@ local_closed (Return p e) us h = absurd h
 local_closed (Print p e) us h = absurd h
 local_closed (Eval p e) us h = absurd h
 
+-- where a loop stops its test says no
+pub many_stops : {A : Type 0} (go : List Token → Bool) (g : Reader Token A) (n : ℕ) (ts : List Token) (x : List A × List Token) →
+    many go g n ts ≡ Some x → go x.1 ≡ false
+unfolding many
+many_stops {A = A} go g zero ts x e = absurd (none_is_not x e)
+many_stops {A = A} go g (suc n) ts x e =
+    elim (chosen (go ts) _ _ (Some x) e) [
+      | inl t ↦
+          let y = bind_some (g ts) _ x t.1 in
+          let ys = bind_some (many go g n y.0.1) _ x y.2 in
+          let stops = many_stops go g n y.0.1 ys.0 ys.1 in
+          subst (λ (z : List A × List Token). go z.1 ≡ false) (some_is (y.0.0 ∷ ys.0.0, ys.0.1) x ys.2) stops
+      | inr h ↦ subst (λ (z : List A × List Token). go z.1 ≡ false) (some_is ([], ts) x h.1) h.0
+    ]
+
 module _ (d : ℕ) (f : Reader Token Stmt) (exact : StmtExact f d) where
   item_exact : IsExact (item_with d f) (Item d) NotElse
   unfolding item_with
@@ -386,21 +401,6 @@ module _ (d : ℕ) (f : Reader Token Stmt) (exact : StmtExact f d) where
       ) refl
 
   -- ---- groups
-
-  -- where a loop stops its test says no
-  many_stops : {A : Type 0} (go : List Token → Bool) (g : Reader Token A) (n : ℕ) (ts : List Token) (x : List A × List Token) →
-      many go g n ts ≡ Some x → go x.1 ≡ false
-  unfolding many
-  many_stops {A = A} go g zero ts x e = absurd (none_is_not x e)
-  many_stops {A = A} go g (suc n) ts x e =
-      elim (chosen (go ts) _ _ (Some x) e) [
-        | inl t ↦
-            let y = bind_some (g ts) _ x t.1 in
-            let ys = bind_some (many go g n y.0.1) _ x y.2 in
-            let stops = many_stops go g n y.0.1 ys.0 ys.1 in
-            subst (λ (z : List A × List Token). go z.1 ≡ false) (some_is (y.0.0 ∷ ys.0.0, ys.0.1) x ys.2) stops
-        | inr h ↦ subst (λ (z : List A × List Token). go z.1 ≡ false) (some_is ([], ts) x h.1) h.0
-      ]
 
   cases_stop : (ts : List Token) (x : List (Option Name) × List Token) → cases_at ts ≡ Some x → is_case x.1 ≡ false
   unfolding cases_at all_of

@@ -1,6 +1,6 @@
 -- What "." appends to an expression is read exactly, and what "-" and "!" put in front of one.
-use Rattle.std.proofs.Common.{◌≡◌, ℕ, suc, ◌-◌, ◌<◌, ◌≤◌, List, [], ◌∷◌, ◌++◌, length, true, Some, refl, sym, ap, ◌∙◌, subst, append_assoc}
-use Rattle.std.proofs.Common.{append-nil, length-append, arith, inl, inr}
+use Rattle.std.proofs.Common.{◌≡◌, ℕ, suc, ◌-◌, ◌<◌, ◌≤◌, List, [], ◌∷◌, ◌++◌, length, true, Some, refl, sym, ap, subst, append_assoc}
+use Rattle.std.proofs.Common.{length-append, arith, inl, inr}
 use Rattle.mg_read.proofs.Steps.{bind_some, chosen, Takes}
 use Rattle.mg_read.proofs.Lists.{IsExact}
 use Rattle.jv_tree.specs.declared.token.Sign.TheVariants as signs
@@ -16,7 +16,8 @@ use Rattle.jv_reading.specs.Exprs.{Reads, arguments_with, primary_with, member_w
 use Rattle.jv_reading.proofs.Steps.{after, glue, sign_is, name_is, fits_is, fits_again}
 use Rattle.jv_reading.proofs.Args.{Within, Ends, list_of, exprs-list_of, Reading, arguments_sound, arguments_complete}
 use Rattle.jv_reading.proofs.Primaries.{Unopened, primary_exact}
-use Rattle.jv_reading.proofs.Grows.{grow_sound, Reaches, Reaches-here, Reaches-step, Reaches-end}
+use Rattle.jv_reading.proofs.Begins as begins
+use Rattle.jv_reading.proofs.Grows.{grow_sound, Reaches-end}
 
 module _ (m : ℕ) (inner : ℕ → Reads) (G : Language) (reading : (d : ℕ) → Reading (inner d) (Within G d)) where
   abbrev pub Post : ℕ → Language
@@ -98,48 +99,15 @@ module _ (m : ℕ) (inner : ℕ → Reads) (G : Language) (reading : (d : ℕ) �
       record { front = one.front ++ more.front; parts = glue one.front more.front x.1 one.parts more.parts; holds = more.holds }
 
   -- Behind the tokens of an expression the reader is at this expression, having begun with a primary one.
-  record Begun (d : ℕ) (e : Expr) (us rest : List Token) : Type 0 where
-    first : Expr
-    front : List Token
-    back : List Token
-    parts : us ≡ front ++ back
-    begins : IsPrimary m G first front
-    less : depth first ≤ d
-    unopened : Unopened (back ++ rest)
-    goes : Reaches (is_sign signs.Dot) (tail_with m inner d) first (back ++ rest) e rest
+  abbrev Begun : ℕ → Expr → (us rest : List Token) → Type 0
+  Begun d = begins.Begun (is_sign signs.Dot) (tail_with m inner d) (IsPrimary m G) Unopened d
 
   begun_alone : (d : ℕ) (e : Expr) (us rest : List Token) → Unopened rest → IsPrimary m G e us → depth e ≤ d → Begun d e us rest
-  begun_alone d e us rest fine h le =
-      record {
-        first = e;
-        front = us;
-        back = [];
-        parts = sym (append-nil us);
-        begins = h;
-        less = le;
-        unopened = fine;
-        goes =
-            Reaches-here (is_sign signs.Dot) (tail_with m inner d) e rest;
-      }
+  begun_alone d = begins.begun_alone (is_sign signs.Dot) (tail_with m inner d) (IsPrimary m G) Unopened d
 
   begun_more : (d : ℕ) (e f : Expr) (us vs rest : List Token) → Begun d e us (vs ++ rest) → is_sign signs.Dot (vs ++ rest) ≡ true →
-      tail_with m inner d e (vs ++ rest) ≡ Some (f, rest) → 0 < length vs
-      → Begun d f (us ++ vs) rest
-  begun_more d e f us vs rest b dot step some =
-      let together : (b.back ++ vs) ++ rest ≡ b.back ++ (vs ++ rest) = append_assoc b.back vs rest in
-      let shorter : length rest < length (vs ++ rest) = omega (arith, length-append vs rest) in
-      record {
-        first = b.first;
-        front = b.front;
-        back = b.back ++ vs;
-        parts = ap (λ (r : List Token). r ++ vs) b.parts ∙ append_assoc b.front b.back vs;
-        begins = b.begins;
-        less = b.less;
-        unopened = subst Unopened (sym together) b.unopened;
-        goes = subst (λ (r : List Token). Reaches (is_sign signs.Dot) (tail_with m inner d) b.first r f rest) (sym together)
-            (Reaches-step (is_sign signs.Dot) (tail_with m inner d) b.first e f (b.back ++ (vs ++ rest)) (vs ++ rest) rest dot step shorter
-            b.goes);
-      }
+      tail_with m inner d e (vs ++ rest) ≡ Some (f, rest) → 0 < length vs → Begun d f (us ++ vs) rest
+  begun_more d = begins.begun_more (is_sign signs.Dot) (tail_with m inner d) (IsPrimary m G) Unopened d
 
   begun : (d : ℕ) (e : Expr) (us rest : List Token) → Unopened rest → IsPost m G e us → depth e ≤ d → Begun d e us rest
   unfolding tail_with member_with
@@ -180,7 +148,7 @@ module _ (m : ℕ) (inner : ℕ → Reads) (G : Language) (reading : (d : ℕ) �
   unfolding post_with
   post_complete d e ts rest fine (h, le) =
       let b = begun d e ts rest fine.0 h le in
-      let first = (primary_exact m inner G reading d).complete b.first b.front (b.back ++ rest) b.unopened (b.begins, b.less) in
+      let first = (primary_exact m inner G reading d).complete b.first b.front (b.back ++ rest) b.fine (b.begins, b.less) in
       let more = Reaches-end (is_sign signs.Dot) (tail_with m inner d) b.first e (b.back ++ rest) rest fine.1 b.goes in
       rw (b.parts, append_assoc, first) more
 

@@ -9,6 +9,7 @@ use denote.Enum.Bare.{same_true, true_same}
 use Rattle.mg_text.specs.Call.{Name}
 use Rattle.mg_text.specs.declared.place.Place.{Place}
 use Rattle.mg_read.proofs.Steps.{some_is, none_is_not, chosen}
+pub use Rattle.mg_read.proofs.Steps.{Anything, after}
 use Rattle.jv_tree.specs.declared.token.Sign.{Sign}
 use Rattle.jv_tree.specs.contracts.token.Sign.{the_type}
 use Rattle.jv_tree.specs.declared.token.TokenKind.{TokenKind}
@@ -18,14 +19,6 @@ use Rattle.jv_tree.specs.Source.{Expr}
 use Rattle.jv_tree.specs.Depth.{depth}
 use Rattle.jv_tree.specs.Tokens.{word, sign, is_name, IsName}
 use Rattle.jv_reading.specs.Base.{same_sign, sign_in, sign_at, word_in, word_at, name_in, name_at, fits}
-
--- what may follow where anything may
-abbrev pub Anything : List Token → Type 0
-Anything ts = Unit {0}
-
--- one more token in front
-pub after : {t : Token} {ts us vs : List Token} → ts ≡ t ∷ us → us ≡ vs → ts ≡ t ∷ vs
-after {t} e f = e ∙ ap (λ (r : List Token). t ∷ r) f
 
 -- one list in front of another
 pub glue : {ts us : List Token} (f g rest : List Token) → ts ≡ f ++ us → us ≡ g ++ rest → ts ≡ (f ++ g) ++ rest

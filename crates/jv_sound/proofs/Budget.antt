@@ -2,9 +2,9 @@
 use Rattle.std.proofs.Common.{◌≡◌, ℕ, Bool, List, [], ◌∷◌, Option, Some, None, slice_get, refl}
 use Rattle.std.specs.Prelude.{if◌then◌else◌, nat_eq}
 use Rattle.std.specs.Str.{bytes_eq}
-use Rattle.jv_values.specs.Values.{Value, Row, Shared, Lives, Here, Inputs, Wrong, find, put}
+use Rattle.jv_values.specs.Values.{Value, Row, Lives, Here, Inputs, Wrong, find, put}
 use Rattle.jv_values.specs.Values as values
-use Rattle.jv_values.specs.Doing.{Run, ◌>>=◌, give, stop, found, valued, valuing, within}
+use Rattle.jv_values.specs.Doing.{Run, ◌>>=◌, give, stop, within}
 use Rattle.jv_values.specs.Statements.{Normal, Does, next_do, is_default, case_at, any_label}
 use Rattle.jv_values.specs.Further.{FurtherShared, FurtherLives, FurtherDoes, FurtherBelow, IsMonotone}
 use Rattle.jv_values.proofs.Combine.{if_alike, next_alike, switch_alike, while_alike, do_alike}
@@ -12,6 +12,7 @@ use Rattle.jv_values.proofs.Combine as combine
 use Rattle.jv_values.proofs.Expressions as expressions
 use Rattle.jv_values.proofs.Further.{further_shares, lives_closed, within_further, declared_further, assigned_further, same_exits}
 use Rattle.jv_values.proofs.Further as further
+use Rattle.jv_values.proofs.FurtherSteps.{E, then_e, give_e, stop_e, found_e, valued_e, valuing_e}
 use Rattle.jv_core.specs.declared.tree.Var.{Var}
 use Rattle.jv_core.specs.declared.tree.Var.TheVariants as vars
 use Rattle.jv_core.specs.Tree.{Expr, Int, Truth, Text, Null, Variable, Constant, Neg, Not, Binary, Protocol, Helper, Static, Equals, Concat}
@@ -25,30 +26,8 @@ use Rattle.jv_core.specs.Meaning.{Lower, Code, session_of, mine, new_fields, enu
 use Rattle.jv_core.specs.Meaning.{eval, eval_all, value, test, position, exec, exec_all, exec_from, exec_groups, language, main_of}
 use Rattle.jv_sound.specs.Laws.{BudgetLaw}
 
--- the lemmas of the library, for this relation
-abbrev E : {A : Type 0} → Run Shared A → Run Shared A → Type 0
-E {A} m n = FurtherShared A A ◌≡◌ m n
-
 abbrev Q : {A : Type 0} → Run (Lives ℕ) A → Run (Lives ℕ) A → Type 0
 Q {A} m n = FurtherLives ℕ A A ◌≡◌ m n
-
-then_e : {A B : Type 0} {m n : Run Shared A} {f g : A → Run Shared B} → E m n → ((a : A) → E (f a) (g a)) → E (m >>= f) (n >>= g)
-then_e h k = expressions.then_same FurtherShared further_shares h k
-
-give_e : {A : Type 0} (a : A) → E (give a) (give a)
-give_e a = expressions.give_same FurtherShared further_shares a
-
-stop_e : {A : Type 0} → E (stop {A = A} Wrong) (stop Wrong)
-stop_e = expressions.stop_same FurtherShared further_shares Wrong
-
-found_e : {A : Type 0} (o : Option A) → E (found o) (found o)
-found_e o = expressions.found_same FurtherShared further_shares o
-
-valued_e : {m n : Run Shared (Option Value)} → E m n → E (valued m) (valued n)
-valued_e h = expressions.valued_same FurtherShared further_shares h
-
-valuing_e : {m n : Run Shared Value} → E m n → E (valuing m) (valuing n)
-valuing_e h = expressions.valuing_same FurtherShared further_shares h
 
 wrong_q : FurtherDoes {K = ℕ} (within (λ locals. stop Wrong)) (within (λ locals. stop Wrong))
 wrong_q = within_further (λ r. further_shares.stop Wrong)

@@ -1,3 +1,5 @@
 pub mod Combine
 pub mod Expressions
 pub mod Further
+pub mod FurtherSteps
+pub mod Positions

@@ -1,5 +1,5 @@
 -- One step of a reader, taken apart.
-use Rattle.std.proofs.Common.{◌≡◌, List, ◌++◌, Bool, true, false, cond, Option, Some, None, refl, inl, inr, ◌⊎◌}
+use Rattle.std.proofs.Common.{◌≡◌, List, ◌∷◌, ◌++◌, Bool, true, false, cond, Option, Some, None, refl, ap, ◌∙◌, inl, inr, ◌⊎◌}
 use Rattle.mg_read.specs.Reader.{◌>>=◌}
 
 -- the value of a step that did not fail
@@ -23,3 +23,11 @@ pub record Takes {T : Type 0} (P : List T → Type 0) (ts rest : List T) : Type 
   pub front : List T
   pub parts : ts ≡ front ++ rest
   pub holds : P front
+
+-- what may follow where anything may
+abbrev pub Anything : {T : Type 0} → List T → Type 0
+Anything ts = Unit {0}
+
+-- one more token in front
+pub after : {T : Type 0} {t : T} {ts us vs : List T} → ts ≡ t ∷ us → us ≡ vs → ts ≡ t ∷ vs
+after {T} {t} e f = e ∙ ap (λ (r : List T). t ∷ r) f

@@ -1,5 +1,5 @@
 -- Two files of typestates spell two typestates.
-use Rattle.std.proofs.Common.{arith, ◌≡◌, ℕ, Bool, List, [], ◌∷◌, ◌++◌, length, codes, Option, Some, None, Result, Ok, Err, slice_get, refl}
+use Rattle.std.proofs.Common.{arith, ◌≡◌, ℕ, Bool, List, [], ◌∷◌, length, codes, Option, Some, None, Result, Ok, Err, slice_get, refl}
 use Rattle.std.proofs.Common.{map, sym, ap, ◌∙◌, subst}
 use Rattle.std.specs.Prelude.{All, IfOk}
 use Rattle.std.proofs.lemmas.List.Elements.{All-contains, All-weaker}
@@ -15,23 +15,10 @@ use Rattle.mg_refusal.specs.declared.stop.Stop.TheVariants as stops
 use Rattle.mg_sources.specs.Reading.{Part, Protocol, States, Classes, Reads, EachSpells, Refuses}
 use Rattle.mg_sources.specs.Reading as reading
 use Rattle.mg_sources.specs.Parts.{part_of}
+use Rattle.mg_sources.proofs.OneKind.{last_of, last_behind, differ}
 use Rattle.mg_sources.specs.declared.part.Part.{Part as KeptPart}
 use Rattle.mg_refined.specs.declared.refined.Told.{Told}
 use Rattle.mg_refined.specs.Refined.{Tells, AreJudged, FirstRefusal}
-
--- the last of a text
-abbrev last_of : List ℕ → Option ℕ
-last_of [] = None
-last_of (c ∷ []) = Some c
-last_of (c ∷ d ∷ cs) = last_of (d ∷ cs)
-
-last_behind : (front : List ℕ) (c : ℕ) (cs : List ℕ) → last_of (front ++ c ∷ cs) ≡ last_of (c ∷ cs)
-last_behind [] c cs = refl
-last_behind (a ∷ []) c cs = refl
-last_behind (a ∷ b ∷ front) c cs = last_behind (b ∷ front) c cs
-
-differ : {P : Type 0} (x y : ℕ) → ◌≡◌ {A = Option ℕ} (Some x) (Some y) → (x ≡ y → P) → P
-differ x y e go = go cc
 
 ends_l : (name : List ℕ) → EndsWith (codes ".protocol") name → last_of name ≡ Some 108
 ends_l name (front, e) = ap last_of e ∙ last_behind front 46 (codes "protocol")

@@ -17,12 +17,12 @@ use Rattle.mg_sources.specs.Reading.{Part, Protocol, States, Classes, Reads, Ref
 use Rattle.mg_sources.specs.Reading as reading
 
 -- the last of a text
-abbrev last_of : List ℕ → Option ℕ
+abbrev pub last_of : List ℕ → Option ℕ
 last_of [] = None
 last_of (c ∷ []) = Some c
 last_of (c ∷ d ∷ cs) = last_of (d ∷ cs)
 
-last_behind : (front : List ℕ) (c : ℕ) (cs : List ℕ) → last_of (front ++ c ∷ cs) ≡ last_of (c ∷ cs)
+pub last_behind : (front : List ℕ) (c : ℕ) (cs : List ℕ) → last_of (front ++ c ∷ cs) ≡ last_of (c ∷ cs)
 last_behind [] c cs = refl
 last_behind (a ∷ []) c cs = refl
 last_behind (a ∷ b ∷ front) c cs = last_behind (b ∷ front) c cs
@@ -37,7 +37,7 @@ ends_alike : {P : Type 0} (kind other : Kind) (source : Source) → IsOf kind so
     (last_of (suffix_of kind) ≡ last_of (suffix_of other) → P) → P
 ends_alike kind other source is is' go = go (sym (last_is kind source is) ∙ last_is other source is')
 
-differ : {P : Type 0} (x y : ℕ) → ◌≡◌ {A = Option ℕ} (Some x) (Some y) → (x ≡ y → P) → P
+pub differ : {P : Type 0} (x y : ℕ) → ◌≡◌ {A = Option ℕ} (Some x) (Some y) → (x ≡ y → P) → P
 differ x y e go = go cc
 
 not_both : (kind other : Kind) (source : Source) → IsOf kind source → IsOf other source → kind ≡ other

@@ -1,34 +1,12 @@
 -- A file without a fault is a valid global protocol.
-use Rattle.std.proofs.Common.{◌≡◌, ⊎_elim, List, [], ◌∷◌, ◌++◌, map, Option, None, Contains, refl, sym, subst}
-use Rattle.mg_text.specs.Call.{Name}
-use Rattle.mg_read.specs.Culprit.{culprit}
-use Rattle.mg_read.specs.First.{FirstOf, none, this, next, Clean, with_earlier, behind}
+use Rattle.std.proofs.Common.{◌≡◌, None}
 use Rattle.mg_read.proofs.Judging.{judged-clean}
-use Rattle.scr_tree.specs.declared.written.Declaration.{Declaration}
-use Rattle.scr_tree.specs.declared.written.Role.{Role}
-use Rattle.scr_tree.specs.Listing.{declares, lists, DuplicateName}
-use Rattle.scr_tree.specs.Valid.{AreDistinct}
-use Rattle.scr_tree.specs.Written.{role_name}
-use Rattle.scr_judge.proofs.Faultless.{roles_differ}
+use Rattle.scr_judge.proofs.Faultless.{roles_differ, split}
 use Rattle.scr_global.specs.Conditions.{HaveBranches, HaveBranchesIn}
 use Rattle.scr_global.specs.Tree.{Statements, Nothing, Says, Choice, Rec, Continue, Branches, NoBranch, Branch}
 use Rattle.scr_global_tree.specs.Faults.{IsFault}
 use Rattle.scr_global_tree.specs.Valid.{AreWritten, AreWrittenIn, HasBranches, IsWritten, IsValid}
 use Rattle.scr_global_tree.specs.Written.{WrittenTree, global_of}
-
--- the first condition has no culprit, and those behind it have none
-split : {K C : Type 0} {Of : K → Option C → Type 0} {k : K} {ks : List K} → FirstOf Of (k ∷ ks) None → Of k None × FirstOf Of ks None
-split {K} {C} {Of} {k} {ks} p = go _ _ p refl refl
-  where
-    go : (ls : List K) (r : Option (K × C)) → FirstOf Of ls r → ls ≡ k ∷ ks → r ≡ None → Of k None × FirstOf Of ks None
-    go ls r none e n = let no : ⊥ = cc in absurd no
-    go ls r (this a) e n = let no : ⊥ = cc in absurd no
-    go ls r (next {k = j} {ks = js} a q) e n =
-        let same : j ≡ k = cc in let rest : js ≡ ks = cc in (
-          subst (λ z. Of z None) same a,
-          subst (λ s. FirstOf Of ks s) n
-              (subst (λ zs. FirstOf Of zs r) rest q),
-        )
 
 mutual
   have_branches : (s : Statements) → AreWritten s → HaveBranches s

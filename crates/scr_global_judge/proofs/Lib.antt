@@ -3,7 +3,6 @@ pub mod Alike
 pub mod OutlineSteps
 pub mod RoleSteps
 pub mod RoleWalk
-pub mod Numbers
 pub mod Over
 pub mod OneFault
 pub mod Faultless

@@ -8,18 +8,14 @@ use Rattle.scr_global.specs.Spots.{Past, Opens, Enters, Way, spot, head_place}
 use Rattle.mg_read.specs.Culprit.{Culprit, culprit}
 use Rattle.scr_global.specs.Conditions.{UnknownRole, PeerIsSelf, UnknownRec, DuplicateRec, Unguarded, Unreachable, EmptyBranch, OtherStart}
 use Rattle.scr_global.specs.Conditions.{BranchStart, MixedChoice, SameLabel}
-use Rattle.scr_tree.specs.Listing.{DuplicateName, declares, lists, UnknownType, declared, carried}
-use Rattle.scr_tree.specs.declared.written.Declaration.{Declaration}
+use Rattle.scr_tree.specs.Listing.{DuplicateName, UnknownType}
 use Rattle.mg_text.specs.declared.place.Place.{Place}
 use Rattle.scr_tree.specs.Written.{role_name}
 use Rattle.scr_global_tree.specs.Written.{WrittenTree}
+use Rattle.scr_judge.proofs.OneFault.{two, name_single, type_single}
 use Rattle.scr_global_tree.specs.Faults.{Of, IsFault}
 use Rattle.scr_global_tree.specs.declared.condition.GlobalCondition.{GlobalCondition}
 use Rattle.scr_global_tree.specs.declared.condition.GlobalCondition.TheVariants as conditions
-
--- both are the culprit that is named
-two : (k c d : Culprit) → c ≡ k → d ≡ k → c ≡ d
-two k c d e f = e ∙ sym f
 
 role_single : (roles : List Name) → IsSingle (UnknownRole roles)
 role_single roles (spot way Nothing) c d a b = absurd a
@@ -29,14 +25,6 @@ role_single roles (spot way (Says m rest)) c d a b =
 role_single roles (spot way (Choice p at bs rest)) c d a b = two _ c d a.0 b.0
 role_single roles (spot way (Rec p name body rest)) c d a b = absurd a
 role_single roles (spot way (Continue p name rest)) c d a b = absurd a
-
-name_single : IsSingle DuplicateName
-name_single (earlier, declares x) c d a b = two _ c d a.0 b.0
-name_single (earlier, lists role) c d a b = two _ c d a.0 b.0
-
-type_single : (types : List Declaration) → IsSingle (UnknownType types)
-type_single types (declared x) c d a b = two _ c d a.0 b.0
-type_single types (carried place type) c d a b = two _ c d a.0 b.0
 
 self_single : IsSingle PeerIsSelf
 self_single (spot way Nothing) c d a b = absurd a

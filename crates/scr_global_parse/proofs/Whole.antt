@@ -16,11 +16,13 @@ use Rattle.scr_parse.specs.Grammar.{IsType, IsBraced}
 use Rattle.scr_parse.specs.inner.Reading.{mark_at, name_at, is_at, after_module, type_at, types_at, roles_at, carries_in}
 use Rattle.scr_global_parse.specs.Grammar.{IsHeader, AreStatements, IsSpelled}
 use Rattle.scr_global_parse.specs.inner.View.{joined}
-use Rattle.scr_global_parse.specs.inner.Reading.{if_last, title_at, header_at, block_with, statement_at, only_block_at, body_at, file_at}
+use Rattle.scr_parse.specs.inner.Reading.{block_with}
+use Rattle.scr_global_parse.specs.inner.Reading.{if_last, title_at, header_at, statement_at, only_block_at, body_at, file_at}
 use Rattle.scr_parse.proofs.Steps.{Anything, after, mark_is, name_is}
 use Rattle.scr_parse.proofs.Names.{module_sound, module_complete, type_exact, type_starts}
 use Rattle.scr_parse.proofs.Heads.{roles_sound, roles_complete}
-use Rattle.scr_global_parse.proofs.Nested.{BlockOf, blocks_exact, block_row, row_block, list_of, joined-list_of}
+use Rattle.scr_parse.proofs.Blocks.{BlockOf}
+use Rattle.scr_global_parse.proofs.Nested.{Deep, blocks_exact, block_row, row_block, list_of, joined-list_of}
 use Rattle.scr_global_parse.proofs.Carried.{block_carries}
 
 -- ---- "global" "protocol" name
@@ -86,10 +88,10 @@ body_sound declared ts x e =
     subst (λ (y : Statements × List Carries). IsBody declared y.0 y.1 ts) (some_is (joined l.0, carries_in ts) x l.2)
     (last b.0.0 b.0.1 l.0 ((blocks_exact declared 200).sound ts b.0 b.1) b.2)
   where
-    last : (xs : List Statements) (rest : List Tok) (ys : List Statements) → Takes (BlockOf declared 200 xs) ts rest
+    last : (xs : List Statements) (rest : List Tok) (ys : List Statements) → Takes (BlockOf (Deep declared 200) xs) ts rest
         → if_last (xs, rest) ≡ Some ys → IsBody declared (joined ys) (carries_in ts) ts
     last xs [] ys t h =
-        let whole : BlockOf declared 200 xs ts = subst (BlockOf declared 200 xs) (sym (t.parts ∙ append-nil t.front)) t.holds in
+        let whole : BlockOf (Deep declared 200) xs ts = subst (BlockOf (Deep declared 200) xs) (sym (t.parts ∙ append-nil t.front)) t.holds in
         let r = block_row declared 200 xs ts whole in
         let same : xs ≡ ys = some_is xs ys h in
         subst (λ (zs : List Statements). IsBody declared (joined zs) (carries_in ts) ts) same

@@ -8,10 +8,9 @@ ghost use Rattle.scr_tree.specs.declared.token.Mark.TheVariants as marks;
 ghost use Rattle.scr_global_tree.specs.View.{told};
 ghost use Rattle.scr_parse.specs.Answer.{Gives};
 ghost use Rattle.scr_parse.specs.inner.Kinds.{IsTable};
-ghost use Rattle.scr_parse.specs.inner.Reading.{is_at, not_closed};
+ghost use Rattle.scr_parse.specs.inner.Reading.{is_at, not_closed, block_with, other_with, branches_with, choice_with, rec_with, continue_with};
 ghost use Rattle.scr_global_parse.specs.inner.View.{alone, all_alone, blocks_alone};
-ghost use Rattle.scr_global_parse.specs.inner.Reading.{ends_at, message_at, continue_at, says_at, block_with, other_with, branches_with};
-ghost use Rattle.scr_global_parse.specs.inner.Reading.{choice_with, rec_with, statement_with, statement_at};
+ghost use Rattle.scr_global_parse.specs.inner.Reading.{ends_at, message_at, says_at, a_choice, a_rec, a_continue, statement_with, statement_at};
 
 use mg_text::{List, Place, Text};
 use scr_global_tree::GStatement;
@@ -98,9 +97,9 @@ fn says_of<'a>(
 }
 
 // "continue" name ";"
-#[tactic(auto, using(crate::proofs::Views::alones), unfolding(crate::specs::inner::Reading::continue_at))]
+#[tactic(auto, using(crate::proofs::Views::alones), unfolding(scr_parse::specs::inner::Reading::continue_with))]
 fn continue_of(tokens: &[Token]) -> Result<(GStatement, &[Token]), ParseFault>
-    ensures { Gives (λ x. (alone x.0, toks x.1.now)) result (continue_at (toks tokens.now)) }
+    ensures { Gives (λ x. (alone x.0, toks x.1.now)) result (continue_with a_continue (toks tokens.now)) }
 {
     let (place, rest) = mark_of(tokens, Mark::Continue)?;
     let (_, name, rest) = name_of(rest)?;
@@ -138,7 +137,7 @@ fn statements_of<'a>(
 
 // "{" statements "}"
 #[cycle(nest)]
-#[tactic(auto, unfolding(crate::specs::inner::Reading::block_with))]
+#[tactic(auto, unfolding(scr_parse::specs::inner::Reading::block_with))]
 pub(crate) fn block_of<'a>(
     alloc: Global,
     types: &Types,
@@ -157,7 +156,7 @@ pub(crate) fn block_of<'a>(
 
 // "or" block
 #[cycle(nest)]
-#[tactic(auto, unfolding(crate::specs::inner::Reading::other_with))]
+#[tactic(auto, unfolding(scr_parse::specs::inner::Reading::other_with))]
 fn other_of<'a>(
     alloc: Global,
     types: &Types,
@@ -207,7 +206,7 @@ fn more_branches_of<'a>(
 
 // block { "or" block }
 #[cycle(nest)]
-#[tactic(auto, unfolding(crate::specs::inner::Reading::branches_with))]
+#[tactic(auto, unfolding(scr_parse::specs::inner::Reading::branches_with))]
 fn branches_of<'a>(
     alloc: Global,
     types: &Types,
@@ -226,7 +225,7 @@ fn branches_of<'a>(
 
 // "choice" "at" name branches
 #[cycle(nest)]
-#[tactic(auto, using(crate::proofs::Views::alones), unfolding(crate::specs::inner::Reading::choice_with))]
+#[tactic(auto, using(crate::proofs::Views::alones), unfolding(scr_parse::specs::inner::Reading::choice_with))]
 fn choice_of<'a>(
     alloc: Global,
     types: &Types,
@@ -235,7 +234,7 @@ fn choice_of<'a>(
 ) -> Result<(GStatement, &'a [Token]), ParseFault>
     requires { IsTable types.now }
     ensures { Gives (λ x. (alone x.0, toks x.1.now)) result
-        (choice_with (statement_at types.now.declared.items levels) (toks tokens.now)) }
+        (choice_with a_choice (statement_at types.now.declared.items levels) (toks tokens.now)) }
 {
     let (place, rest) = mark_of(tokens, Mark::Choice)?;
     let (_, rest) = mark_of(rest, Mark::At)?;
@@ -251,7 +250,7 @@ fn choice_of<'a>(
 
 // "rec" name block
 #[cycle(nest)]
-#[tactic(auto, using(crate::proofs::Views::alones), unfolding(crate::specs::inner::Reading::rec_with))]
+#[tactic(auto, using(crate::proofs::Views::alones), unfolding(scr_parse::specs::inner::Reading::rec_with))]
 fn rec_of<'a>(
     alloc: Global,
     types: &Types,
@@ -260,7 +259,7 @@ fn rec_of<'a>(
 ) -> Result<(GStatement, &'a [Token]), ParseFault>
     requires { IsTable types.now }
     ensures { Gives (λ x. (alone x.0, toks x.1.now)) result
-        (rec_with (statement_at types.now.declared.items levels) (toks tokens.now)) }
+        (rec_with a_rec (statement_at types.now.declared.items levels) (toks tokens.now)) }
 {
     let (place, rest) = mark_of(tokens, Mark::Rec)?;
     let (_, name, rest) = name_of(rest)?;

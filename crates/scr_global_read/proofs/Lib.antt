@@ -1,4 +1,3 @@
-pub mod Sought
 pub mod Unique
 pub mod Named
 pub mod Staged

@@ -1,25 +1,20 @@
 -- What each step of reading answers.
-use Rattle.std.proofs.Common.{◌≡◌, ℕ, ◌≤◌, List, length, Option, Some, None, Result, Ok, Err, refl, sym, ap, ◌∙◌, subst, inl, inr, ◌⊎◌}
-use Rattle.std.proofs.Common.{arith}
-use Rattle.std.specs.Result.{IsErrOf}
+use Rattle.std.proofs.Common.{◌≡◌, ℕ, List, Option, Some, None, Result, Ok, Err, refl, sym, ap, ◌∙◌, subst, inl, inr, ◌⊎◌}
 use Rattle.mg_text.specs.declared.place.Place.{Place}
-use Rattle.mg_read.specs.declared.fault.LexFault.{LexFault}
-use Rattle.mg_read.specs.declared.fault.LexFault.TheVariants as lexes
 use Rattle.mg_read.specs.First.{Judged}
-use Rattle.mg_read.specs.Pieces.{no_piece, ill_formed}
 use Rattle.mg_read.proofs.Steps.{some_is}
 use Rattle.scr_global_tree.specs.declared.global.Global.{Global}
 use Rattle.scr_global_tree.specs.Global.{tree_of}
 use Rattle.scr_tree.specs.Tok.{Tok}
 use Rattle.scr_global_tree.specs.Written.{WrittenTree}
-use Rattle.scr_lex.specs.Pieces.{IsBadAt}
 use Rattle.scr_parse.specs.declared.fault.ParseFault.{ParseFault}
 use Rattle.scr_parse.specs.declared.fault.ParseFault.TheVariants as parses
 use Rattle.scr_global_parse.specs.Grammar.{IsSpelled}
 use Rattle.scr_global_parse.specs.Answer.{SaysSyntax}
 use Rattle.scr_global_read.specs.declared.fault.GlobalFault.{GlobalFault}
 use Rattle.scr_global_read.specs.Unsupported.{IsUnsupported}
-use Rattle.scr_global_read.specs.Spelling.{Separates, Spells}
+use Rattle.scr_read.specs.Spelling.{Separates}
+use Rattle.scr_global_read.specs.Spelling.{Spells}
 use Rattle.scr_global_read.specs.Outcome.{Answer, Protocol, Outcome, fault_answer, answer_of, IsAnswered}
 use Rattle.scr_global_read.specs.inner.Stages.{Stage, IsProtocol}
 use Rattle.scr_global_read.proofs.Unique.{one_outcome}
@@ -31,21 +26,6 @@ told file bytes b h a e = subst (Outcome file bytes) (some_is b a e) h
 pub told_by : (file : ℕ) (bytes : List ℕ) (o : Option Answer) (b : Answer) → o ≡ Some b → Outcome file bytes b → (a : Answer) → o ≡ Some a
     → Outcome file bytes a
 told_by file bytes o b is h a e = told file bytes b h a (sym is ∙ e)
-
--- a bad byte lies in the file
-pub bad_within : (k : ℕ) (bytes : List ℕ) → IsBadAt k bytes → k ≤ length bytes
-bad_within k bytes b =
-    elim (b.bad) [
-      | no_piece u ↦ omega (arith, u.here)
-      | ill_formed v ↦ omega (arith, v.short)
-    ]
-
-abbrev lexed : {T : Type 0} → LexFault → Result T LexFault
-lexed fault = Err fault
-
-pub bad_of : {T : Type 0} (fault : LexFault) (k : ℕ) (bytes : List ℕ) → fault ≡ lexes.BadByte k
-    → ((j : ℕ) → IsErrOf {T = T} (Err fault) (lexes.BadByte j) → IsBadAt j bytes) → IsBadAt k bytes
-bad_of {T} fault k bytes is h = h k (ap (lexed {T = T}) is)
 
 pub says_syntax : (fault : ParseFault) (place : Option Place) → fault ≡ parses.Syntax place → SaysSyntax (Err fault)
 says_syntax fault place is = subst (λ (f : ParseFault). SaysSyntax (Err f)) (sym is) tt

@@ -1,145 +1,54 @@
 -- Reading the bytes of a file gives one answer at most.
-use Rattle.std.proofs.Common.{◌≡◌, ℕ, ◌<◌, ◌≤◌, List, length, take, Option, Some, None, refl, sym, ap, ◌∙◌, subst, arith}
-use Rattle.mg_text.specs.Call.{Name}
+use Rattle.std.proofs.Common.{◌≡◌, ℕ, List, take, refl, sym, ap, ◌∙◌}
 use Rattle.mg_text.specs.Places.{start_of, place_after}
-use Rattle.mg_text.specs.declared.place.Place.{Place}
-use Rattle.mg_read.specs.Culprit.{Culprit, culprit}
-use Rattle.mg_read.specs.First.{Judged}
-use Rattle.mg_read.proofs.Judging.{one_answer}
-use Rattle.mg_read.proofs.Steps.{some_is}
-use Rattle.mg_read.proofs.Cuts.{same_tokens, tokens_or_bad, bad_once}
 use Rattle.scr_global_tree.specs.declared.condition.GlobalCondition.{GlobalCondition}
-use Rattle.scr_tree.specs.Tok.{Tok}
 use Rattle.scr_global_tree.specs.Written.{WrittenTree, global_of}
 use Rattle.scr_global_tree.specs.Faults.{IsFault}
-use Rattle.scr_lex.specs.Pieces.{scribble, tok_said, IsBadAt}
-use Rattle.scr_lex.proofs.Scans.{apart}
 use Rattle.scr_global_parse.specs.Grammar.{IsSpelled}
 use Rattle.scr_global_parse.proofs.Answered.{same_tree}
 use Rattle.scr_global_judge.proofs.OneFault.{one_fault}
-use Rattle.scr_global_read.specs.Unsupported.{IsUnsupported}
-use Rattle.scr_global_read.specs.Spelling.{Separates, Spells}
-use Rattle.scr_global_read.specs.Outcome.{Answer, Protocol, BadByte, Unsupported, Refused, told, Outcome, too_large, bad_byte, unsupported}
-use Rattle.scr_global_read.specs.Outcome.{syntax, refused, found}
-use Rattle.scr_global_read.proofs.Sought.{single}
+use Rattle.scr_read.proofs.Once as once
+use Rattle.scr_read.proofs.Once.{Got, Large, Bad, Word, NoTree, Fault, Tree, Spelled, Comes}
+use Rattle.scr_global_read.specs.Unsupported.{IsUnsupported, unsupported_word}
+use Rattle.scr_global_read.specs.Spelling.{Spells}
+use Rattle.scr_global_read.specs.Outcome.{Answer, Protocol, TooLarge, BadByte, Unsupported, Syntax, Refused, told, Outcome, too_large, bad_byte}
+use Rattle.scr_global_read.specs.Outcome.{unsupported, syntax, refused, found}
+use Rattle.scr_read.proofs.Sought.{single}
 
-place_is : (p q : Place) (n m : Name) → culprit p n ≡ culprit q m → p ≡ q
-place_is p q n m e = cc
-
-name_is : (p q : Place) (n m : Name) → culprit p n ≡ culprit q m → n ≡ m
-name_is p q n m e = cc
+-- what is answered
+abbrev answer_at : (file : ℕ) (bytes : List ℕ) → Got WrittenTree GlobalCondition → Answer
+answer_at file bytes Large = TooLarge (start_of file)
+answer_at file bytes (Bad k) = BadByte (place_after (start_of file) (take k bytes))
+answer_at file bytes (Word place word) = Unsupported place word
+answer_at file bytes NoTree = Syntax
+answer_at file bytes (Fault condition place name) = Refused condition place (told condition name)
+answer_at file bytes (Tree w) = Protocol (global_of w)
 
 module _ (file : ℕ) (bytes : List ℕ) where
-  tokens_once : (ts us : List Tok) → Separates file bytes ts → Separates file bytes us → ts ≡ us
-  tokens_once ts us a b = same_tokens scribble apart tok_said file ts us bytes a.cut b.cut
+  abbrev Gets : Got WrittenTree GlobalCondition → Type 0
+  Gets = Comes (λ w. w.file) IsUnsupported IsSpelled IsFault file bytes
+
+  spelled_of : (w : WrittenTree) → Spells file bytes w → Spelled (λ w. w.file) IsUnsupported IsSpelled IsFault file bytes w
+  spelled_of w s =
+      record { same_file = s.same_file; tokens = s.tokens; separates = s.separates; supported = s.supported; spelled = s.spelled }
+
+  comes_to : (a : Answer) → Outcome file bytes a → (g : Got WrittenTree GlobalCondition) × Gets g × (answer_at file bytes g ≡ a)
+  comes_to a (too_large h) = (Large, once.too_large h, refl)
+  comes_to a (bad_byte k le h) = (Bad k, once.bad_byte k le h, refl)
+  comes_to a (unsupported {place = p} {word = w} s h) = (Word p w, once.unsupported s h, refl)
+  comes_to a (syntax s h n) = (NoTree, once.syntax s h n, refl)
+  comes_to a (refused {w = w} {condition = k} {place = p} {name = n} s h) = (Fault k p n, once.refused (spelled_of w s) h, refl)
+  comes_to a (found {w = w} s h) = (Tree w, once.found (spelled_of w s) h, refl)
 
   pub one_file : (w v : WrittenTree) → Spells file bytes w → Spells file bytes v → w ≡ v
   one_file w v a b =
-      let ts = tokens_once a.tokens b.tokens a.separates b.separates in
-      same_tree w v b.tokens (subst (IsSpelled w) ts a.spelled) b.spelled (a.same_file ∙ sym b.same_file)
-
-  -- ---- rows that exclude each other
-
-  small : 1048576 < length bytes → length bytes ≤ 1048576 → ⊥
-  small h le = omega arith
-
-  cut_or_bad : (k : ℕ) (ts : List Tok) → IsBadAt k bytes → Separates file bytes ts → ⊥
-  cut_or_bad k ts bad s = tokens_or_bad scribble apart tok_said file ts k bytes s.cut bad
-
-  supported_or_not : (ts us : List Tok) (c : Culprit) → Separates file bytes ts → Separates file bytes us → Judged IsUnsupported ts (Some c)
-      → Judged IsUnsupported us None → ⊥
-  supported_or_not ts us c a b h g =
-      let same = one_answer single (subst (λ (xs : List Tok). Judged IsUnsupported xs (Some c)) (tokens_once ts us a b) h) g in
-      let e : ◌≡◌ {A = Option Culprit} (Some c) None = same in cc
-
-  spelled_or_not : (ts : List Tok) (w : WrittenTree) → Separates file bytes ts → ((v : WrittenTree) → IsSpelled v ts → ⊥)
-      → Spells file bytes w → ⊥
-  spelled_or_not ts w a none s = none w (subst (IsSpelled w) (tokens_once s.tokens ts s.separates a) s.spelled)
-
-  fault_or_not : (w v : WrittenTree) (f : GlobalCondition × Culprit) → Spells file bytes w → Spells file bytes v → IsFault w (Some f)
-      → IsFault v None → ⊥
-  fault_or_not w v f a b h g =
-      let e : ◌≡◌ {A = Option (GlobalCondition × Culprit)} (Some f) None =
-      one_fault v (Some f) None (subst (λ (z : WrittenTree). IsFault z (Some f)) (one_file w v a b) h) g in cc
-
-  -- ---- the same row
-
-  same_bad : (k j : ℕ) → IsBadAt k bytes → IsBadAt j bytes
-      → ◌≡◌ {A = Answer} (BadByte (place_after (start_of file) (take k bytes))) (BadByte (place_after (start_of file) (take j bytes)))
-  same_bad k j a b = ap (λ (n : ℕ). BadByte (place_after (start_of file) (take n bytes))) (bad_once scribble apart bytes k j a b)
-
-  same_word : (ts us : List Tok) (p q : Place) (v w : Name) → Separates file bytes ts → Separates file bytes us
-      → Judged IsUnsupported ts (Some (culprit p v)) → Judged IsUnsupported us (Some (culprit q w))
-      → ◌≡◌ {A = Answer} (Unsupported p v) (Unsupported q w)
-  same_word ts us p q v w a b h g =
-      let same : ◌≡◌ {A = Option Culprit} (Some (culprit p v)) (Some (culprit q w)) =
-      one_answer single (subst (λ (xs : List Tok). Judged IsUnsupported xs (Some (culprit p v))) (tokens_once ts us a b) h) g in
-      let places : p ≡ q = cc in
-      let words : v ≡ w = cc in
-      λ i. Unsupported (places i) (words i)
-
-  same_fault : (w v : WrittenTree) (k j : GlobalCondition) (p q : Place) (n m : Name) → Spells file bytes w → Spells file bytes v
-      → IsFault w (Some (k, culprit p n)) → IsFault v (Some (j, culprit q m))
-      → ◌≡◌ {A = Answer} (Refused k p (told k n)) (Refused j q (told j m))
-  same_fault w v k j p q n m a b h g =
-      let same : ◌≡◌ {A = Option (GlobalCondition × Culprit)} (Some (k, culprit p n)) (Some (j, culprit q m)) =
-      one_fault v (Some (k, culprit p n)) (Some (j, culprit q m)) (subst (λ (z : WrittenTree). IsFault z (Some (k, culprit p n)))
-      (one_file w v a b) h) g in
-      let pair = some_is (k, culprit p n) (j, culprit q m) same in
-      let conditions = ap (λ (x : GlobalCondition × Culprit). x.0) pair in
-      let places = place_is p q n m (ap (λ (x : GlobalCondition × Culprit). x.1) pair) in
-      let names = name_is p q n m (ap (λ (x : GlobalCondition × Culprit). x.1) pair) in
-      λ i. Refused (conditions i) (places i) (told (conditions i) (names i))
-
-  -- ---- one answer
-
-  size_of : (w : WrittenTree) → Spells file bytes w → length bytes ≤ 1048576
-  size_of w s = s.separates.size
+      once.one_file (λ w. w.file) IsUnsupported IsSpelled IsFault file bytes (single unsupported_word) same_tree one_fault w v (spelled_of w a) (spelled_of v b)
 
   pub one_outcome : (a b : Answer) → Outcome file bytes a → Outcome file bytes b → a ≡ b
-  one_outcome a b (too_large h) (too_large g) = refl
-  one_outcome a b (too_large h) (bad_byte k le g) = absurd (small h le)
-  one_outcome a b (too_large h) (unsupported s g) = absurd (small h s.size)
-  one_outcome a b (too_large h) (syntax s g n) = absurd (small h s.size)
-  one_outcome a b (too_large h) (refused {w = w} s g) = absurd (small h (size_of w s))
-  one_outcome a b (too_large h) (found {w = w} s g) = absurd (small h (size_of w s))
-  one_outcome a b (bad_byte k le h) (too_large g) = absurd (small g le)
-  one_outcome a b (bad_byte k le h) (bad_byte j me g) = same_bad k j h g
-  one_outcome a b (bad_byte k le h) (unsupported {tokens = ts} s g) = absurd (cut_or_bad k ts h s)
-  one_outcome a b (bad_byte k le h) (syntax {tokens = ts} s g n) = absurd (cut_or_bad k ts h s)
-  one_outcome a b (bad_byte k le h) (refused s g) = absurd (cut_or_bad k s.tokens h s.separates)
-  one_outcome a b (bad_byte k le h) (found s g) = absurd (cut_or_bad k s.tokens h s.separates)
-  one_outcome a b (unsupported s h) (too_large g) = absurd (small g s.size)
-  one_outcome a b (unsupported {tokens = ts} s h) (bad_byte k le g) = absurd (cut_or_bad k ts g s)
-  one_outcome a b (unsupported {tokens = ts} {place = p} {word = v} s h)
-      (unsupported {tokens = us} {place = q} {word = w} r g) = same_word ts us p q v w s r h g
-  one_outcome a b (unsupported {tokens = ts} {place = p} {word = v} s h) (syntax {tokens = us} r g n) = absurd
-      (supported_or_not ts us (culprit p v) s r h g)
-  one_outcome a b (unsupported {tokens = ts} {place = p} {word = v} s h) (refused r g) = absurd
-      (supported_or_not ts r.tokens (culprit p v) s r.separates h r.supported)
-  one_outcome a b (unsupported {tokens = ts} {place = p} {word = v} s h) (found r g) = absurd
-      (supported_or_not ts r.tokens (culprit p v) s r.separates h r.supported)
-  one_outcome a b (syntax s h n) (too_large g) = absurd (small g s.size)
-  one_outcome a b (syntax {tokens = ts} s h n) (bad_byte k le g) = absurd (cut_or_bad k ts g s)
-  one_outcome a b (syntax {tokens = us} r g n) (unsupported {tokens = ts} {place = p} {word = v} s h) = absurd
-      (supported_or_not ts us (culprit p v) s r h g)
-  one_outcome a b (syntax s h n) (syntax r g m) = refl
-  one_outcome a b (syntax {tokens = ts} s h n) (refused {w = w} r g) = absurd (spelled_or_not ts w s n r)
-  one_outcome a b (syntax {tokens = ts} s h n) (found {w = w} r g) = absurd (spelled_or_not ts w s n r)
-  one_outcome a b (refused {w = w} s h) (too_large g) = absurd (small g (size_of w s))
-  one_outcome a b (refused s h) (bad_byte k le g) = absurd (cut_or_bad k s.tokens g s.separates)
-  one_outcome a b (refused r g) (unsupported {tokens = ts} {place = p} {word = v} s h) = absurd
-      (supported_or_not ts r.tokens (culprit p v) s r.separates h r.supported)
-  one_outcome a b (refused {w = w} r g) (syntax {tokens = ts} s h n) = absurd (spelled_or_not ts w s n r)
-  one_outcome a b (refused {w = w} {condition = k} {place = p} {name = n} s h)
-      (refused {w = v} {condition = j} {place = q} {name = m} r g) = same_fault w v k j p q n m s r h g
-  one_outcome a b (refused {w = w} {condition = k} {place = p} {name = n} s h) (found {w = v} r g) = absurd
-      (fault_or_not w v (k, culprit p n) s r h g)
-  one_outcome a b (found {w = w} s h) (too_large g) = absurd (small g (size_of w s))
-  one_outcome a b (found s h) (bad_byte k le g) = absurd (cut_or_bad k s.tokens g s.separates)
-  one_outcome a b (found r g) (unsupported {tokens = ts} {place = p} {word = v} s h) = absurd
-      (supported_or_not ts r.tokens (culprit p v) s r.separates h r.supported)
-  one_outcome a b (found {w = w} r g) (syntax {tokens = ts} s h n) = absurd (spelled_or_not ts w s n r)
-  one_outcome a b (found {w = v} r g) (refused {w = w} {condition = k} {place = p} {name = n} s h) = absurd
-      (fault_or_not w v (k, culprit p n) s r h g)
-  one_outcome a b (found {w = w} s h) (found {w = v} r g) = ap (λ (z : WrittenTree). Protocol (global_of z)) (one_file w v s r)
+  one_outcome a b h g =
+      let x = comes_to a h in
+      let y = comes_to b g in
+      sym x.2
+      ∙ ap (answer_at file bytes) (once.one_come (λ w. w.file) IsUnsupported IsSpelled IsFault file bytes (single unsupported_word) same_tree one_fault
+      x.0 y.0 x.1 y.1)
+      ∙ y.2

@@ -16,7 +16,8 @@ use Rattle.scr_global_tree.specs.Written.{WrittenTree, global_of}
 use Rattle.scr_global_tree.specs.Faults.{IsFault}
 use Rattle.scr_lex.specs.Pieces.{IsBadAt}
 use Rattle.scr_global_read.specs.Unsupported.{IsUnsupported}
-use Rattle.scr_global_read.specs.Spelling.{Separates, Spells}
+use Rattle.scr_read.specs.Spelling.{Separates}
+use Rattle.scr_global_read.specs.Spelling.{Spells}
 use Rattle.scr_global_parse.specs.Grammar.{IsSpelled}
 use Rattle.scr_global_read.specs.declared.fault.GlobalFault.{GlobalFault}
 use Rattle.scr_global_read.specs.declared.fault.GlobalFault.TheVariants as faults

@@ -3,7 +3,8 @@
 ghost use Rattle.std.specs.Prelude.{◌≡◌, ◌≤◌, length};
 ghost use Rattle.scr_tree.specs.Tok.{toks};
 ghost use Rattle.scr_global_tree.specs.Written.{written_of};
-ghost use Rattle.scr_global_read.specs.Spelling.{Separates, Spells};
+ghost use Rattle.scr_read.specs.Spelling.{Separates};
+ghost use Rattle.scr_global_read.specs.Spelling.{Spells};
 ghost use Rattle.scr_global_read.specs.inner.Stages.{Stage};
 
 use crate::fault::GlobalFault;

@@ -29,7 +29,7 @@ use Rattle.scr_judge.proofs.Members.{Contains-nil, Contains-cons_cases, Contains
 use Rattle.scr_judge.proofs.Words.{any_to, any_from}
 
 -- the first condition has no culprit, and those behind it have none
-split : {K C : Type 0} {Of : K → Option C → Type 0} {k : K} {ks : List K} → FirstOf Of (k ∷ ks) None → Of k None × FirstOf Of ks None
+pub split : {K C : Type 0} {Of : K → Option C → Type 0} {k : K} {ks : List K} → FirstOf Of (k ∷ ks) None → Of k None × FirstOf Of ks None
 split {K} {C} {Of} {k} {ks} p = go _ _ p refl refl
   where
     go : (ls : List K) (r : Option (K × C)) → FirstOf Of ls r → ls ≡ k ∷ ks → r ≡ None → Of k None × FirstOf Of ks None

@@ -19,7 +19,7 @@ use Rattle.scr_tree.specs.declared.condition.Condition.{Condition}
 use Rattle.scr_tree.specs.declared.condition.Condition.TheVariants as conditions
 
 -- both are the culprit that is named
-two : (k c d : Culprit) → c ≡ k → d ≡ k → c ≡ d
+pub two : (k c d : Culprit) → c ≡ k → d ≡ k → c ≡ d
 two k c d e f = e ∙ sym f
 
 role_single : (roles : List Name) → IsSingle (UnknownRole roles)
@@ -34,11 +34,11 @@ mention_single : (roles : List Name) → IsSingle (listing.UnknownRole roles)
 mention_single roles (itself me) c d a b = two _ c d a.0 b.0
 mention_single roles (within s) c d a b = role_single roles s c d a b
 
-name_single : IsSingle DuplicateName
+pub name_single : IsSingle DuplicateName
 name_single (earlier, declares x) c d a b = two _ c d a.0 b.0
 name_single (earlier, lists role) c d a b = two _ c d a.0 b.0
 
-type_single : (types : List Declaration) → IsSingle (UnknownType types)
+pub type_single : (types : List Declaration) → IsSingle (UnknownType types)
 type_single types (declared x) c d a b = two _ c d a.0 b.0
 type_single types (carried place type) c d a b = two _ c d a.0 b.0
 

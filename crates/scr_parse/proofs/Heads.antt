@@ -12,7 +12,7 @@ use Rattle.scr_parse.specs.Grammar.{Behind, Before, Listed, IsRole, IsMyself, Is
 use Rattle.scr_parse.specs.inner.Reading.{mark_at, name_at, is_at, role_at, earlier_role_at, other_role_at, more_roles_at, roles_at}
 use Rattle.scr_parse.specs.inner.Reading.{is_other_role, earlier_roles_at, self_at, myself_at, at_header_at, self_header_at, header_at}
 use Rattle.scr_parse.proofs.Steps.{Anything, after, mark_is, name_is}
-use Rattle.scr_parse.proofs.Turns.{front_sound, front_complete, shorter}
+use Rattle.mg_read.proofs.Turns.{front_sound, front_complete, shorter}
 
 -- ---- one role
 

@@ -4,6 +4,7 @@ pub mod Names
 pub mod Heads
 pub mod Tables
 pub mod Views
+pub mod Blocks
 pub mod Nested
 pub mod Carried
 pub mod Whole

@@ -14,7 +14,7 @@ use Rattle.scr_parse.specs.Grammar.{Behind, Listed, IsNaming, IsModule, IsType}
 use Rattle.scr_parse.specs.inner.Reading.{mark_at, name_at, quoted_at, is_at, other_name_at, names_at, module_at, after_module, language_at}
 use Rattle.scr_parse.specs.inner.Reading.{class_at, type_at}
 use Rattle.scr_parse.proofs.Steps.{Anything, after, mark_is, name_is, quoted_is, mark_again, is_at_again}
-use Rattle.scr_parse.proofs.Turns.{front_sound, front_complete, shorter}
+use Rattle.mg_read.proofs.Turns.{front_sound, front_complete, shorter}
 
 -- ---- names
 

@@ -1,12 +1,11 @@
 -- Statements are read where the grammar spells them, and nowhere else.
-use Rattle.std.proofs.Common.{◌≡◌, ℕ, zero, suc, ◌<◌, ◌≤◌, List, [], ◌∷◌, ◌++◌, length, map, true, false, Some, refl, sym, ap, ◌∙◌, subst}
+use Rattle.std.proofs.Common.{◌≡◌, ℕ, zero, suc, ◌<◌, ◌≤◌, List, [], ◌∷◌, ◌++◌, length, map, true, Some, refl, sym, ap, ◌∙◌, subst}
 use Rattle.std.proofs.Common.{append_assoc, arith, inl, inr}
 use Rattle.mg_text.specs.Call.{Name}
 use Rattle.mg_text.specs.declared.place.Place.{Place}
-use Rattle.mg_read.specs.Reader.{Reader, ◌>>=◌, all_of}
+use Rattle.mg_read.specs.Reader.{Reader, ◌>>=◌}
 use Rattle.mg_read.proofs.Steps.{bind_some, some_is, none_is_not, chosen, Takes}
-use Rattle.mg_read.proofs.Lists.{Each, IsExact, Starts, all_sound, all_complete}
-use Rattle.mg_read.proofs.Loop.{with_front}
+use Rattle.mg_read.proofs.Lists.{Each, IsExact, Starts}
 use Rattle.scr_tree.specs.Tok.{Tok, named, marked}
 use Rattle.scr_tree.specs.declared.token.Mark.TheVariants as marks
 use Rattle.scr_tree.specs.declared.syntax.Direction.{Direction}
@@ -19,11 +18,13 @@ use Rattle.scr_tree.specs.Valid.{depth, depth_in}
 use Rattle.scr_parse.specs.Grammar.{Listed, IsNaming, direction_mark, AreTypes, IsMessage, Note, carries, gives, carried, given, IsBraced}
 use Rattle.scr_parse.specs.Grammar.{AreStatements, AreBranches, AreOthers}
 use Rattle.scr_parse.specs.inner.View.{joined}
-use Rattle.scr_parse.specs.inner.Reading.{is_at, mark_at, name_at, names_at, direction_at, payload_at, message_at, continue_at, do_at}
-use Rattle.scr_parse.specs.inner.Reading.{not_closed, block_with, other_with, branches_with, choice_with, rec_with, says_at, statement_with}
-use Rattle.scr_parse.specs.inner.Reading.{statement_at}
+use Rattle.scr_parse.specs.inner.Reading.{is_at, mark_at, name_at, names_at, direction_at, payload_at, message_at, continue_with, do_at}
+use Rattle.scr_parse.specs.inner.Reading.{not_closed, block_with, other_with, choice_with, rec_with, says_at, statement_with}
+use Rattle.scr_parse.specs.inner.Reading.{a_choice, a_rec, a_continue, statement_at}
 use Rattle.scr_parse.proofs.Steps.{Anything, after, mark_is, name_is}
-use Rattle.scr_parse.proofs.Turns.{front_sound, front_complete, shorter}
+use Rattle.mg_read.proofs.Turns.{shorter}
+use Rattle.scr_parse.proofs.Blocks.{NotOr, takes_as, BlockOf, OtherOf, BranchesOf, IsChoice, IsRec, IsContinue, other_nonempty, block_complete, block_exact, other_exact}
+use Rattle.scr_parse.proofs.Blocks.{branches_complete, choice_sound, rec_sound, continue_sound}
 use Rattle.scr_parse.proofs.Names.{names_sound, names_complete}
 
 -- ---- messages
@@ -138,19 +139,6 @@ module _ (declared : List Declaration) where
       (vs ++ marked c marks.CloseParen ∷ marked e marks.Semicolon ∷ []))
       × Listed marks.Comma IsNaming roles vs × (1 ≤ d)
 
-  abbrev NotOr : List Tok → Type 0
-  NotOr ts = is_at marks.Or ts ≡ false
-
-  abbrev pub BlockOf : ℕ → List Statements → List Tok → Type 0
-  BlockOf d xs = IsBraced (Each (Deep d) xs)
-
-  abbrev pub OtherOf : ℕ → List Statements → List Tok → Type 0
-  OtherOf d xs us = (a : Place) × (vs : List Tok) × (us ≡ marked a marks.Or ∷ vs) × BlockOf d xs vs
-
-  abbrev BranchesOf : ℕ → List (List Statements) → List Tok → Type 0
-  BranchesOf d [] ts = ⊥
-  BranchesOf d (x ∷ xs) ts = (us vs : List Tok) × (ts ≡ us ++ vs) × BlockOf d x us × Each (OtherOf d) xs vs
-
   -- ---- lists of statements, and statements in a row
 
   abbrev Row : ℕ → Statements → List Tok → Type 0
@@ -234,11 +222,11 @@ module _ (declared : List Declaration) where
   abbrev pub Block : ℕ → Statements → List Tok → Type 0
   Block d b us = (cs : List Note) × IsBraced (AreStatements declared b cs) us × (depth b ≤ d)
 
-  pub block_row : (d : ℕ) (xs : List Statements) (us : List Tok) → BlockOf d xs us → Block d (joined xs) us
+  pub block_row : (d : ℕ) (xs : List Statements) (us : List Tok) → BlockOf (Deep d) xs us → Block d (joined xs) us
   block_row d xs us (a, b, vs, parts, h) = let r = deep_row d xs vs h in (r.0, (a, b, vs, parts, r.1), r.2)
 
   pub row_block : (d : ℕ) (b : Statements) (cs : List Note) (us : List Tok) → IsBraced (AreStatements declared b cs) us → depth b ≤ d
-      → BlockOf d (list_of b) us
+      → BlockOf (Deep d) (list_of b) us
   row_block d b cs us (p, q, vs, parts, h) le = (p, q, vs, parts, row_deep d b cs vs h le)
 
   abbrev lists_of : Branches → List (List Statements)
@@ -252,7 +240,7 @@ module _ (declared : List Declaration) where
   abbrev Others : ℕ → Branches → List Tok → Type 0
   Others d bs us = (cs : List Note) × AreOthers declared bs cs us × (depth_in bs ≤ d)
 
-  deep_others : (d : ℕ) (xs : List (List Statements)) (us : List Tok) → Each (OtherOf d) xs us → Others d (branches_of (map joined xs)) us
+  deep_others : (d : ℕ) (xs : List (List Statements)) (us : List Tok) → Each (OtherOf (Deep d)) xs us → Others d (branches_of (map joined xs)) us
   deep_others d [] us h = ([], (refl, h), omega arith)
   deep_others d (x ∷ xs) us (ps, qs, parts, (a, vs, starts, block), more) =
       let one = block_row d x vs block in
@@ -260,7 +248,7 @@ module _ (declared : List Declaration) where
       (one.0 ++ r.0, (a, one.0, r.0, vs, qs, refl, parts ∙ ap (λ (z : List Tok). z ++ qs) starts, one.1, r.1), omega (arith, one.2, r.2))
 
   others_deep : (d : ℕ) (bs : Branches) (cs : List Note) (us : List Tok) → AreOthers declared bs cs us → depth_in bs ≤ d
-      → Each (OtherOf d) (lists_of bs) us
+      → Each (OtherOf (Deep d)) (lists_of bs) us
   others_deep d NoBranch cs us h le = h.1
   others_deep d (Branch b more) cs us (a, ds, es, vs, qs, carry, parts, block, h) le =
       (marked a marks.Or ∷ vs, qs, parts, (a, vs, refl, row_block d b ds vs block (omega arith)), others_deep d more es qs h (omega arith))
@@ -268,7 +256,7 @@ module _ (declared : List Declaration) where
   abbrev Choices : ℕ → Branches → List Tok → Type 0
   Choices d bs us = (cs : List Note) × AreBranches declared bs cs us × (depth_in bs ≤ d)
 
-  deep_branches : (d : ℕ) (xs : List (List Statements)) (us : List Tok) → BranchesOf d xs us → Choices d (branches_of (map joined xs)) us
+  deep_branches : (d : ℕ) (xs : List (List Statements)) (us : List Tok) → BranchesOf (Deep d) xs us → Choices d (branches_of (map joined xs)) us
   deep_branches d [] us h = absurd h
   deep_branches d (x ∷ xs) us (ps, qs, parts, block, more) =
       let one = block_row d x ps block in
@@ -276,7 +264,7 @@ module _ (declared : List Declaration) where
       (one.0 ++ r.0, (one.0, r.0, ps, qs, refl, parts, one.1, r.1), omega (arith, one.2, r.2))
 
   branches_deep : (d : ℕ) (bs : Branches) (cs : List Note) (us : List Tok) → AreBranches declared bs cs us → depth_in bs ≤ d
-      → BranchesOf d (lists_of bs) us
+      → BranchesOf (Deep d) (lists_of bs) us
   branches_deep d NoBranch cs us h le = absurd h
   branches_deep d (Branch b more) cs us (ds, es, ps, qs, carry, parts, block, h) le =
       (ps, qs, parts, row_block d b ds ps block (omega arith), others_deep d more es qs h (omega arith))
@@ -310,137 +298,23 @@ module _ (declared : List Declaration) where
   deep_starts : (d : ℕ) → Starts not_closed (Deep d) NotOr
   deep_starts d = record { follows = deep_follows d; goes = deep_goes d; nonempty = deep_nonempty d }
 
-  other_goes : (d : ℕ) (x : List Statements) (ts rest : List Tok) → OtherOf d x ts → is_at marks.Or (ts ++ rest) ≡ true
-  other_goes d x ts rest (a, vs, e, h) = rw e refl
+  -- ---- statements
 
-  other_nonempty : (d : ℕ) (x : List Statements) (ts : List Tok) → OtherOf d x ts → 0 < length ts
-  other_nonempty d x ts (a, vs, e, h) = rw e (omega arith)
+  deep_choice : (d : ℕ) (x : Statements) (us : List Tok) → IsChoice (Deep d) a_choice x us → Deep (suc d) x us
+  deep_choice d x us c =
+      let r = deep_branches d c.branches c.behind c.spelled in
+      subst (λ (y : Statements). Deep (suc d) y us) c.is
+      (refl, c.at_place, c.name_place, r.0, c.behind, c.tokens, r.1, omega (arith, r.2))
 
-  other_starts : (d : ℕ) → Starts (is_at marks.Or) (OtherOf d) Anything
-  other_starts d = record { follows = λ x ts rest h. tt; goes = other_goes d; nonempty = other_nonempty d }
+  deep_rec : (d : ℕ) (x : Statements) (us : List Tok) → IsRec (Deep d) a_rec x us → Deep (suc d) x us
+  deep_rec d x us c =
+      let r = block_row d c.body c.behind c.spelled in
+      subst (λ (y : Statements). Deep (suc d) y us) c.is (refl, c.name_place, r.0, c.behind, c.tokens, r.1, omega (arith, r.2))
 
-  -- ---- blocks
+  deep_continue : (d : ℕ) (x : Statements) (us : List Tok) → IsContinue a_continue x us → Deep (suc d) x us
+  deep_continue d x us c = subst (λ (y : Statements). Deep (suc d) y us) c.is (refl, c.name_place, c.end, c.tokens, omega arith)
 
   module _ (f : Reader Tok Statements) (d : ℕ) (exact : IsExact f (Deep d) NotOr) where
-    block_sound : (ts : List Tok) (x : List Statements × List Tok) → block_with f ts ≡ Some x → Takes (BlockOf d x.0) ts x.1
-    unfolding block_with
-    block_sound ts x e =
-        let s = bind_some (mark_at marks.OpenBrace ts) _ x e in
-        let b = bind_some (all_of not_closed f s.0.1) _ x s.2 in
-        let c = bind_some (mark_at marks.CloseBrace b.0.1) _ x b.2 in
-        let one = all_sound not_closed f (Deep d) NotOr exact s.0.1 b.0 b.1 in
-        let end : List Tok = marked c.0.0 marks.CloseBrace ∷ [] in
-        let inner : s.0.1 ≡ (one.front ++ end) ++ c.0.1 =
-        one.parts ∙ ap (λ (r : List Tok). one.front ++ r) (mark_is marks.CloseBrace b.0.1 c.0 c.1) ∙ sym
-        (append_assoc one.front end c.0.1) in
-        subst (λ (y : List Statements × List Tok). Takes (BlockOf d y.0) ts y.1) (some_is _ x c.2)
-        (record {
-          front = marked s.0.0 marks.OpenBrace ∷ (one.front ++ end);
-          parts = after (mark_is marks.OpenBrace ts s.0 s.1) inner;
-          holds = (s.0.0, c.0.0, one.front, refl, one.holds);
-        })
-
-    block_complete : (x : List Statements) (ts rest : List Tok) → Anything rest → BlockOf d x ts
-        → block_with f (ts ++ rest) ≡ Some (x, rest)
-    unfolding block_with
-    block_complete x ts rest fine (a, c, us, parts, h) =
-        let inner = all_complete not_closed f (Deep d) NotOr exact (deep_starts d) x us (marked c marks.CloseBrace ∷ rest) refl refl h in
-        rw (parts, append_assoc, inner) refl
-
-    block_exact : IsExact (block_with f) (BlockOf d) Anything
-    block_exact = record { sound = block_sound; complete = block_complete }
-
-    other_sound : (ts : List Tok) (x : List Statements × List Tok) → other_with f ts ≡ Some x → Takes (OtherOf d x.0) ts x.1
-    unfolding other_with
-    other_sound ts x e =
-        let s = bind_some (mark_at marks.Or ts) _ x e in
-        let one = block_sound s.0.1 x s.2 in
-        record {
-          front = marked s.0.0 marks.Or ∷ one.front;
-          parts = after (mark_is marks.Or ts s.0 s.1) one.parts;
-          holds = (s.0.0, one.front, refl, one.holds);
-        }
-
-    other_complete : (x : List Statements) (ts rest : List Tok) → Anything rest → OtherOf d x ts
-        → other_with f (ts ++ rest) ≡ Some (x, rest)
-    unfolding other_with
-    other_complete x ts rest fine (a, us, parts, h) = rw (parts, block_complete x us rest fine h) refl
-
-    other_exact : IsExact (other_with f) (OtherOf d) Anything
-    other_exact = record { sound = other_sound; complete = other_complete }
-
-    branches_sound : (ts : List Tok) (x : List (List Statements) × List Tok) → branches_with f ts ≡ Some x → Takes (BranchesOf d x.0) ts x.1
-    unfolding branches_with
-    branches_sound ts x e =
-        let s = bind_some (block_with f ts) _ x e in
-        let o = bind_some (with_front (s.0.0 ∷ []) (all_of (is_at marks.Or) (other_with f) s.0.1)) _ x s.2 in
-        let one = block_sound ts s.0 s.1 in
-        let more = front_sound (is_at marks.Or) (other_with f) (OtherOf d) Anything other_exact (s.0.0 ∷ []) s.0.1 o.0 o.1 in
-        subst (λ (y : List (List Statements) × List Tok). Takes (BranchesOf d y.0) ts y.1) (some_is _ x o.2)
-        (record {
-          front = one.front ++ more.2.front;
-          parts = one.parts ∙ ap (λ (r : List Tok). one.front ++ r) more.2.parts ∙ sym (append_assoc one.front more.2.front o.0.1);
-          holds = subst (λ (l : List (List Statements)). BranchesOf d l (one.front ++ more.2.front)) (sym more.1)
-              (one.front, more.2.front, refl, one.holds, more.2.holds);
-        })
-
-    branches_complete : (x : List (List Statements)) (ts rest : List Tok) → NotOr rest → BranchesOf d x ts
-        → branches_with f (ts ++ rest) ≡ Some (x, rest)
-    unfolding branches_with
-    branches_complete [] ts rest fine h = absurd h
-    branches_complete (x ∷ xs) ts rest fine (us, vs, parts, block, more) =
-        let first = block_complete x us (vs ++ rest) tt block in
-        let others = front_complete (is_at marks.Or) (other_with f) (OtherOf d) Anything other_exact (other_starts d)
-        (x ∷ []) xs vs rest tt fine more in
-        rw (parts, append_assoc, first, others) refl
-
-    -- ---- statements
-
-    choice_sound : (ts : List Tok) (x : Statements × List Tok) → choice_with f ts ≡ Some x → Takes (Deep (suc d) x.0) ts x.1
-    unfolding choice_with
-    choice_sound ts x e =
-        let s = bind_some (mark_at marks.Choice ts) _ x e in
-        let a = bind_some (mark_at marks.At s.0.1) _ x s.2 in
-        let n = bind_some (name_at a.0.1) _ x a.2 in
-        let b = bind_some (branches_with f n.0.1) _ x n.2 in
-        let one = branches_sound n.0.1 b.0 b.1 in
-        let r = deep_branches d b.0.0 one.front one.holds in
-        subst (λ (y : Statements × List Tok). Takes (Deep (suc d) y.0) ts y.1) (some_is _ x b.2)
-        (record {
-          front = marked s.0.0 marks.Choice ∷ marked a.0.0 marks.At ∷ named n.0.0.0 n.0.0.1 ∷ one.front;
-          parts = after (mark_is marks.Choice ts s.0 s.1) (after (mark_is marks.At s.0.1 a.0 a.1)
-              (after (name_is a.0.1 n.0 n.1) one.parts));
-          holds = (refl, a.0.0, n.0.0.0, r.0, one.front, refl, r.1, omega (arith, r.2));
-        })
-
-    rec_sound : (ts : List Tok) (x : Statements × List Tok) → rec_with f ts ≡ Some x → Takes (Deep (suc d) x.0) ts x.1
-    unfolding rec_with
-    rec_sound ts x e =
-        let s = bind_some (mark_at marks.Rec ts) _ x e in
-        let n = bind_some (name_at s.0.1) _ x s.2 in
-        let b = bind_some (block_with f n.0.1) _ x n.2 in
-        let one = block_sound n.0.1 b.0 b.1 in
-        let r = block_row d b.0.0 one.front one.holds in
-        subst (λ (y : Statements × List Tok). Takes (Deep (suc d) y.0) ts y.1) (some_is _ x b.2)
-        (record {
-          front = marked s.0.0 marks.Rec ∷ named n.0.0.0 n.0.0.1 ∷ one.front;
-          parts = after (mark_is marks.Rec ts s.0 s.1) (after (name_is s.0.1 n.0 n.1) one.parts);
-          holds = (refl, n.0.0.0, r.0, one.front, refl, r.1, omega (arith, r.2));
-        })
-
-    continue_sound : (ts : List Tok) (x : Statements × List Tok) → continue_at ts ≡ Some x → Takes (Deep (suc d) x.0) ts x.1
-    unfolding continue_at
-    continue_sound ts x e =
-        let s = bind_some (mark_at marks.Continue ts) _ x e in
-        let n = bind_some (name_at s.0.1) _ x s.2 in
-        let c = bind_some (mark_at marks.Semicolon n.0.1) _ x n.2 in
-        subst (λ (y : Statements × List Tok). Takes (Deep (suc d) y.0) ts y.1) (some_is _ x c.2)
-        (record {
-          front = marked s.0.0 marks.Continue ∷ named n.0.0.0 n.0.0.1 ∷ marked c.0.0 marks.Semicolon ∷ [];
-          parts = after (mark_is marks.Continue ts s.0 s.1) (after (name_is s.0.1 n.0 n.1) (mark_is marks.Semicolon n.0.1 c.0 c.1));
-          holds = (refl, n.0.0.0, c.0.0, refl, omega arith);
-        })
-
     do_sound : (ts : List Tok) (x : Statements × List Tok) → do_at ts ≡ Some x → Takes (Deep (suc d) x.0) ts x.1
     unfolding do_at
     do_sound ts x e =
@@ -474,12 +348,12 @@ module _ (declared : List Declaration) where
     statement_sound : (ts : List Tok) (x : Statements × List Tok) → statement_with declared f ts ≡ Some x → Takes (Deep (suc d) x.0) ts x.1
     unfolding statement_with
     statement_sound ts x e =
-        elim (chosen (is_at marks.Choice ts) (choice_with f ts) _ (Some x) e) [
-          | inl a ↦ choice_sound ts x a.1
-          | inr b ↦ elim (chosen (is_at marks.Rec ts) (rec_with f ts) _ (Some x) b.1) [
-            | inl a ↦ rec_sound ts x a.1
-            | inr c ↦ elim (chosen (is_at marks.Continue ts) (continue_at ts) _ (Some x) c.1) [
-              | inl a ↦ continue_sound ts x a.1
+        elim (chosen (is_at marks.Choice ts) (choice_with a_choice f ts) _ (Some x) e) [
+          | inl a ↦ takes_as (deep_choice d x.0) (choice_sound (Deep d) f exact (deep_starts d) a_choice ts x a.1)
+          | inr b ↦ elim (chosen (is_at marks.Rec ts) (rec_with a_rec f ts) _ (Some x) b.1) [
+            | inl a ↦ takes_as (deep_rec d x.0) (rec_sound (Deep d) f exact (deep_starts d) a_rec ts x a.1)
+            | inr c ↦ elim (chosen (is_at marks.Continue ts) (continue_with a_continue ts) _ (Some x) c.1) [
+              | inl a ↦ takes_as (deep_continue d x.0) (continue_sound a_continue ts x a.1)
               | inr g ↦ elim (chosen (is_at marks.Do ts) (do_at ts) _ (Some x) g.1) [
                 | inl a ↦ do_sound ts x a.1
                 | inr k ↦ says_sound ts x k.1
@@ -490,17 +364,17 @@ module _ (declared : List Declaration) where
 
     statement_complete : (x : Statements) (ts rest : List Tok) → NotOr rest → Deep (suc d) x ts
         → statement_with declared f (ts ++ rest) ≡ Some (x, rest)
-    unfolding statement_with choice_with rec_with continue_at do_at says_at
+    unfolding statement_with choice_with rec_with continue_with do_at says_at
     statement_complete Nothing ts rest fine h = absurd h
     statement_complete (Says m behind) ts rest fine (none, (types, (a, b, c, e, g, us, parts, h, kind)), le) =
         let whole = message_complete m ts rest (types, (a, b, c, e, g, us, parts, h, kind)) in
         let at_rest = rw parts at whole in
         rw (parts, at_rest, none) refl
     statement_complete (Choice place at branches behind) ts rest fine (none, a, b, cs, us, parts, h, le) =
-        let inner = branches_complete (lists_of branches) us rest fine (branches_deep d branches cs us h (omega arith)) in
+        let inner = branches_complete (Deep d) f exact (deep_starts d) (lists_of branches) us rest fine (branches_deep d branches cs us h (omega arith)) in
         rw (parts, inner, branches-lists_of branches, none) refl
     statement_complete (Rec place name body behind) ts rest fine (none, a, cs, us, parts, h, le) =
-        let inner = block_complete (list_of body) us rest tt (row_block d body cs us h (omega arith)) in
+        let inner = block_complete (Deep d) f exact (deep_starts d) (list_of body) us rest tt (row_block d body cs us h (omega arith)) in
         rw (parts, inner, joined-list_of body, none) refl
     statement_complete (Continue place name behind) ts rest fine (none, a, b, parts, le) = rw (parts, none) refl
     statement_complete (Do place name behind) ts rest fine (none, a, b, c, e, roles, us, parts, h, le) =
@@ -533,8 +407,8 @@ module _ (declared : List Declaration) where
 
   pub other_shorter : (d : ℕ) (ts : List Tok) (x : List Statements) (us : List Tok) → other_with (statement_at declared d) ts ≡ Some (x, us)
       → length us < length ts
-  other_shorter d = shorter (other_with (statement_at declared d)) (OtherOf d) Anything
-      (other_exact (statement_at declared d) d (statement_exact d)) (other_nonempty d)
+  other_shorter d = shorter (other_with (statement_at declared d)) (OtherOf (Deep d)) Anything
+      (other_exact (Deep d) (statement_at declared d) (statement_exact d) (deep_starts d)) (other_nonempty (Deep d))
 
-  pub blocks_exact : (d : ℕ) → IsExact (block_with (statement_at declared d)) (BlockOf d) Anything
-  blocks_exact d = block_exact (statement_at declared d) d (statement_exact d)
+  pub blocks_exact : (d : ℕ) → IsExact (block_with (statement_at declared d)) (BlockOf (Deep d)) Anything
+  blocks_exact d = block_exact (Deep d) (statement_at declared d) (statement_exact d) (deep_starts d)

@@ -5,19 +5,12 @@ use Rattle.std.proofs.lemmas.Bool.{eqb-true, eq-eqb}
 use Rattle.mg_text.specs.Call.{Name}
 use Rattle.mg_text.specs.declared.place.Place.{Place}
 use Rattle.mg_read.proofs.Steps.{some_is, none_is_not, chosen}
+pub use Rattle.mg_read.proofs.Steps.{Anything, after}
 use Rattle.scr_tree.specs.Tok.{Tok, named, quoted, marked, toks}
 use Rattle.scr_tree.specs.declared.token.Mark.{Mark}
 use Rattle.scr_tree.specs.declared.token.Mark.TheVariants as marks
 use Rattle.scr_tree.specs.declared.token.Token.{Token}
 use Rattle.scr_parse.specs.inner.Reading.{mark_at, name_at, quoted_at, is_at, not_closed, code}
-
--- what may follow where anything may
-abbrev pub Anything : List Tok → Type 0
-Anything ts = Unit {0}
-
--- one more token in front
-pub after : {t : Tok} {ts us vs : List Tok} → ts ≡ t ∷ us → us ≡ vs → ts ≡ t ∷ vs
-after {t} e f = e ∙ ap (λ (r : List Tok). t ∷ r) f
 
 pub length_toks : (ts : List Token) → length (toks ts) ≡ length ts
 length_toks [] = refl

@@ -1,5 +1,5 @@
 -- A whole file is read where the grammar spells it, and nowhere else.
-use Rattle.std.proofs.Common.{◌≡◌, ◌≤◌, ◌<◌, ◌-◌, ◌==◌, ℕ, zero, suc, List, [], ◌∷◌, ◌++◌, length, take, Bool, true, false, Some, refl, sym}
+use Rattle.std.proofs.Common.{◌≡◌, ◌<◌, ◌-◌, ◌==◌, ℕ, zero, suc, List, [], ◌∷◌, ◌++◌, length, take, Bool, true, false, Some, refl, sym}
 use Rattle.std.proofs.Common.{ap, ◌∙◌, subst, append_assoc, append-nil, length-append, arith, true≢false, inl, inr}
 use Rattle.std.specs.List.{AllByRecursion}
 use Rattle.std.proofs.lemmas.Bool.Decides.{nat_tests}
@@ -12,18 +12,16 @@ use Rattle.scr_tree.specs.Tok.{Tok, named, marked, toks}
 use Rattle.scr_tree.specs.declared.token.Token.{Token}
 use Rattle.scr_tree.specs.declared.token.Mark.TheVariants as marks
 use Rattle.scr_tree.specs.declared.written.Declaration.{Declaration}
-use Rattle.scr_tree.specs.Tree.{Statements}
-use Rattle.scr_tree.specs.Valid.{depth}
-use Rattle.scr_tree.specs.Written.{Carries, Arguments, WrittenPart, WrittenTree}
-use Rattle.scr_parse.specs.Grammar.{IsType, IsBraced, AreStatements, Note, carries_among, arguments_among, IsLocal, IsShallow, IsSpelled}
+use Rattle.scr_tree.specs.Written.{WrittenPart, WrittenTree}
+use Rattle.scr_parse.specs.Grammar.{IsType, carries_among, arguments_among, IsLocal, IsShallow, IsSpelled}
 use Rattle.scr_parse.specs.inner.View.{joined}
 use Rattle.scr_parse.specs.inner.Reading.{mark_at, name_at, is_at, after_module, type_at, types_at, title_at, header_at, block_with}
 use Rattle.scr_parse.specs.inner.Reading.{statement_at, carries_in, arguments_in, up_to, part_at, is_more, file_at}
 use Rattle.scr_parse.proofs.Steps.{Anything, after, mark_is, name_is}
-use Rattle.scr_parse.proofs.Turns.{shorter}
+use Rattle.mg_read.proofs.Turns.{shorter}
 use Rattle.scr_parse.proofs.Names.{module_sound, module_complete, type_exact, type_starts}
 use Rattle.scr_parse.proofs.Heads.{header_sound, header_complete}
-use Rattle.scr_parse.proofs.Nested.{BlockOf, blocks_exact, block_row, row_block, list_of, joined-list_of}
+use Rattle.scr_parse.proofs.Nested.{blocks_exact, block_row, row_block, list_of, joined-list_of}
 use Rattle.scr_parse.proofs.Carried.{block_gathers}
 
 -- ---- "local" "protocol" name

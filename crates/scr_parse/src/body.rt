@@ -8,8 +8,9 @@ ghost use Rattle.scr_tree.specs.declared.token.Mark.TheVariants as marks;
 ghost use Rattle.scr_parse.specs.Answer.{Gives};
 ghost use Rattle.scr_parse.specs.inner.Kinds.{IsTable};
 ghost use Rattle.scr_parse.specs.inner.View.{alone, all_alone, blocks_alone};
-ghost use Rattle.scr_parse.specs.inner.Reading.{is_at, direction_at, payload_at, message_at, continue_at, do_at, says_at, not_closed};
-ghost use Rattle.scr_parse.specs.inner.Reading.{block_with, other_with, branches_with, choice_with, rec_with, statement_with, statement_at};
+ghost use Rattle.scr_parse.specs.inner.Reading.{is_at, direction_at, payload_at, message_at, do_at, says_at, not_closed};
+ghost use Rattle.scr_parse.specs.inner.Reading.{block_with, other_with, branches_with, choice_with, rec_with, continue_with, a_choice, a_rec};
+ghost use Rattle.scr_parse.specs.inner.Reading.{a_continue, statement_with, statement_at};
 
 use crate::fault::ParseFault;
 use crate::front::{is_mark, mark_of, name_of, names_of};
@@ -85,9 +86,9 @@ fn says_of<'a>(
 }
 
 // "continue" name ";"
-#[tactic(auto, using(crate::proofs::Views::alones), unfolding(crate::specs::inner::Reading::continue_at))]
+#[tactic(auto, using(crate::proofs::Views::alones), unfolding(crate::specs::inner::Reading::continue_with))]
 fn continue_of(tokens: &[Token]) -> Result<(Statement, &[Token]), ParseFault>
-    ensures { Gives (λ x. (alone x.0, toks x.1.now)) result (continue_at (toks tokens.now)) }
+    ensures { Gives (λ x. (alone x.0, toks x.1.now)) result (continue_with a_continue (toks tokens.now)) }
 {
     let (place, rest) = mark_of(tokens, Mark::Continue)?;
     let (_, name, rest) = name_of(rest)?;
@@ -236,7 +237,7 @@ fn choice_of<'a>(
 ) -> Result<(Statement, &'a [Token]), ParseFault>
     requires { IsTable types.now }
     ensures { Gives (λ x. (alone x.0, toks x.1.now)) result
-        (choice_with (statement_at types.now.declared.items levels) (toks tokens.now)) }
+        (choice_with a_choice (statement_at types.now.declared.items levels) (toks tokens.now)) }
 {
     let (place, rest) = mark_of(tokens, Mark::Choice)?;
     let (_, rest) = mark_of(rest, Mark::At)?;
@@ -261,7 +262,7 @@ fn rec_of<'a>(
 ) -> Result<(Statement, &'a [Token]), ParseFault>
     requires { IsTable types.now }
     ensures { Gives (λ x. (alone x.0, toks x.1.now)) result
-        (rec_with (statement_at types.now.declared.items levels) (toks tokens.now)) }
+        (rec_with a_rec (statement_at types.now.declared.items levels) (toks tokens.now)) }
 {
     let (place, rest) = mark_of(tokens, Mark::Rec)?;
     let (_, name, rest) = name_of(rest)?;

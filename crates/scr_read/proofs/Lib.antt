@@ -1,4 +1,5 @@
 pub mod Sought
+pub mod Once
 pub mod Unique
 pub mod Named
 pub mod Staged

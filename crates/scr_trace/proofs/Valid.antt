@@ -1,11 +1,12 @@
 -- A valid local protocol has what the layout needs.
-use Rattle.std.proofs.Common.{◌≡◌, ℕ, zero, suc, ◌<◌, List, [], ◌∷◌, ◌++◌, length, map, refl, sym, subst, inl, inr, ◌⊎◌, ⊎_elim, Bool, true}
+use Rattle.std.proofs.Common.{◌≡◌, suc, List, [], ◌∷◌, ◌++◌, map, refl, sym, subst, inl, inr, ◌⊎◌, ⊎_elim, Bool, true}
 use Rattle.std.proofs.Common.{false, ◌&&◌, ◌||◌, arith}
-use Rattle.std.specs.Prelude.{Contains, slice_index_or}
+use Rattle.std.specs.Prelude.{Contains}
 use Rattle.std.specs.Str.{bytes_eq}
 use Rattle.std.proofs.Math.Logic.{∥∥₁_elim}
 use Rattle.std.proofs.lemmas.Slice.Eq.{bytes_eq-Decides}
 use Rattle.mg_text.specs.Call.{Name}
+pub use Rattle.scr_tree.proofs.Contained.{first_or_later, none_contained}
 use Rattle.mg_read.specs.Culprit.{Culprit, culprit}
 use Rattle.mg_read.specs.First.{Clean}
 use Rattle.scr_tree.specs.Tree.{LocalTree, Titled, titled, body_in, bodies_in, Statements, Nothing, Says, Choice, Rec, Continue, Do}
@@ -33,17 +34,6 @@ clean_front At (x ∷ xs) ys h = (h.0, clean_front At xs ys h.1)
 pub clean_behind : {X C : Type 0} (At : X → C → Type 0) (xs ys : List X) → Clean At (xs ++ ys) → Clean At ys
 clean_behind At [] ys h = h
 clean_behind At (x ∷ xs) ys h = clean_behind At xs ys h.1
-
--- what a longer list contains is its first element, or in the rest
-pub first_or_later : {X : Type 0} (y : X) (ys : List X) (x : X) → Contains (y ∷ ys) x → (y ≡ x) ⊎ Contains ys x
-first_or_later {X} y ys x c = go c.0 c.1 c.2
-  where
-    go : (k : ℕ) → k < length (y ∷ ys) → slice_index_or (y ∷ ys) k x ≡ x → (y ≡ x) ⊎ Contains ys x
-    go zero h e = inl e
-    go (suc k) h e = inr (k, omega arith, e)
-
-pub none_contained : {X : Type 0} (x : X) → Contains [] x → ⊥
-none_contained x c = let h = c.1 in omega arith
 
 pub contains_later : {X : Type 0} (y : X) (ys : List X) (x : X) → Contains ys x → Contains (y ∷ ys) x
 contains_later y ys x c = (suc c.0, omega (arith, c.1), c.2)

@@ -19,32 +19,9 @@ use Rattle.scr_tree.specs.Protocol.{Protocol, ChoiceHere, ChoiceThere, peer_of, 
 use Rattle.scr_tree.specs.Protocol as protocol
 use Rattle.scr_tree.specs.Meaning.{choices, choices_in, numbered, numbered_in, numbered_parts, message_of, towards, protocol_of}
 use Rattle.scr_tree.specs.Actions.{opened, next, next_in}
+use Rattle.stm_gen.proofs.Acting.{next_is, next_in_is}
 use Rattle.stm_api.specs.Doings.{Doing, Passes, Asks, labels_in, look, doings, doings_in, all_doings, call_of, Firsts, none, again, first}
 use Rattle.stm_api.specs.inner.Does as here
-
--- ---- the numbers of choices
-
-opening : (self : Bool) (n a b : ℕ) → (opened self n + a) + b ≡ n + ((if self then 0 else 1) + a + b)
-opening true n a b = omega arith
-opening false n a b = omega arith
-
-mutual
-  next_is : (me : Name) (t : Statements) (n : ℕ) → next me n t ≡ n + choices me t
-  next_is me Nothing n = omega arith
-  next_is me (Says m rest) n = next_is me rest n
-  next_is me (Choice place at bs rest) n =
-      next_is me rest (next_in me (opened (bytes_eq at me) n) bs)
-      ∙ ap (λ k. k + choices me rest) (next_in_is me bs (opened (bytes_eq at me) n))
-      ∙ opening (bytes_eq at me) n (choices_in me bs) (choices me rest)
-  next_is me (Rec place name body rest) n = next_is me rest (next me n body) ∙ ap (λ k. k + choices me rest) (next_is me body n) ∙
-      (let e : (n + choices me body) + choices me rest ≡ n + (choices me body + choices me rest) = omega arith in e)
-  next_is me (Continue place name rest) n = next_is me rest n
-  next_is me (Do place name rest) n = next_is me rest n
-
-  next_in_is : (me : Name) (bs : tree.Branches) (n : ℕ) → next_in me n bs ≡ n + choices_in me bs
-  next_in_is me NoBranch n = omega arith
-  next_in_is me (Branch b more) n = next_in_is me more (next me n b) ∙ ap (λ k. k + choices_in me more) (next_is me b n) ∙
-      (let e : (n + choices me b) + choices_in me more ≡ n + (choices me b + choices_in me more) = omega arith in e)
 
 -- ---- looks
 

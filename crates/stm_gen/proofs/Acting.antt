@@ -46,7 +46,7 @@ opening true n a b = omega arith
 opening false n a b = omega arith
 
 mutual
-  next_is : (me : Name) (t : Statements) (n : ℕ) → next me n t ≡ n + choices me t
+  pub next_is : (me : Name) (t : Statements) (n : ℕ) → next me n t ≡ n + choices me t
   next_is me Nothing n = omega arith
   next_is me (Says m rest) n = next_is me rest n
   next_is me (Choice place at bs rest) n =
@@ -58,7 +58,7 @@ mutual
   next_is me (Continue place name rest) n = next_is me rest n
   next_is me (Do place name rest) n = next_is me rest n
 
-  next_in_is : (me : Name) (bs : tree.Branches) (n : ℕ) → next_in me n bs ≡ n + choices_in me bs
+  pub next_in_is : (me : Name) (bs : tree.Branches) (n : ℕ) → next_in me n bs ≡ n + choices_in me bs
   next_in_is me NoBranch n = omega arith
   next_in_is me (Branch b more) n = next_in_is me more (next me n b) ∙ ap (λ k. k + choices_in me more) (next_is me b n) ∙
       (let e : (n + choices me b) + choices_in me more ≡ n + (choices me b + choices_in me more) = omega arith in e)

@@ -2,14 +2,15 @@
 -- tokens behind it.
 use Rattle.std.specs.Prelude.{ℕ, zero, suc, List, [], ◌∷◌, map, Option, Some, None, if◌then◌else◌}
 use Rattle.mg_text.specs.Call.{Name}
-use Rattle.mg_read.specs.Reader.{Reader, ◌>>=◌, all_of}
-use Rattle.mg_read.proofs.Loop.{with_front}
+use Rattle.mg_text.specs.declared.place.Place.{Place}
+use Rattle.mg_read.specs.Reader.{Reader, ◌>>=◌}
 use Rattle.scr_tree.specs.Tok.{Tok}
 use Rattle.scr_tree.specs.declared.token.Mark.TheVariants as marks
 use Rattle.scr_tree.specs.declared.written.Declaration.{Declaration}
 use Rattle.scr_tree.specs.declared.written.Role.{Role}
 use Rattle.scr_tree.specs.Written.{Carries, kind_of}
-use Rattle.scr_parse.specs.inner.Reading.{mark_at, name_at, is_at, after_module, types_at, roles_at, payload_at, not_closed, carries_in}
+use Rattle.scr_parse.specs.inner.Reading.{mark_at, name_at, is_at, after_module, types_at, roles_at, payload_at, carries_in, block_with}
+use Rattle.scr_parse.specs.inner.Reading.{choice_with, rec_with, continue_with}
 use Rattle.scr_global.specs.Tree.{Told, Statements, Nothing, Says, Choice, Rec, Continue}
 use Rattle.scr_global_tree.specs.View.{branches_of}
 use Rattle.scr_global_tree.specs.Written.{WrittenTree}
@@ -51,49 +52,15 @@ message_at declared ts = do
   ends ← ends_at close_paren.1
   Some (record { place = label.0.0; from = ends.0.0; to = ends.0.1; label = label.0.1; payload = kind_of declared types.0 }, ends.1)
 
--- "continue" name ";"
-unfoldable pub continue_at : Reader Tok Statements
-continue_at ts = do
-  start ← mark_at marks.Continue ts
-  name ← name_at start.1
-  end ← mark_at marks.Semicolon name.1
-  Some (Continue start.0 name.0.1 Nothing, end.1)
+-- what a choice, a loop and a `continue` are, each alone
+abbrev pub a_choice : Place → Name → List (List Statements) → Statements
+a_choice place at inner = Choice place at (branches_of (map joined inner)) Nothing
 
--- In what follows f reads one statement.
-unfoldable pub block_with : Reader Tok Statements → Reader Tok (List Statements)
-block_with f ts = do
-  start ← mark_at marks.OpenBrace ts
-  inner ← all_of not_closed f start.1
-  end ← mark_at marks.CloseBrace inner.1
-  Some (inner.0, end.1)
+abbrev pub a_rec : Place → Name → List Statements → Statements
+a_rec place name inner = Rec place name (joined inner) Nothing
 
--- "or" block
-unfoldable pub other_with : Reader Tok Statements → Reader Tok (List Statements)
-other_with f ts = mark_at marks.Or ts >>= λ start. block_with f start.1
-
--- block { "or" block }
-unfoldable pub branches_with : Reader Tok Statements → Reader Tok (List (List Statements))
-branches_with f ts = do
-  first ← block_with f ts
-  others ← with_front (first.0 ∷ []) (all_of (is_at marks.Or) (other_with f) first.1)
-  Some (others.0, others.1)
-
--- "choice" "at" name branches
-unfoldable pub choice_with : Reader Tok Statements → Reader Tok Statements
-choice_with f ts = do
-  start ← mark_at marks.Choice ts
-  at ← mark_at marks.At start.1
-  name ← name_at at.1
-  inner ← branches_with f name.1
-  Some (Choice start.0 name.0.1 (branches_of (map joined inner.0)) Nothing, inner.1)
-
--- "rec" name block
-unfoldable pub rec_with : Reader Tok Statements → Reader Tok Statements
-rec_with f ts = do
-  start ← mark_at marks.Rec ts
-  name ← name_at start.1
-  inner ← block_with f name.1
-  Some (Rec start.0 name.0.1 (joined inner.0) Nothing, inner.1)
+abbrev pub a_continue : Place → Name → Statements
+a_continue place name = Continue place name Nothing
 
 -- a message, alone
 unfoldable pub says_at : List Declaration → Reader Tok Statements
@@ -101,9 +68,9 @@ says_at declared ts = message_at declared ts >>= λ m. Some (Says m.0 Nothing, m
 
 unfoldable pub statement_with : List Declaration → Reader Tok Statements → Reader Tok Statements
 statement_with declared f ts =
-    if is_at marks.Choice ts then choice_with f ts
-    else (if is_at marks.Rec ts then rec_with f ts
-    else (if is_at marks.Continue ts then continue_at ts
+    if is_at marks.Choice ts then choice_with a_choice f ts
+    else (if is_at marks.Rec ts then rec_with a_rec f ts
+    else (if is_at marks.Continue ts then continue_with a_continue ts
     else says_at declared ts))
 
 -- a statement in which statements stand at most so deep, itself counted

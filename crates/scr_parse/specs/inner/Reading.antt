@@ -260,14 +260,6 @@ message_at declared ts = do
     end.1,
   )
 
--- "continue" name ";"
-unfoldable pub continue_at : Reader Tok Statements
-continue_at ts = do
-  start ← mark_at marks.Continue ts
-  name ← name_at start.1
-  end ← mark_at marks.Semicolon name.1
-  Some (Continue start.0 name.0.1 Nothing, end.1)
-
 -- "do" name "(" names ")" ";"
 unfoldable pub do_at : Reader Tok Statements
 do_at ts = do
@@ -282,8 +274,8 @@ do_at ts = do
 abbrev pub not_closed : List Tok → Bool
 not_closed ts = if is_at marks.CloseBrace ts then false else true
 
--- In what follows f reads one statement.
-unfoldable pub block_with : Reader Tok Statements → Reader Tok (List Statements)
+-- In what follows f reads one statement, of whatever kind, and `build` makes one of its parts.
+unfoldable pub block_with : {S : Type 0} → Reader Tok S → Reader Tok (List S)
 block_with f ts = do
   start ← mark_at marks.OpenBrace ts
   inner ← all_of not_closed f start.1
@@ -291,32 +283,50 @@ block_with f ts = do
   Some (inner.0, end.1)
 
 -- "or" block
-unfoldable pub other_with : Reader Tok Statements → Reader Tok (List Statements)
+unfoldable pub other_with : {S : Type 0} → Reader Tok S → Reader Tok (List S)
 other_with f ts = mark_at marks.Or ts >>= λ start. block_with f start.1
 
 -- block { "or" block }
-unfoldable pub branches_with : Reader Tok Statements → Reader Tok (List (List Statements))
+unfoldable pub branches_with : {S : Type 0} → Reader Tok S → Reader Tok (List (List S))
 branches_with f ts = do
   first ← block_with f ts
   others ← with_front (first.0 ∷ []) (all_of (is_at marks.Or) (other_with f) first.1)
   Some (others.0, others.1)
 
 -- "choice" "at" name branches
-unfoldable pub choice_with : Reader Tok Statements → Reader Tok Statements
-choice_with f ts = do
+unfoldable pub choice_with : {S A : Type 0} → (Place → Name → List (List S) → A) → Reader Tok S → Reader Tok A
+choice_with build f ts = do
   start ← mark_at marks.Choice ts
   at ← mark_at marks.At start.1
   name ← name_at at.1
   inner ← branches_with f name.1
-  Some (Choice start.0 name.0.1 (branches_of (map joined inner.0)) Nothing, inner.1)
+  Some (build start.0 name.0.1 inner.0, inner.1)
 
 -- "rec" name block
-unfoldable pub rec_with : Reader Tok Statements → Reader Tok Statements
-rec_with f ts = do
+unfoldable pub rec_with : {S A : Type 0} → (Place → Name → List S → A) → Reader Tok S → Reader Tok A
+rec_with build f ts = do
   start ← mark_at marks.Rec ts
   name ← name_at start.1
   inner ← block_with f name.1
-  Some (Rec start.0 name.0.1 (joined inner.0) Nothing, inner.1)
+  Some (build start.0 name.0.1 inner.0, inner.1)
+
+-- "continue" name ";"
+unfoldable pub continue_with : {A : Type 0} → (Place → Name → A) → Reader Tok A
+continue_with build ts = do
+  start ← mark_at marks.Continue ts
+  name ← name_at start.1
+  end ← mark_at marks.Semicolon name.1
+  Some (build start.0 name.0.1, end.1)
+
+-- what they are of a protocol, each alone
+abbrev pub a_choice : Place → Name → List (List Statements) → Statements
+a_choice place at inner = Choice place at (branches_of (map joined inner)) Nothing
+
+abbrev pub a_rec : Place → Name → List Statements → Statements
+a_rec place name inner = Rec place name (joined inner) Nothing
+
+abbrev pub a_continue : Place → Name → Statements
+a_continue place name = Continue place name Nothing
 
 -- a message, alone
 unfoldable pub says_at : List Declaration → Reader Tok Statements
@@ -324,9 +334,9 @@ says_at declared ts = message_at declared ts >>= λ m. Some (Says m.0 Nothing, m
 
 unfoldable pub statement_with : List Declaration → Reader Tok Statements → Reader Tok Statements
 statement_with declared f ts =
-    if is_at marks.Choice ts then choice_with f ts
-    else (if is_at marks.Rec ts then rec_with f ts
-    else (if is_at marks.Continue ts then continue_at ts
+    if is_at marks.Choice ts then choice_with a_choice f ts
+    else (if is_at marks.Rec ts then rec_with a_rec f ts
+    else (if is_at marks.Continue ts then continue_with a_continue ts
     else (if is_at marks.Do ts then do_at ts
     else says_at declared ts)))
 

@@ -19,19 +19,20 @@ use Rattle.scr_judge.specs.inner.View.{culprit_of, named_of}
 use Rattle.scr_global.specs.Conditions as asks
 use Rattle.scr_global.specs.Spots.{spots}
 use Rattle.scr_global_tree.specs.View.{statements}
+use Rattle.scr_global_tree.specs.Faults.{Of}
 use Rattle.scr_global_tree.specs.Written.{written_of}
 use Rattle.scr_global_tree.specs.declared.statement.GStatement.{GStatement}
 use Rattle.scr_global_judge.specs.inner.Outline.{outlined}
 use Rattle.scr_global_judge.specs.inner.Roles.{walk, unknown_role}
 use Rattle.scr_global_judge.proofs.Alike.{recs_known, recs_differ, guarded, reachable, starts, uniform, labels_differ}
-use Rattle.scr_global_judge.proofs.Numbers.{arm}
+use Rattle.scr_judge.proofs.Numbers.{arm}
 use Rattle.scr_global_judge.proofs.Over.{over, over_role}
 use Rattle.scr_global_judge.proofs.RoleWalk.{first_unknown}
 use Rattle.scr_global_judge.proofs.fault.judge.Goals as goal
 
 pub returns-in_ok-culprit-in-DuplicateName : goal.returns-in_ok-culprit-in-DuplicateName
 returns-in_ok-culprit-in-DuplicateName c =
-    arm (written_of c.args.file c.args.written.now) c.args.condition conditions.DuplicateName _ c.with_name.result c.in-DuplicateName.is
+    arm (Of (written_of c.args.file c.args.written.now)) c.args.condition conditions.DuplicateName _ c.with_name.result c.in-DuplicateName.is
     (subst (λ (rs : List Role). Judged DuplicateName (with_earlier (map declares c.args.written.now.types.items ++ map lists rs))
     (culprit_of c.in_ok-culprit-in-DuplicateName.culprit)) c.as_slice-roles.ensures.items
     (subst (λ (ds : List Declaration). Judged DuplicateName (with_earlier (map declares ds ++ map lists c.as_slice-roles.result.now))
@@ -41,7 +42,7 @@ returns-in_ok-culprit-in-DuplicateName c =
 
 pub returns-in_ok-listed-in-UnknownRole : goal.returns-in_ok-listed-in-UnknownRole
 returns-in_ok-listed-in-UnknownRole c =
-    arm (written_of c.args.file c.args.written.now) c.args.condition conditions.UnknownRole _ c.with_name-in-UnknownRole.result
+    arm (Of (written_of c.args.file c.args.written.now)) c.args.condition conditions.UnknownRole _ c.with_name-in-UnknownRole.result
     c.in-UnknownRole.is
     (first_unknown (map role_name c.args.written.now.roles.items) (contains_text c.in_ok-listed-in-UnknownRole.listed)
     (subst (λ (rs : List Role). (q : Name) → IsTrue (contains_text c.in_ok-listed-in-UnknownRole.listed q) ↔ Contains (map role_name rs) q)
@@ -54,7 +55,7 @@ returns-in_ok-listed-in-UnknownRole c =
 
 pub returns-in-PeerIsSelf : goal.returns-in-PeerIsSelf
 returns-in-PeerIsSelf c =
-    arm (written_of c.args.file c.args.written.now) c.args.condition conditions.PeerIsSelf _ c.with_name-in-PeerIsSelf.result
+    arm (Of (written_of c.args.file c.args.written.now)) c.args.condition conditions.PeerIsSelf _ c.with_name-in-PeerIsSelf.result
     c.in-PeerIsSelf.is
     (subst (λ (b : List GStatement). Judged asks.PeerIsSelf (spots [] (statements b)) (culprit_of c.find_peer_is_self.result))
     c.as_slice-body.ensures.items c.find_peer_is_self.ensures)
@@ -62,7 +63,7 @@ returns-in-PeerIsSelf c =
 
 pub returns-in_ok-culprit-in-UnknownType : goal.returns-in_ok-culprit-in-UnknownType
 returns-in_ok-culprit-in-UnknownType c =
-    arm (written_of c.args.file c.args.written.now) c.args.condition conditions.UnknownType _ c.with_name-in-UnknownType.result
+    arm (Of (written_of c.args.file c.args.written.now)) c.args.condition conditions.UnknownType _ c.with_name-in-UnknownType.result
     c.in-UnknownType.is
     (subst (λ (ms : List Carries). Judged (UnknownType c.args.written.now.types.items) (map declared c.args.written.now.types.items
     ++ flat_map carried_by (map carries_of ms)) (culprit_of c.in_ok-culprit-in-UnknownType.culprit))
@@ -75,7 +76,7 @@ returns-in_ok-culprit-in-UnknownType c =
 
 pub returns-in-PayloadCount : goal.returns-in-PayloadCount
 returns-in-PayloadCount c =
-    arm (written_of c.args.file c.args.written.now) c.args.condition conditions.PayloadCount _ c.with_name-in-PayloadCount.result
+    arm (Of (written_of c.args.file c.args.written.now)) c.args.condition conditions.PayloadCount _ c.with_name-in-PayloadCount.result
     c.in-PayloadCount.is
     (subst (λ (ms : List Carries). Judged PayloadCount (map carries_of ms) (culprit_of c.find_payload_count.result))
     c.as_slice-carries.ensures.items c.find_payload_count.ensures)
@@ -83,46 +84,46 @@ returns-in-PayloadCount c =
 
 pub returns-in-UnknownRec : goal.returns-in-UnknownRec
 returns-in-UnknownRec c =
-    arm (written_of c.args.file c.args.written.now) c.args.condition conditions.UnknownRec _ c.with_name-in-UnknownRec.result
+    arm (Of (written_of c.args.file c.args.written.now)) c.args.condition conditions.UnknownRec _ c.with_name-in-UnknownRec.result
     c.in-UnknownRec.is
     (over asks.UnknownRec says.UnknownRec recs_known _ _ _ c.requires.outline c.find_unknown_rec.ensures) c.with_name-in-UnknownRec.ensures
 
 pub returns-in-DuplicateRec : goal.returns-in-DuplicateRec
 returns-in-DuplicateRec c =
-    arm (written_of c.args.file c.args.written.now) c.args.condition conditions.DuplicateRec _ c.with_name-in-DuplicateRec.result
+    arm (Of (written_of c.args.file c.args.written.now)) c.args.condition conditions.DuplicateRec _ c.with_name-in-DuplicateRec.result
     c.in-DuplicateRec.is
     (over asks.DuplicateRec says.DuplicateRec recs_differ _ _ _ c.requires.outline c.find_duplicate_rec.ensures)
     c.with_name-in-DuplicateRec.ensures
 
 pub returns-in-Unguarded : goal.returns-in-Unguarded
 returns-in-Unguarded c =
-    arm (written_of c.args.file c.args.written.now) c.args.condition conditions.Unguarded _ c.with_name-in-Unguarded.result
+    arm (Of (written_of c.args.file c.args.written.now)) c.args.condition conditions.Unguarded _ c.with_name-in-Unguarded.result
     c.in-Unguarded.is
     (over asks.Unguarded says.Unguarded guarded _ _ _ c.requires.outline c.find_unguarded.ensures) c.with_name-in-Unguarded.ensures
 
 pub returns-in-Unreachable : goal.returns-in-Unreachable
 returns-in-Unreachable c =
-    arm (written_of c.args.file c.args.written.now) c.args.condition conditions.Unreachable _ c.with_name-in-Unreachable.result
+    arm (Of (written_of c.args.file c.args.written.now)) c.args.condition conditions.Unreachable _ c.with_name-in-Unreachable.result
     c.in-Unreachable.is
     (over asks.Unreachable says.Unreachable reachable _ _ _ c.requires.outline c.find_unreachable.ensures)
     c.with_name-in-Unreachable.ensures
 
 pub returns-in-BranchStart : goal.returns-in-BranchStart
 returns-in-BranchStart c =
-    arm (written_of c.args.file c.args.written.now) c.args.condition conditions.BranchStart _ c.with_name-in-BranchStart.result
+    arm (Of (written_of c.args.file c.args.written.now)) c.args.condition conditions.BranchStart _ c.with_name-in-BranchStart.result
     c.in-BranchStart.is
     (over asks.BranchStart says.BranchStart starts _ _ _ c.requires.outline c.find_branch_start.ensures) c.with_name-in-BranchStart.ensures
 
 pub returns-in-MixedChoice : goal.returns-in-MixedChoice
 returns-in-MixedChoice c =
-    arm (written_of c.args.file c.args.written.now) c.args.condition conditions.MixedChoice _ c.with_name-in-MixedChoice.result
+    arm (Of (written_of c.args.file c.args.written.now)) c.args.condition conditions.MixedChoice _ c.with_name-in-MixedChoice.result
     c.in-MixedChoice.is
     (over_role asks.MixedChoice says.MixedChoice uniform _ _ _ _ c.requires.role c.requires.outline c.find_mixed_choice.ensures)
     c.with_name-in-MixedChoice.ensures
 
 pub returns-in_ok-culprit-in-SameLabel : goal.returns-in_ok-culprit-in-SameLabel
 returns-in_ok-culprit-in-SameLabel c =
-    arm (written_of c.args.file c.args.written.now) c.args.condition conditions.SameLabel _ c.with_name-in-SameLabel.result
+    arm (Of (written_of c.args.file c.args.written.now)) c.args.condition conditions.SameLabel _ c.with_name-in-SameLabel.result
     c.in-SameLabel.is
     (over_role asks.SameLabel says.SameLabel labels_differ _ _ _ _ c.requires.role c.requires.outline c.in_ok-culprit-in-SameLabel.ensures)
     c.with_name-in-SameLabel.ensures

@@ -4,8 +4,8 @@ use Rattle.scr_tree.specs.declared.token.Mark.TheVariants as marks
 use Rattle.mg_read.specs.Reader.{all_of}
 use Rattle.mg_read.proofs.Loop.{Left, with_front}
 use Rattle.scr_global_parse.specs.inner.View.{all_alone, blocks_alone}
-use Rattle.scr_parse.specs.inner.Reading.{is_at, not_closed}
-use Rattle.scr_global_parse.specs.inner.Reading.{statement_at, other_with}
+use Rattle.scr_parse.specs.inner.Reading.{is_at, not_closed, other_with}
+use Rattle.scr_global_parse.specs.inner.Reading.{statement_at}
 use Rattle.scr_global_parse.proofs.body.+nest.Given as goal
 
 -- Each call goes one rank down, or one level in.

@@ -1,7 +1,8 @@
 use Rattle.std.proofs.Common.{sym, subst}
 use Rattle.mg_text.specs.declared.place.Place.{Place}
 use Rattle.scr_global_read.specs.Outcome.{Outcome, BadByte, bad_byte}
-use Rattle.scr_global_read.proofs.Staged.{told, bad_within, bad_of}
+use Rattle.scr_read.proofs.Staged.{bad_within, bad_of}
+use Rattle.scr_global_read.proofs.Staged.{told}
 use Rattle.scr_global_read.proofs.text.tokens_of.Goals as goal
 
 pub place_of-requires-clause-within : goal.place_of-requires-clause-within

@@ -8,7 +8,8 @@ use Rattle.mg_read.proofs.Loop.{Left-init, Left-more, Left-done, with_front}
 use Rattle.scr_parse.specs.inner.View.{alone, all_alone, blocks_alone}
 use Rattle.scr_parse.specs.inner.Reading.{is_at, not_closed, statement_at, other_with}
 use Rattle.scr_parse.proofs.Steps.{length_toks, not_closed_goes, not_closed_stops}
-use Rattle.scr_parse.proofs.Turns.{Left-front, Left-refused}
+use Rattle.mg_read.proofs.Turns.{Left-front}
+use Rattle.scr_parse.proofs.Turns.{Left-refused}
 use Rattle.scr_parse.proofs.Nested.{statement_shorter, other_shorter}
 use Rattle.scr_parse.proofs.body.+nest.Goals as goal
 

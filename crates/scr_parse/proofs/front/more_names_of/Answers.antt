@@ -6,7 +6,8 @@ use Rattle.mg_read.specs.Reader.{all_of}
 use Rattle.scr_parse.specs.inner.Reading.{is_at, other_name_at}
 use Rattle.scr_parse.proofs.Names.{other_name_shorter}
 use Rattle.scr_parse.proofs.Steps.{length_toks}
-use Rattle.scr_parse.proofs.Turns.{Left-front, Left-refused}
+use Rattle.mg_read.proofs.Turns.{Left-front}
+use Rattle.scr_parse.proofs.Turns.{Left-refused}
 use Rattle.scr_parse.proofs.front.more_names_of.Goals as goal
 
 pub others-init : goal.others-init

@@ -6,7 +6,8 @@ use Rattle.scr_tree.specs.declared.token.Mark.TheVariants as marks
 use Rattle.scr_parse.specs.inner.Reading.{is_at, other_role_at, more_roles_at}
 use Rattle.scr_parse.proofs.Heads.{other_role_shorter}
 use Rattle.scr_parse.proofs.Steps.{length_toks}
-use Rattle.scr_parse.proofs.Turns.{Left-front, Left-refused}
+use Rattle.mg_read.proofs.Turns.{Left-front}
+use Rattle.scr_parse.proofs.Turns.{Left-refused}
 use Rattle.scr_parse.proofs.header.more_roles_of.Goals as goal
 
 pub others-init : goal.others-init
