@@ -16,7 +16,7 @@ use crate::fields::{FieldTable, copy_at};
 use crate::scene::{Scene, typestate_of};
 use crate::sets::Sets;
 use crate::{Context, Flow};
-use jv_core::{CoreMethod, CoreVar};
+use jv_core::{CoreMethod, CoreVar, name_text};
 use mg_text::Memory;
 use std::alloc::Global;
 
@@ -152,11 +152,7 @@ impl<'a> Scene<'a> {
         let Some(sets) = now else {
             return Value::plain(alloc, None);
         };
-        let names = self.core.names();
-        if (method.name.0 as usize) < names.len() {
-            let name = names.text(method.name);
-            return self.named_call(alloc, receiver, number, method, name, &given, sets, log);
-        }
-        self.named_call(alloc, receiver, number, method, "", &given, sets, log)
+        let name = name_text(self.core, method.name);
+        self.named_call(alloc, receiver, number, method, name, &given, sets, log)
     }
 }
