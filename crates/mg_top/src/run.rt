@@ -55,8 +55,7 @@ pub fn run(
         named,
         asked.traced,
     )?;
-    let delivery = show(alloc, asked, roles, ran)?;
-    Ok(delivery)
+    Ok(show(alloc, asked, roles, ran)?)
 }
 
 /// The roles of the run, each with the class whose `main` it runs.
@@ -291,88 +290,32 @@ fn any_waiting(roles: &[RoleRan]) -> bool
 fn is_bound(stand: &Stand) -> bool
     ensures { result ≡ is_bound stand.now }
 {
-    match stand {
-        Stand::Ended(_) => false,
-        Stand::Waits(_) => false,
-        Stand::Bound => true,
-    }
+    matches!(stand, Stand::Bound)
 }
 
 fn is_waiting(stand: &Stand) -> bool
     ensures { result ≡ is_waiting stand.now }
 {
-    match stand {
-        Stand::Ended(_) => false,
-        Stand::Waits(_) => true,
-        Stand::Bound => false,
-    }
+    matches!(stand, Stand::Waits(_))
 }
 
 fn is_broken(stand: &Stand) -> bool
     ensures { result ≡ is_broken stand.now }
 {
-    match stand {
-        Stand::Ended(ending) => ends_broken(ending),
-        Stand::Waits(_) => false,
-        Stand::Bound => false,
-    }
-}
-
-fn ends_broken(ending: &Ending) -> bool
-    ensures { result ≡ is_broken (Stand.Ended ending.now) }
-{
-    match ending {
-        Ending::Done => false,
-        Ending::Zero => false,
-        Ending::Null => true,
-        Ending::Mismatch(_, _) => false,
-        Ending::NoPeer(_) => false,
-        Ending::Bad(_) => true,
-    }
+    matches!(stand, Stand::Ended(Ending::Null | Ending::Bad(_)))
 }
 
 fn is_zero(stand: &Stand) -> bool
     ensures { result ≡ is_zero stand.now }
 {
-    match stand {
-        Stand::Ended(ending) => ends_zero(ending),
-        Stand::Waits(_) => false,
-        Stand::Bound => false,
-    }
-}
-
-fn ends_zero(ending: &Ending) -> bool
-    ensures { result ≡ is_zero (Stand.Ended ending.now) }
-{
-    match ending {
-        Ending::Done => false,
-        Ending::Zero => true,
-        Ending::Null => false,
-        Ending::Mismatch(_, _) => false,
-        Ending::NoPeer(_) => false,
-        Ending::Bad(_) => false,
-    }
+    matches!(stand, Stand::Ended(Ending::Zero))
 }
 
 fn is_mismatch(stand: &Stand) -> bool
     ensures { result ≡ is_mismatch stand.now }
 {
-    match stand {
-        Stand::Ended(ending) => ends_mismatch(ending),
-        Stand::Waits(_) => false,
-        Stand::Bound => false,
-    }
-}
-
-fn ends_mismatch(ending: &Ending) -> bool
-    ensures { result ≡ is_mismatch (Stand.Ended ending.now) }
-{
-    match ending {
-        Ending::Done => false,
-        Ending::Zero => false,
-        Ending::Null => false,
-        Ending::Mismatch(_, _) => true,
-        Ending::NoPeer(_) => true,
-        Ending::Bad(_) => false,
-    }
+    matches!(
+        stand,
+        Stand::Ended(Ending::Mismatch(_, _) | Ending::NoPeer(_))
+    )
 }
