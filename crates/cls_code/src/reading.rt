@@ -244,9 +244,8 @@ pub(crate) fn placed_in(alloc: Global, bytes: &[u8]) -> Result<Placed, CodeFault
     let mut place = 0;
     'code: while place < bytes.len() {
         let rest = tail(bytes, place);
-        match unfit_at(place, rest) {
-            Some(fault) => return Err(fault),
-            None => {}
+        if let Some(fault) = unfit_at(place, rest) {
+            return Err(fault);
         }
         let (instr, size) = instr_at(alloc, place, rest)?;
         starts.push(place)?;

@@ -74,15 +74,12 @@ fn first_of(
     ensures { IfOk result (λ f. FirstOf (Of (written_of file written.now)) conditions.now (fault_of f)) }
 {
     for condition in conditions {
-        match judge(alloc, *condition, file, written, me, outline)? {
-            Some(named) => {
-                return Ok(Some(Fault {
-                    condition: *condition,
-                    place: named.place,
-                    name: named.name,
-                }));
-            }
-            None => {}
+        if let Some(named) = judge(alloc, *condition, file, written, me, outline)? {
+            return Ok(Some(Fault {
+                condition: *condition,
+                place: named.place,
+                name: named.name,
+            }));
         }
     }
     Ok(None)

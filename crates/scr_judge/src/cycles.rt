@@ -204,11 +204,8 @@ impl Round {
             FirstIn (IsGuarded ps) parts.now (culprit_of r)) }
     {
         for part in parts {
-            match self.find_in(alloc, part)? {
-                Some(culprit) => {
-                    return Ok(Some(culprit));
-                }
-                None => {}
+            if let Some(culprit) = self.find_in(alloc, part)? {
+                return Ok(Some(culprit));
             }
         }
         Ok(None)

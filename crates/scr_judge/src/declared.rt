@@ -50,11 +50,8 @@ fn find_twice_in(alloc: Global, parts: &[WrittenPart]) -> Result<Option<Culprit<
     ensures { IfOk result (λ r. FirstIn (λ p. Judged ListedTwice (with_earlier p.roles.items)) parts.now (culprit_of r)) }
 {
     for part in parts {
-        match find_listed_twice(alloc, part.roles.as_slice())? {
-            Some(culprit) => {
-                return Ok(Some(culprit));
-            }
-            None => {}
+        if let Some(culprit) = find_listed_twice(alloc, part.roles.as_slice())? {
+            return Ok(Some(culprit));
         }
     }
     Ok(None)

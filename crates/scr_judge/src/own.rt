@@ -47,11 +47,8 @@ fn find_own_in(alloc: Global, own: Own, parts: &[WrittenPart]) -> Result<Option<
     ensures { IfOk result (λ n. FirstIn (λ p. OfOwn own (part_written p)) parts.now (named_of n)) }
 {
     for part in parts {
-        match judge_own(alloc, own, part)? {
-            Some(found) => {
-                return Ok(Some(found));
-            }
-            None => {}
+        if let Some(found) = judge_own(alloc, own, part)? {
+            return Ok(Some(found));
         }
     }
     Ok(None)

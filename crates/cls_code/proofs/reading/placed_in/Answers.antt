@@ -25,7 +25,7 @@ returns-in-Some c =
 pub overflow_add-place : goal.overflow_add-place
 overflow_add-place c =
     let none : unfit c.code.place (drop c.code.place c.args.bytes.now) ≡ None = sym (ap (unfit c.code.place) c.tail-rest.ensures) ∙
-    sym c.unfit_at.ensures ∙ c.in-None.is in
+    sym c.unfit_at.ensures ∙ c.in_default.is in
     let sized = c.in_ok-instr.ensures.size ∙ ap (size_in c.code.place) c.tail-rest.ensures in
     let w = read_within c.args.bytes.now c.code.place c.in_ok-instr.size (λ i. omega (arith, c.type_inv.bytes i)) c.code.invariant.within
     none sized in
@@ -35,7 +35,7 @@ overflow_add-place c =
 pub code-smaller : goal.code-smaller
 code-smaller c =
     let none : unfit c.code.place (drop c.code.place c.args.bytes.now) ≡ None = sym (ap (unfit c.code.place) c.tail-rest.ensures) ∙
-    sym c.unfit_at.ensures ∙ c.in-None.is in
+    sym c.unfit_at.ensures ∙ c.in_default.is in
     let sized = c.in_ok-instr.ensures.size ∙ ap (size_in c.code.place) c.tail-rest.ensures in
     let w = read_within c.args.bytes.now c.code.place c.in_ok-instr.size (λ i. omega (arith, c.type_inv.bytes i)) c.code.invariant.within
     none sized in
@@ -46,7 +46,7 @@ code-smaller c =
 pub code-preserved : goal.code-preserved
 code-preserved c =
     let none : unfit c.code.place (drop c.code.place c.args.bytes.now) ≡ None = sym (ap (unfit c.code.place) c.tail-rest.ensures) ∙
-    sym c.unfit_at.ensures ∙ c.in-None.is in
+    sym c.unfit_at.ensures ∙ c.in_default.is in
     let sized = c.in_ok-instr.ensures.size ∙ ap (size_in c.code.place) c.tail-rest.ensures in
     let is = c.in_ok-instr.ensures.instr ∙ ap (instr_in c.code.place) c.tail-rest.ensures in
     subst (λ ns. IsRead c.args.bytes.now (instrs_of c.push-in-code.new.self.items) ns (c.code.place + c.in_ok-instr.size))

@@ -15,7 +15,7 @@ pub loop-condition-preserved : goal.loop-condition-preserved
 loop-condition-preserved c =
     rest_later (written_of c.args.file c.args.written.now) c.args.conditions.now c.loop-condition.condition-index c.loop-condition.invariant
     c.loop-condition-test.true conditions.DuplicateName c.in_ok-named.field-0
-    c.in_ok-named.ensures (ap named_of c.in-None.is)
+    c.in_ok-named.ensures (ap named_of c.in_default.is)
 
 pub returns : goal.returns
 returns c = rest_end (written_of c.args.file c.args.written.now) c.args.conditions.now c.loop-condition.condition-index

@@ -23,7 +23,7 @@ loop-part-preserved c =
     c.loop-part-test.true c.part-item.result c.part-item.is
     (culprit_of c.in_ok-culprit.field-0)
     (subst (λ rs. Judged ListedTwice (with_earlier rs) (culprit_of c.in_ok-culprit.field-0)) c.as_slice.ensures.items
-    c.in_ok-culprit.ensures) (ap culprit_of c.in-None.is)
+    c.in_ok-culprit.ensures) (ap culprit_of c.in_default.is)
 
 pub returns : goal.returns
 returns c = rest_end (λ (p : Part). Judged ListedTwice (with_earlier p.roles.items)) c.args.parts.now c.loop-part.part-index

@@ -18,7 +18,7 @@ pub loop-part-preserved : goal.loop-part-preserved
 loop-part-preserved c =
     rest_later (λ p. OfOwn c.args.own (part_written p)) c.args.parts.now c.loop-part.part-index c.loop-part.invariant c.loop-part-test.true
     c.part-item.result c.part-item.is
-    (named_of c.in_ok-found.field-0) c.in_ok-found.ensures (ap named_of c.in-None.is)
+    (named_of c.in_ok-found.field-0) c.in_ok-found.ensures (ap named_of c.in_default.is)
 
 pub returns : goal.returns
 returns c = rest_end (λ p. OfOwn c.args.own (part_written p)) c.args.parts.now c.loop-part.part-index c.loop-part.invariant (omega arith)

@@ -24,7 +24,7 @@ loop-part-preserved c = λ ps h all.
     (culprit_of c.in_ok-culprit.field-0)
     (c.in_ok-culprit.ensures ps h (all c.part-item.result (subst (Contains c.args.parts.now) (sym c.part-item.is)
     (Contains-get_or c.args.parts.now c.loop-part.part-index c.part-item.result c.loop-part-test.true))))
-    (ap culprit_of c.in-None.is)
+    (ap culprit_of c.in_default.is)
 
 pub returns : goal.returns
 returns c = λ ps h all. rest_end (IsGuarded ps) c.args.parts.now c.loop-part.part-index (c.loop-part.invariant ps h all) (omega arith)
