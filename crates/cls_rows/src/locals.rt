@@ -33,10 +33,7 @@ fn owned(locals: Rc<Vec<Kind>>) -> Result<Vec<Kind>, Memory>
 {
     match Rc::try_unwrap(locals) {
         Ok(row) => Ok(row),
-        Err(shared) => {
-            let row = shared.as_ref().clone()?;
-            Ok(row)
-        }
+        Err(shared) => Ok(shared.as_ref().clone()?),
     }
 }
 
@@ -55,8 +52,7 @@ fn stored(
     }
     let mut row = owned(locals)?;
     row[local] = kind;
-    let row = Rc::new(alloc, row)?;
-    Ok(row)
+    Ok(Rc::new(alloc, row)?)
 }
 
 /// The kind of a local, where each value of it is of a sort.

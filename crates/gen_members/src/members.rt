@@ -119,8 +119,7 @@ pub fn code(
         name: making.told_as,
     };
     judge(alloc, telling, laid.end, making.max_locals, pool, old)?;
-    let code = code_in_file(alloc, making, name, &laid)?;
-    Ok(code)
+    Ok(code_in_file(alloc, making, name, &laid)?)
 }
 
 /// A method of a class file. What it needs in the pool is made before its sizes are judged.
@@ -149,6 +148,11 @@ pub(crate) fn method(
     };
     judge(alloc, telling, laid.end, making.max_locals, pool, old)?;
     let code = code_in_file(alloc, making, code_name, &laid)?;
-    let member = with_code(alloc, making.access, name, descriptor, code)?;
-    Ok(member)
+    Ok(with_code(
+        alloc,
+        making.access,
+        name,
+        descriptor,
+        code,
+    )?)
 }

@@ -22,8 +22,7 @@ fn read_of(alloc: Global, file: u32, bytes: &[u8]) -> Result<File, JavaFault>
     ensures { Stage file bytes.now (IsRead file bytes.now) result }
 {
     let tokens = tokens(alloc, file, bytes)?;
-    let tree = parse_file(alloc, file, tokens.as_slice())?;
-    Ok(tree)
+    Ok(parse_file(alloc, file, tokens.as_slice())?)
 }
 
 // A fault of a file, with a place of the file where it is one of the grammar.

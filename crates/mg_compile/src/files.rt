@@ -46,10 +46,12 @@ pub fn class_files(alloc: Global, core: &Core) -> Result<List<ClassFile>, Stop>
     members_are_few();
     files_fit();
     match gen_classes(alloc, core) {
-        Ok(classes) => {
-            let files = write_all(alloc, core, core.classes(), classes.as_slice())?;
-            Ok(files)
-        }
+        Ok(classes) => Ok(write_all(
+            alloc,
+            core,
+            core.classes(),
+            classes.as_slice(),
+        )?),
         Err(fault) => Err(stop_of(fault)),
     }
 }

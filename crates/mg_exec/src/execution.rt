@@ -78,15 +78,11 @@ fn ran_roles(
         (FirstRefusal (sources names contents.now) mains.now) result }
 {
     let linked = program(alloc, contents)?;
-    match first_without(&linked, mains) {
-        Some(number) => {
-            let refusal = no_main(&mains[number].class)?;
-            return Err(Stop::Refused(refusal));
-        }
-        None => {}
+    if let Some(number) = first_without(&linked, mains) {
+        let refusal = no_main(&mains[number].class)?;
+        return Err(Stop::Refused(refusal));
     }
-    let ran = run(alloc, linked, mains, order, limit, named, traced)?;
-    Ok(ran)
+    Ok(run(alloc, linked, mains, order, limit, named, traced)?)
 }
 
 /// The program that these class files link to.

@@ -52,8 +52,7 @@ fn refined(alloc: Global, names: &[Text], contents: &[Bytes]) -> Result<Told, St
     ensures { Answers (λ t. AreJudged (sources names.now contents.now) t.text t.stands) (FirstRefusal (sources names.now contents.now)) result }
 {
     let parts = read_parts(alloc, names, contents)?;
-    let told = judged(alloc, parts.as_slice())?;
-    Ok(told)
+    Ok(judged(alloc, parts.as_slice())?)
 }
 
 // What is told of two parts that are typestates.

@@ -93,15 +93,12 @@ fn ran_roles(
     roles_play();
     protocols_agree();
     let program = accept(alloc, names, contents)?;
-    match first_without(&program.core, mains) {
-        Some(number) => {
-            let refusal = no_main(&mains[number].class)?;
-            return Err(Stop::Refused(refusal));
-        }
-        None => {}
+    if let Some(number) = first_without(&program.core, mains) {
+        let refusal = no_main(&mains[number].class)?;
+        return Err(Stop::Refused(refusal));
     }
     let files = class_files(alloc, &program.core)?;
-    let ran = run_files(
+    Ok(run_files(
         alloc,
         &program.core,
         files,
@@ -110,8 +107,7 @@ fn ran_roles(
         limit,
         named,
         traced,
-    )?;
-    Ok(ran)
+    )?)
 }
 
 // The run of these roles, of the class files of a program.

@@ -65,8 +65,7 @@ fn program_of(alloc: Global, names: &[Text], contents: &[Bytes]) -> Result<Sourc
 {
     let parts = read_parts(alloc, names, contents)?;
     check_roles(alloc, parts.as_slice())?;
-    let sources = assemble(alloc, parts)?;
-    Ok(sources)
+    Ok(assemble(alloc, parts)?)
 }
 
 // What these parts stand for.

@@ -24,8 +24,7 @@ pub fn check(alloc: Global, names: &[Text], contents: &[Bytes]) -> Result<Delive
     ensures { IsCarried (Check names.now) contents.now result }
 {
     let program = accept(alloc, names, contents)?;
-    let delivery = show(alloc, &program)?;
-    Ok(delivery)
+    Ok(show(alloc, &program)?)
 }
 
 // The report of an accepted program on standard output.

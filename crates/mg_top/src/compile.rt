@@ -27,8 +27,7 @@ pub fn compile(
     ensures { IsCarried (Compile (option_map (λ f. f.now) folder.entry) names.now) contents.now result }
 {
     let files = mg_compile::compile(alloc, names, contents)?;
-    let delivery = write_files(alloc, folder, files.as_slice())?;
-    Ok(delivery)
+    Ok(write_files(alloc, folder, files.as_slice())?)
 }
 
 // The writes of these class files.

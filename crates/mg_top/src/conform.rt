@@ -29,8 +29,7 @@ pub fn conform(alloc: Global, bytes: &[u8], listed: &[u8]) -> Result<Delivery, S
         Ok(list) => list,
         Err(fault) => return Err(stop_of(fault).in_file(1)),
     };
-    let delivery = follow(alloc, &local, list.as_slice())?;
-    Ok(delivery)
+    Ok(follow(alloc, &local, list.as_slice())?)
 }
 
 // The refusal of the file of calls. Want of memory stays that.

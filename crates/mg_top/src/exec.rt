@@ -39,8 +39,7 @@ pub fn exec(alloc: Global, asked: &Asked<'_>, contents: &[Bytes]) -> Result<Deli
         named,
         asked.traced,
     )?;
-    let delivery = show(alloc, roles, ran)?;
-    Ok(delivery)
+    Ok(show(alloc, roles, ran)?)
 }
 
 // What is put about a run: what was printed, and then its trace and the lines of its roles. An empty

@@ -44,8 +44,7 @@ pub fn load(alloc: Global, branches: u32, seed: u64) -> Result<Delivery, Stop>
         true,
         false,
     )?;
-    let delivery = show(alloc, branches, seed, roles, ran)?;
-    Ok(delivery)
+    Ok(show(alloc, branches, seed, roles, ran)?)
 }
 
 // The two roles, each with the class whose `main` it runs.

@@ -20,8 +20,7 @@ pub fn project(alloc: Global, folder: Option<&Text>, contents: &[Bytes]) -> Resu
         → IsCarried (Project (option_map (λ f. f.now) folder.entry) names) contents.now result }
 {
     let files = mg_projected::project(alloc, contents)?;
-    let delivery = write_roles(alloc, folder, files.as_slice())?;
-    Ok(delivery)
+    Ok(write_roles(alloc, folder, files.as_slice())?)
 }
 
 // The writes of these files of roles.

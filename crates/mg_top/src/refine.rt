@@ -20,8 +20,11 @@ pub fn refine(alloc: Global, names: &[Text], contents: &[Bytes]) -> Result<Deliv
     ensures { IsCarried (Refine names.now) contents.now result }
 {
     let told = mg_refined::refine(alloc, names, contents)?;
-    let delivery = Delivery::printed(alloc, told.text.as_str(), status_of(told.stands))?;
-    Ok(delivery)
+    Ok(Delivery::printed(
+        alloc,
+        told.text.as_str(),
+        status_of(told.stands),
+    )?)
 }
 
 // The status of an answer.

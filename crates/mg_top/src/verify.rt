@@ -17,6 +17,5 @@ pub fn verify(alloc: Global, contents: &[Bytes]) -> Result<Delivery, Stop>
     ensures { (names : Seq Word) → length names ≡ length contents.now → IsCarried (Verify names) contents.now result }
 {
     let line = verify_files(alloc, contents)?;
-    let delivery = Delivery::printed(alloc, line.as_str(), Status::Done)?;
-    Ok(delivery)
+    Ok(Delivery::printed(alloc, line.as_str(), Status::Done)?)
 }

@@ -60,8 +60,7 @@ fn judged(alloc: Global, linked: &Linked) -> Result<Text, Stop>
         Err(fault) => return Err(stop_of(alloc, &fault)),
     }
     let count = count(linked.classes.as_slice())?;
-    let line = verified_line(alloc, count)?;
-    Ok(line)
+    Ok(verified_line(alloc, count)?)
 }
 
 // How many methods these classes have.

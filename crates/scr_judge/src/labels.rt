@@ -117,10 +117,8 @@ fn key_of(alloc: Global, me: &Text, at: &Text, message: &Message) -> Result<Stri
 {
     if *at == *me {
         let name = call_name(alloc, message)?;
-        let key = String::from_str(alloc, name.as_str())?;
-        Ok(key)
+        Ok(String::from_str(alloc, name.as_str())?)
     } else {
-        let key = String::from_str(alloc, message.label.as_str())?;
-        Ok(key)
+        Ok(String::from_str(alloc, message.label.as_str())?)
     }
 }

@@ -22,6 +22,5 @@ pub fn add_name(names: &mut HashSet<String>, name: String) -> Result<bool, Memor
     ensures new { IfOk result (λ new. new ≡ not (contains_text names.old (string_bytes name))) }
     ensures names { OnOk result (contains_text names.new ≡ with_name (string_bytes name) (contains_text names.old)) }
 {
-    let new = names.insert(name)?;
-    Ok(new)
+    Ok(names.insert(name)?)
 }

@@ -17,18 +17,18 @@ returns-in_err-tokens c =
     subst (Stage c.args.file c.args.bytes.now (IsRead c.args.file c.args.bytes.now)) (sym (e.1 ∙ ap failed e.2))
     (uncut_told c.args.file c.args.bytes.now c.in_err-tokens.field-0.0 c.in_err-tokens.ensures.found)
 
-pub returns-in_err-tree : goal.returns-in_err-tree
-returns-in_err-tree c =
-    let e = err_from_is_err_and c.from_residual-in_err-tree.result c.from_residual-in_err-tree.ensures.1 in
+pub returns-in_err-parse_file : goal.returns-in_err-parse_file
+returns-in_err-parse_file c =
+    let e = err_from_is_err_and c.from_residual-in_err-parse_file.result c.from_residual-in_err-parse_file.ensures.1 in
     let cut = cut_of c.args.file c.args.bytes.now c.in_ok-tokens.tokens.items c.as_slice.result.now c.as_slice.ensures.items
     c.in_ok-tokens.ensures.found in
     subst (Stage c.args.file c.args.bytes.now (IsRead c.args.file c.args.bytes.now)) (sym (e.1 ∙ ap failed e.2))
-    (ungrammatical_told c.args.file c.args.bytes.now c.as_slice.result.now cut c.in_err-tree.field-0.0 c.in_err-tree.ensures.unsupported
-    c.in_err-tree.ensures.syntax)
+    (ungrammatical_told c.args.file c.args.bytes.now c.as_slice.result.now cut c.in_err-parse_file.field-0.0 c.in_err-parse_file.ensures.unsupported
+    c.in_err-parse_file.ensures.syntax)
 
 pub returns : goal.returns
 returns c =
     let cut = cut_of c.args.file c.args.bytes.now c.in_ok-tokens.tokens.items c.as_slice.result.now c.as_slice.ensures.items
     c.in_ok-tokens.ensures.found in
-    read (file_of c.in_ok-tree.tree) (spells_of c.args.file c.args.bytes.now c.as_slice.result.now (file_of c.in_ok-tree.tree) cut
-    c.in_ok-tree.ensures.found)
+    read (file_of c.in_ok-parse_file.field-0) (spells_of c.args.file c.args.bytes.now c.as_slice.result.now (file_of c.in_ok-parse_file.field-0) cut
+    c.in_ok-parse_file.ensures.found)

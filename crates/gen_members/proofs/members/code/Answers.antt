@@ -35,7 +35,7 @@ returns-clause-made c =
     let lay = subst (λ is. IsMade (laid_of c.in_ok-laid.laid) c.lay_out.new.pool (laid 0 (instrs_of p is) c.utf8-2.new.self))
     c.as_slice-instrs.ensures.items
     c.in_ok-laid.ensures.made in
-    rw (c.in_ok-code.ensures p) (code_made (compiled_of p c.args.making.now) c.args.pool.now _ _ _ _ c.in_ok-name.ensures.made lay)
+    rw (c.in_ok-code_in_file.ensures p) (code_made (compiled_of p c.args.making.now) c.args.pool.now _ _ _ _ c.in_ok-name.ensures.made lay)
 
 pub returns-clause-fine : goal.returns-clause-fine
 returns-clause-fine c =

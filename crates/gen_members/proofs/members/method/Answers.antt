@@ -46,7 +46,7 @@ returns-clause-made c =
     let lay = subst (λ is. IsMade (laid_of c.in_ok-laid.laid) c.lay_out.new.pool (laid 0 (instrs_of p is) c.utf8-3.new.self))
     c.as_slice-instrs.ensures.items
     c.in_ok-laid.ensures.made in
-    let is = c.in_ok-member.ensures
+    let is = c.in_ok-with_code.ensures
     ∙ ap (λ code. record {
       access = m.access;
       name = c.in_ok-name.name;

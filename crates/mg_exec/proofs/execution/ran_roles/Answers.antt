@@ -30,12 +30,12 @@ returns-in-Some c = λ names same.
     (classes_of c.in_ok-linked.linked.classes.items) c.in-Some.number _ c.in_ok-refusal-in-Some.refusal (c.in_ok-linked.ensures names same)
     c.in-Some.ensures c.in_ok-refusal-in-Some.ensures
 
-pub returns-in_err-ran : goal.returns-in_err-ran
-returns-in_err-ran c = λ names same.
-    let e = err_from_is_err_and c.from_residual-in_err-ran.result c.from_residual-in_err-ran.ensures.1 in
+pub returns-in_err-run : goal.returns-in_err-run
+returns-in_err-run c = λ names same.
+    let e = err_from_is_err_and c.from_residual-in_err-run.result c.from_residual-in_err-run.ensures.1 in
     rw (e.1, e.2) tt
 
 pub returns : goal.returns
 returns c = λ names same.
     run_shown (sources names c.args.contents.now) c.args.mains.now c.args.order.now c.args.limit c.args.named c.args.traced
-    (classes_of c.in_ok-linked.linked.classes.items) c.in_ok-ran.ran (c.in_ok-linked.ensures names same) c.in-None.ensures c.in_ok-ran.ensures
+    (classes_of c.in_ok-linked.linked.classes.items) c.in_ok-run.field-0 (c.in_ok-linked.ensures names same) c.in_default.ensures c.in_ok-run.ensures

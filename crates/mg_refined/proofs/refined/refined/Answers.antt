@@ -26,5 +26,5 @@ judged-requires c =
 pub returns : goal.returns
 returns c =
     told_of c.args.names.now c.args.contents.now (map part_of c.in_ok-parts.parts.items) (map part_of c.as_slice.result.now)
-    c.in_ok-told.told.text c.in_ok-told.told.stands c.requires.two c.requires.same c.requires.kinds
-    c.in_ok-parts.ensures (ap (map part_of) c.as_slice.ensures.items) c.in_ok-told.ensures
+    c.in_ok-judged.field-0.text c.in_ok-judged.field-0.stands c.requires.two c.requires.same c.requires.kinds
+    c.in_ok-parts.ensures (ap (map part_of) c.as_slice.ensures.items) c.in_ok-judged.ensures

@@ -36,16 +36,16 @@ returns-in_err-files c =
     let e = err_from_is_err_and c.from_residual-in_err-files.result c.from_residual-in_err-files.ensures.1 in
     rw (e.1, e.2)
     (run_exceeded (sources c.args.names.now c.args.contents.now) c.args.mains.now c.args.order.now c.args.limit c.args.named c.args.traced
-    (tree_of c.in_ok-program.program.core) _ c.in_ok-program.ensures.answered.files_are c.in-None.ensures c.in_err-files.ensures)
+    (tree_of c.in_ok-program.program.core) _ c.in_ok-program.ensures.answered.files_are c.in_default.ensures c.in_err-files.ensures)
 
-pub returns-in_err-ran : goal.returns-in_err-ran
-returns-in_err-ran c =
-    let e = err_from_is_err_and c.from_residual-in_err-ran.result c.from_residual-in_err-ran.ensures.1 in
+pub returns-in_err-run_files : goal.returns-in_err-run_files
+returns-in_err-run_files c =
+    let e = err_from_is_err_and c.from_residual-in_err-run_files.result c.from_residual-in_err-run_files.ensures.1 in
     rw (e.1, e.2) tt
 
 pub returns : goal.returns
 returns c =
     let files = sources c.args.names.now c.args.contents.now in
     shown files c.args.mains.now c.args.order.now c.args.limit c.args.named c.args.traced c.roles_are_meant.ensures c.roles_keep.ensures
-    c.roles_play.ensures c.protocols_agree.ensures (tree_of c.in_ok-program.program.core) c.in_ok-files.files.items c.in_ok-ran.ran
-    c.in_ok-program.ensures.answered.files_are c.in-None.ensures c.in_ok-files.ensures c.in_ok-ran.ensures
+    c.roles_play.ensures c.protocols_agree.ensures (tree_of c.in_ok-program.program.core) c.in_ok-files.files.items c.in_ok-run_files.field-0
+    c.in_ok-program.ensures.answered.files_are c.in_default.ensures c.in_ok-files.ensures c.in_ok-run_files.ensures

@@ -29,6 +29,6 @@ pub returns : goal.returns
 returns c =
     let each = of_slice (sources c.args.names.now c.args.contents.now) c.in_ok-parts.parts.items c.as_slice.result.now
     c.as_slice.ensures.items c.in_ok-parts.ensures in
-    is_program c.args.names.now c.args.contents.now (map part_of c.in_ok-parts.parts.items) (sourced_of c.in_ok-sources.sources)
+    is_program c.args.names.now c.args.contents.now (map part_of c.in_ok-parts.parts.items) (sourced_of c.in_ok-assemble.field-0)
     c.in_ok-parts.ensures
-    (c.in_ok-check_roles.ensures c.args.names.now c.args.contents.now each) c.in_ok-sources.ensures
+    (c.in_ok-check_roles.ensures c.args.names.now c.args.contents.now each) c.in_ok-assemble.ensures

@@ -15,12 +15,12 @@ returns-in_err-program c =
     (stopped_so (Check c.args.names.now) c.args.contents.now (IsProgramOf (sources c.args.names.now c.args.contents.now))
     (FirstRefusal (sources c.args.names.now c.args.contents.now)) (λ r h. commands.check h) _ c.in_err-program.ensures.answered)
 
-pub returns-in_err-delivery : goal.returns-in_err-delivery
-returns-in_err-delivery c =
-    let e = err_from_is_err_and c.from_residual-in_err-delivery.result c.from_residual-in_err-delivery.ensures.1 in
+pub returns-in_err-show : goal.returns-in_err-show
+returns-in_err-show c =
+    let e = err_from_is_err_and c.from_residual-in_err-show.result c.from_residual-in_err-show.ensures.1 in
     rw (e.1, e.2) tt
 
 pub returns : goal.returns
 returns c =
-    report_given c.args.names.now c.args.contents.now (tree_of c.in_ok-program.program.core) c.in_ok-delivery.delivery
-    c.in_ok-program.ensures.answered.files_are c.in_ok-delivery.ensures
+    report_given c.args.names.now c.args.contents.now (tree_of c.in_ok-program.program.core) c.in_ok-show.field-0
+    c.in_ok-program.ensures.answered.files_are c.in_ok-show.ensures

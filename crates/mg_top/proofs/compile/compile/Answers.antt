@@ -19,12 +19,12 @@ returns-in_err-files c =
     (λ (written : Row ClassFile). AreCompiled files written.items) (FirstRefusal files) (λ r h. commands.compile h) _
     c.in_err-files.ensures.answered)
 
-pub returns-in_err-delivery : goal.returns-in_err-delivery
-returns-in_err-delivery c =
-    let e = err_from_is_err_and c.from_residual-in_err-delivery.result c.from_residual-in_err-delivery.ensures.1 in
+pub returns-in_err-write_files : goal.returns-in_err-write_files
+returns-in_err-write_files c =
+    let e = err_from_is_err_and c.from_residual-in_err-write_files.result c.from_residual-in_err-write_files.ensures.1 in
     rw (e.1, e.2) tt
 
 pub returns : goal.returns
 returns c =
-    gives_so _ _ _ _ c.in_ok-delivery.delivery c.in_ok-delivery.ensures.actions c.in_ok-delivery.ensures.status
+    gives_so _ _ _ _ c.in_ok-write_files.field-0 c.in_ok-write_files.ensures.actions c.in_ok-write_files.ensures.status
     (compiled c.as_slice.result.now (rw c.as_slice.ensures.items c.in_ok-files.ensures.answered))

@@ -18,13 +18,13 @@ returns-in-Err c = λ protocol calls ends.
     (list_refused protocol calls c.args.bytes.now c.args.listed.now (tree_of c.in_ok-local.local) c.in-Err.fault c.stop_of.result
     (c.in_ok-local.ensures protocol ends) c.in-Err.ensures c.stop_of.ensures)
 
-pub returns-in_err-delivery : goal.returns-in_err-delivery
-returns-in_err-delivery c = λ protocol calls ends.
-    let e = err_from_is_err_and c.from_residual-in_err-delivery.result c.from_residual-in_err-delivery.ensures.1 in
+pub returns-in_err-follow : goal.returns-in_err-follow
+returns-in_err-follow c = λ protocol calls ends.
+    let e = err_from_is_err_and c.from_residual-in_err-follow.result c.from_residual-in_err-follow.ensures.1 in
     rw (e.1, e.2) tt
 
 pub returns : goal.returns
 returns c = λ protocol calls ends.
     followed protocol calls c.args.bytes.now c.args.listed.now (tree_of c.in_ok-local.local) c.in-Ok.list.items c.as_slice.result.now
-    c.in_ok-delivery.delivery (c.in_ok-local.ensures protocol ends) c.in-Ok.list refl c.in-Ok.ensures c.as_slice.ensures.items
-    c.in_ok-delivery.ensures
+    c.in_ok-follow.field-0 (c.in_ok-local.ensures protocol ends) c.in-Ok.list refl c.in-Ok.ensures c.as_slice.ensures.items
+    c.in_ok-follow.ensures

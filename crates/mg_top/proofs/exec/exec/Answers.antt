@@ -49,15 +49,15 @@ returns-in_err-ran c = λ names same.
     (FirstRefusal files c.as_slice-roles.result.now)
     (λ r h. commands.exec (subst (λ (z : List RoleMain). FirstRefusal files z r) mains_are h)) _ (c.in_err-ran.ensures.answered names same))
 
-pub returns-in_err-delivery : goal.returns-in_err-delivery
-returns-in_err-delivery c = λ names same.
-    let e = err_from_is_err_and c.from_residual-in_err-delivery.result c.from_residual-in_err-delivery.ensures.1 in
+pub returns-in_err-show : goal.returns-in_err-show
+returns-in_err-show c = λ names same.
+    let e = err_from_is_err_and c.from_residual-in_err-show.result c.from_residual-in_err-show.ensures.1 in
     rw (e.1, e.2) tt
 
 pub returns : goal.returns
 returns c = λ names same.
     exec_given (asked_of c.args.asked.now) names c.args.contents.now _ _ c.limit_of-limit.result c.is_named-named.result c.in_ok-ran.ran
-    c.in_ok-delivery.delivery
+    c.in_ok-show.field-0
     (c.as_slice-roles.ensures.items ∙ c.in_ok-mains.ensures.items) (c.as_slice.ensures.value ∙ c.in_ok-order.ensures.items)
-    c.limit_of-limit.ensures c.is_named-named.ensures (c.in_ok-ran.ensures.answered names same) c.in_ok-delivery.ensures.actions
-    c.in_ok-delivery.ensures.status
+    c.limit_of-limit.ensures c.is_named-named.ensures (c.in_ok-ran.ensures.answered names same) c.in_ok-show.ensures.actions
+    c.in_ok-show.ensures.status

@@ -51,14 +51,14 @@ returns-in_err-ran c = λ read.
     (c.as_slice.ensures.items ∙ c.in_ok-workload.ensures.names) (c.as_slice-2.ensures.items ∙ c.in_ok-workload.ensures.contents)
     (c.as_slice-roles.ensures.items ∙ c.in_ok-mains.ensures) h) _ c.in_err-ran.ensures.answered)
 
-pub returns-in_err-delivery : goal.returns-in_err-delivery
-returns-in_err-delivery c = λ read.
-    let e = err_from_is_err_and c.from_residual-in_err-delivery.result c.from_residual-in_err-delivery.ensures.1 in
+pub returns-in_err-show : goal.returns-in_err-show
+returns-in_err-show c = λ read.
+    let e = err_from_is_err_and c.from_residual-in_err-show.result c.from_residual-in_err-show.ensures.1 in
     rw (e.1, e.2) tt
 
 pub returns : goal.returns
 returns c = λ read.
-    load_given c.args.branches c.args.seed read c.as_slice.result.now c.as_slice-2.result.now c.as_slice-roles.result.now _ c.in_ok-ran.ran c.in_ok-delivery.delivery
+    load_given c.args.branches c.args.seed read c.as_slice.result.now c.as_slice-2.result.now c.as_slice-roles.result.now _ c.in_ok-ran.ran c.in_ok-show.field-0
     (c.as_slice.ensures.items ∙ c.in_ok-workload.ensures.names) (c.as_slice-2.ensures.items ∙ c.in_ok-workload.ensures.contents)
-    (c.as_slice-roles.ensures.items ∙ c.in_ok-mains.ensures) refl c.in_ok-ran.ensures.answered c.in_ok-delivery.ensures.actions
-    c.in_ok-delivery.ensures.status
+    (c.as_slice-roles.ensures.items ∙ c.in_ok-mains.ensures) refl c.in_ok-ran.ensures.answered c.in_ok-show.ensures.actions
+    c.in_ok-show.ensures.status

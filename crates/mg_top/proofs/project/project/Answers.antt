@@ -19,12 +19,12 @@ returns-in_err-files c = λ names one.
     (λ (written : Row RoleFile). AreWritten files written.items) (FirstRefusal files) (λ r h. commands.project h) _
     (c.in_err-files.ensures.answered names one))
 
-pub returns-in_err-delivery : goal.returns-in_err-delivery
-returns-in_err-delivery c = λ names one.
-    let e = err_from_is_err_and c.from_residual-in_err-delivery.result c.from_residual-in_err-delivery.ensures.1 in
+pub returns-in_err-write_roles : goal.returns-in_err-write_roles
+returns-in_err-write_roles c = λ names one.
+    let e = err_from_is_err_and c.from_residual-in_err-write_roles.result c.from_residual-in_err-write_roles.ensures.1 in
     rw (e.1, e.2) tt
 
 pub returns : goal.returns
 returns c = λ names one.
-    gives_so _ _ _ _ c.in_ok-delivery.delivery c.in_ok-delivery.ensures.actions c.in_ok-delivery.ensures.status
+    gives_so _ _ _ _ c.in_ok-write_roles.field-0 c.in_ok-write_roles.ensures.actions c.in_ok-write_roles.ensures.status
     (projected c.as_slice.result.now (rw c.as_slice.ensures.items (c.in_ok-files.ensures.answered names one)))

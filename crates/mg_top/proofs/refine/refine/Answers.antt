@@ -15,13 +15,13 @@ returns-in_err-told c =
     (stopped_so (Refine c.args.names.now) c.args.contents.now (λ (t : Told). AreJudged files t.text t.stands) (FirstRefusal files)
     (λ r h. commands.refine h) _ c.in_err-told.ensures.answered)
 
-pub returns-in_err-delivery : goal.returns-in_err-delivery
-returns-in_err-delivery c =
-    let e = err_from_is_err_and c.from_residual-in_err-delivery.result c.from_residual-in_err-delivery.ensures.1 in
+pub returns-in_err-printed : goal.returns-in_err-printed
+returns-in_err-printed c =
+    let e = err_from_is_err_and c.from_residual-in_err-printed.result c.from_residual-in_err-printed.ensures.1 in
     rw (e.1, e.2) tt
 
 pub returns : goal.returns
 returns c =
     told_given c.args.names.now c.args.contents.now c.in_ok-told.told.text c.as_str.result.now c.in_ok-told.told.stands c.status_of.result
-    c.in_ok-delivery.delivery c.as_str.ensures c.status_of.ensures c.in_ok-told.ensures.answered c.in_ok-delivery.ensures.actions
-    c.in_ok-delivery.ensures.status
+    c.in_ok-printed.field-0 c.as_str.ensures c.status_of.ensures c.in_ok-told.ensures.answered c.in_ok-printed.ensures.actions
+    c.in_ok-printed.ensures.status

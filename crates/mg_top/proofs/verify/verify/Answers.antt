@@ -14,12 +14,12 @@ returns-in_err-line c = λ names same.
     (stopped_so (Verify names) c.args.contents.now (AreVerified files) (FirstRefusal files) (λ r h. commands.verify h) _
     (c.in_err-line.ensures.answered names same))
 
-pub returns-in_err-delivery : goal.returns-in_err-delivery
-returns-in_err-delivery c = λ names same.
-    let e = err_from_is_err_and c.from_residual-in_err-delivery.result c.from_residual-in_err-delivery.ensures.1 in
+pub returns-in_err-printed : goal.returns-in_err-printed
+returns-in_err-printed c = λ names same.
+    let e = err_from_is_err_and c.from_residual-in_err-printed.result c.from_residual-in_err-printed.ensures.1 in
     rw (e.1, e.2) tt
 
 pub returns : goal.returns
 returns c = λ names same.
-    verified_given names c.args.contents.now c.in_ok-line.line c.as_str.result.now c.in_ok-delivery.delivery c.as_str.ensures
-    (c.in_ok-line.ensures.answered names same) c.in_ok-delivery.ensures.actions c.in_ok-delivery.ensures.status
+    verified_given names c.args.contents.now c.in_ok-line.line c.as_str.result.now c.in_ok-printed.field-0 c.as_str.ensures
+    (c.in_ok-line.ensures.answered names same) c.in_ok-printed.ensures.actions c.in_ok-printed.ensures.status

@@ -2,4 +2,4 @@ use Rattle.scr_judge.proofs.Sets.{noted}
 use Rattle.scr_judge.proofs.seen.add_name.Goals as goal
 
 pub returns-clause-names : goal.returns-clause-names
-returns-clause-names c = noted c.args.name c.args.names.now c.insert.new.self c.in_ok-new.ensures.updates
+returns-clause-names c = noted c.args.name c.args.names.now c.insert.new.self c.in_ok-insert.ensures.updates
