@@ -148,11 +148,5 @@ pub(crate) fn method(
     };
     judge(alloc, telling, laid.end, making.max_locals, pool, old)?;
     let code = code_in_file(alloc, making, code_name, &laid)?;
-    Ok(with_code(
-        alloc,
-        making.access,
-        name,
-        descriptor,
-        code,
-    )?)
+    Ok(with_code(alloc, making.access, name, descriptor, code)?)
 }

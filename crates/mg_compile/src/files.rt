@@ -46,12 +46,7 @@ pub fn class_files(alloc: Global, core: &Core) -> Result<List<ClassFile>, Stop>
     members_are_few();
     files_fit();
     match gen_classes(alloc, core) {
-        Ok(classes) => Ok(write_all(
-            alloc,
-            core,
-            core.classes(),
-            classes.as_slice(),
-        )?),
+        Ok(classes) => Ok(write_all(alloc, core, core.classes(), classes.as_slice())?),
         Err(fault) => Err(stop_of(fault)),
     }
 }
