@@ -41,7 +41,12 @@ fn has_long_behind(pool: &Pool, old: usize) -> bool
 
 /// The first limit that is exceeded by code of so many bytes with so many locals, by the pool, or
 /// by a text behind its first `old` constants.
-pub(crate) fn first_exceeded(code_size: usize, locals: u32, pool: &Pool, old: usize) -> Option<Limit>
+pub(crate) fn first_exceeded(
+    code_size: usize,
+    locals: u32,
+    pool: &Pool,
+    old: usize,
+) -> Option<Limit>
     ensures { option_map limit_of result ≡ exceeded code_size locals pool.now (drop old pool.now) }
 {
     if code_size > MOST_CODE {

@@ -20,11 +20,7 @@ pub fn refine(alloc: Global, names: &[Text], contents: &[Bytes]) -> Result<Deliv
     ensures { IsCarried (Refine names.now) contents.now result }
 {
     let told = mg_refined::refine(alloc, names, contents)?;
-    Ok(Delivery::printed(
-        alloc,
-        told.text.as_str(),
-        status_of(told.stands),
-    )?)
+    Ok(Delivery::printed(alloc, told.text.as_str(), status_of(told.stands))?)
 }
 
 // The status of an answer.
