@@ -5,7 +5,6 @@
 mod constants;
 mod descriptors;
 mod names;
-mod session;
 
 pub use constants::constant;
 pub use descriptors::{field_descriptor, method_descriptor};
