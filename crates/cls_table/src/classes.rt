@@ -3,7 +3,6 @@
 ghost use Rattle.std.specs.Prelude.{◌≡◌, ℕ, ◌+◌, ◌<◌, ◌∷◌, [], map, length, get_or, slice_get, option_map, option_copied, if◌then◌else◌};
 ghost use Rattle.std.specs.Prelude.{IfOk};
 ghost use Rattle.mg_text.specs.Call.{Name as Named};
-ghost use Rattle.vm_model.specs.Linked as model;
 ghost use Rattle.vm_model.specs.View.{classes_of, class_of, method_of, field_of};
 ghost use Rattle.cls_verify.specs.Kinds.{Instance};
 ghost use Rattle.cls_kinds.specs.Named.{kind_of};
@@ -16,7 +15,7 @@ use crate::types::{add_kinds, kind_of_some};
 use cls_kinds::Kind;
 use mg_text::{Memory, Names};
 use std::alloc::Global;
-use vm_model::{Linked, LinkedClass, LinkedField, LinkedMethod};
+use vm_model::{Linked, LinkedClass, LinkedField, LinkedMethod, is_built_in};
 
 /// A method in kinds: what it takes, the object first where it isn't static, and what it answers.
 #[derive(Drop)]
@@ -46,17 +45,6 @@ pub struct ProgramKinds {
     /// The names of classes, whose places number the kinds of objects.
     pub names: Names,
     pub classes: Vec<ClassKinds>,
-}
-
-/// Whether this is the name of a built-in class.
-fn is_built_in(name: &str) -> bool
-    ensures { result ≡ model.is_built_in name.now }
-{
-    name == "java/lang/Object"
-        || name == "java/lang/String"
-        || name == "java/lang/System"
-        || name == "java/io/PrintStream"
-        || name == "mungo/lib/Session"
 }
 
 /// Counts one more, up to 2.

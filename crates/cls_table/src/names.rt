@@ -11,7 +11,7 @@ ghost use Rattle.cls_table.specs.Known.{IsKnown, KnowsNames};
 
 use mg_text::{Memory, Names};
 use std::alloc::Global;
-use vm_model::LinkedClass;
+use vm_model::{LinkedClass, OBJECT_CLASS, PRINT_STREAM_CLASS, SESSION_CLASS, STRING_CLASS, SYSTEM_CLASS};
 
 /// Adds a name, where the table has room for it among the numbers of kinds.
 pub(crate) fn add_name(names: &mut Names, name: &str) -> Result<(), Memory>
@@ -31,11 +31,11 @@ fn built_in_names(alloc: Global) -> Result<Names, Memory>
     ensures known { IfOk result (λ n. (name : Named) → is_built_in name ≡ true → IsKnown n name) }
 {
     let mut names = Names::new(alloc);
-    add_name(&mut names, "java/lang/Object")?;
-    add_name(&mut names, "java/io/PrintStream")?;
-    add_name(&mut names, "java/lang/String")?;
-    add_name(&mut names, "java/lang/System")?;
-    add_name(&mut names, "mungo/lib/Session")?;
+    add_name(&mut names, OBJECT_CLASS)?;
+    add_name(&mut names, PRINT_STREAM_CLASS)?;
+    add_name(&mut names, STRING_CLASS)?;
+    add_name(&mut names, SYSTEM_CLASS)?;
+    add_name(&mut names, SESSION_CLASS)?;
     Ok(names)
 }
 

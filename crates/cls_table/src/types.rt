@@ -10,7 +10,7 @@ use crate::names::number_of;
 use cls_kinds::Kind;
 use mg_text::{Memory, Names};
 use std::alloc::Global;
-use vm_model::LinkedType;
+use vm_model::{LinkedType, STRING_CLASS};
 
 /// The objects of the class of this name.
 fn instance(names: &Names, name: &str) -> Kind
@@ -25,7 +25,7 @@ fn named(names: &Names, name: &str) -> Kind
     requires { IsKnown names.now name.now }
     ensures { kind_of names.now result ≡ named_kind name.now }
 {
-    if name == "java/lang/String" {
+    if name == STRING_CLASS {
         return Kind::TEXT;
     }
     instance(names, name)

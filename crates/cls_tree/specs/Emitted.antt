@@ -4,6 +4,7 @@ use Rattle.std.specs.Prelude.{if◌then◌else◌, codes}
 use Rattle.std.specs.Str.{bytes_eq}
 use Rattle.std.specs.Ordering.{int_eq}
 use Rattle.mg_text.specs.Call.{Name}
+use Rattle.cls_tree.specs.declared.opcodes.TheConstants.{GETSTATIC, INVOKEVIRTUAL, LDC, LDC_W, RETURN}
 use Rattle.cls_tree.specs.declared.class.Const.{Const}
 use Rattle.cls_tree.specs.declared.class.Const.TheVariants.{Utf8, Integer, Class as ClassConst, Text, Field, Method, NameAndType}
 use Rattle.cls_tree.specs.Tree.{Instr, Code, Coded, Other, Member, Class}
@@ -73,17 +74,17 @@ method_const class name descriptor = do
   number_of (Method c n)
 
 abbrev pub getstatic : ℕ → Instr
-getstatic n = record { op = 178; args = args.Pool n }
+getstatic n = record { op = GETSTATIC; args = args.Pool n }
 
 -- ldc, or ldc_w for numbers over 255
 abbrev pub push_const : ℕ → Instr
-push_const n = record { op = if nat_lt n 256 then 18 else 19; args = args.Pool n }
+push_const n = record { op = if nat_lt n 256 then LDC else LDC_W; args = args.Pool n }
 
 abbrev pub invokevirtual : ℕ → Instr
-invokevirtual n = record { op = 182; args = args.Pool n }
+invokevirtual n = record { op = INVOKEVIRTUAL; args = args.Pool n }
 
 abbrev pub return : Instr
-return = record { op = 177; args = args.None }
+return = record { op = RETURN; args = args.None }
 
 -- System.out.println("text");
 abbrev pub print : List ℕ → Pooled (List Instr)

@@ -4,6 +4,7 @@
 ghost use Rattle.std.specs.Prelude.{◌≡◌};
 ghost use Rattle.cls_tree.specs.Opcodes.{form_of};
 
+use crate::opcodes::*;
 use mg_text::List;
 
 /// The arguments of an instruction.
@@ -71,20 +72,24 @@ pub fn form_of(op: u8) -> Option<Form>
     ensures { result ≡ form_of op }
 {
     let form = match op {
-        0x01..=0x08 | 0x1a..=0x1d | 0x2a..=0x2d | 0x3b..=0x3e | 0x4b..=0x4e => Form::Nothing,
-        0x57 | 0x59 | 0x5f | 0x60 | 0x64 | 0x68 | 0x6c | 0x70 | 0x74 => Form::Nothing,
-        0xac | 0xb0 | 0xb1 => Form::Nothing,
-        0x10 => Form::Byte,
-        0x11 => Form::Short,
-        0x12 => Form::NearConstant,
-        0x13 => Form::Constant,
-        0x15 | 0x19 | 0x36 | 0x3a => Form::Local,
-        0x84 => Form::Increment,
-        0x99..=0xa4 | 0xa7 | 0xc6 | 0xc7 => Form::Jump,
-        0xaa => Form::Table,
-        0xb2 | 0xb4 | 0xb5 => Form::Field,
-        0xb6..=0xb8 => Form::Method,
-        0xbb => Form::Class,
+        ACONST_NULL..=ICONST_5
+        | ILOAD_0..=ILOAD_3
+        | ALOAD_0..=ALOAD_3
+        | ISTORE_0..=ISTORE_3
+        | ASTORE_0..=ASTORE_3 => Form::Nothing,
+        POP | DUP | SWAP | IADD | ISUB | IMUL | IDIV | IREM | INEG => Form::Nothing,
+        IRETURN | ARETURN | RETURN => Form::Nothing,
+        BIPUSH => Form::Byte,
+        SIPUSH => Form::Short,
+        LDC => Form::NearConstant,
+        LDC_W => Form::Constant,
+        ILOAD | ALOAD | ISTORE | ASTORE => Form::Local,
+        IINC => Form::Increment,
+        IFEQ..=IF_ICMPLE | GOTO | IFNULL | IFNONNULL => Form::Jump,
+        TABLESWITCH => Form::Table,
+        GETSTATIC | GETFIELD | PUTFIELD => Form::Field,
+        INVOKEVIRTUAL..=INVOKESTATIC => Form::Method,
+        NEW => Form::Class,
         _ => return None,
     };
     Some(form)

@@ -4,6 +4,7 @@
 
 mod class;
 mod instr;
+pub mod opcodes;
 
 pub use class::{Attr, Class, Code, Const, Member};
 pub use instr::{Args, Form, Instr, form_of};

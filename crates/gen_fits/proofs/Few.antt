@@ -14,7 +14,7 @@ use Rattle.jv_core.specs.Conditions.{IsCore}
 use Rattle.jv_core.specs.Lookup.{text_at}
 use Rattle.jv_core.specs.Numbering.{methods_of}
 use Rattle.jv_core.specs.Tree.{Field, Class, Method, Program}
-use Rattle.gen_rules.specs.Members.{object_class}
+use Rattle.vm_model.specs.BuiltIns.{object_class}
 use Rattle.gen_rules.specs.Classes.{Compiled, constructors, methods_in, AreCompiled, IsCompiledClass, AreCompiledClasses}
 use Rattle.gen_rules.specs.Classes.{header, field_in_file, method_in_file, each}
 use Rattle.gen_rules.specs.Limits.{parts_in, first_in_parts, first_in_classes}

@@ -13,9 +13,10 @@ use Rattle.jv_core.specs.Conditions.{IsCore}
 use Rattle.jv_core.specs.Lookup.{text_at}
 use Rattle.jv_core.specs.Tree.{Expr, Int, Truth, Text, Null, Variable, Constant, Neg}
 use Rattle.jv_core.specs.Tree.{Not, Binary, Protocol, Helper, Static, Equals, Concat, Session, New, Field, Class, Method, Program}
+use Rattle.vm_model.specs.BuiltIns.{object_class}
 use Rattle.gen_rules.specs.Symbolic.{Instr, plain, push, push_truth, return}
 use Rattle.gen_rules.specs.Members as members
-use Rattle.gen_rules.specs.Members.{object_class, init_name, init_descriptor}
+use Rattle.gen_rules.specs.Members.{init_name, init_descriptor}
 use Rattle.gen_rules.specs.Frames.{max_stack, max_locals}
 use Rattle.gen_rules.specs.Templates.{IsCode}
 use Rattle.gen_rules.specs.Locals.{params_in_scope}

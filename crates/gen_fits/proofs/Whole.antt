@@ -14,7 +14,8 @@ use Rattle.cls_tree.specs.WellFormed as wf
 use Rattle.cls_tree.specs.WellFormed.{IsField_in, IsMethod_in, PlainNames, MethodNames, CodeNames, InnerNames, NamesCode, is_code}
 use Rattle.jv_core.specs.Tree.{Field, Class, Program}
 use Rattle.jv_core.specs.Lookup.{text_at}
-use Rattle.gen_rules.specs.Members.{object_class, field_descriptor}
+use Rattle.vm_model.specs.BuiltIns.{object_class}
+use Rattle.gen_rules.specs.Members.{field_descriptor}
 use Rattle.gen_rules.specs.Assembled.{aimed}
 use Rattle.gen_rules.specs.Classes.{Compiled, header, field_in_file, method_in_file, each, parts, class_file}
 use Rattle.gen_rules.specs.Limits.{parts_in, first_in_parts}

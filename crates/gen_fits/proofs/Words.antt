@@ -12,6 +12,7 @@ use Rattle.cls_tree.specs.declared.instr.Form.TheVariants as forms
 use Rattle.cls_tree.specs.Opcodes.{form_of}
 use Rattle.cls_tree.specs.Pool.{Int, Reference}
 use Rattle.vm_model.specs.Types.{type_text, result_text, signature_text, main_signature}
+use Rattle.vm_model.specs.BuiltIns.{session_class}
 use Rattle.jv_core.specs.declared.program.CoreType.{CoreType}
 use Rattle.jv_core.specs.declared.program.CoreType.TheVariants as types
 use Rattle.jv_core.specs.declared.tree.SessionCall.{SessionCall}
@@ -23,7 +24,7 @@ use Rattle.gen_rules.specs.Symbolic as symbolic
 use Rattle.gen_rules.specs.Symbolic.{Instr, plain, push, iconst, lies_within, with_local, load, store, is_reference}
 use Rattle.gen_rules.specs.Members.{class_name, or_empty, type_in, result_in, field_descriptor, descriptor_of, method_descriptor}
 use Rattle.gen_rules.specs.Members.{field_member, field_reference, method_member, method_reference, init_of, session_reference}
-use Rattle.gen_rules.specs.Members.{session_class, session_name}
+use Rattle.gen_rules.specs.Members.{session_name}
 use Rattle.gen_fits.specs.Encodable.{IsWritten, IsEncodable}
 
 -- Texts.

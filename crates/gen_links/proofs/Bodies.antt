@@ -26,12 +26,13 @@ use Rattle.vm_model.specs.Types.{signature_of, type_of}
 use Rattle.vm_model.specs.Program as machine
 use Rattle.vm_model.specs.declared.linked.Built.TheVariants as built
 use Rattle.vm_model.specs.Links.{Outline}
+use Rattle.vm_model.specs.BuiltIns.{object_class}
 use Rattle.gen_rules.specs.Symbolic.{Instr, push}
 use Rattle.gen_rules.specs.Symbolic.{ifeq, ifne, ifnull, ifnonnull, if_icmp, opposite, goto}
 use Rattle.gen_rules.specs.Symbolic.{tableswitch, return, return_value, getstatic}
 use Rattle.gen_rules.specs.Symbolic.{invokevirtual, invokespecial, invokestatic, pop}
 use Rattle.gen_rules.specs.Classes.{push_constant, initialised, all_initialised, constructor_code}
-use Rattle.gen_rules.specs.Members.{object_class, init_of, session_reference}
+use Rattle.gen_rules.specs.Members.{init_of, session_reference}
 use Rattle.gen_rules.specs.Members.{out_reference, println_reference, concat_reference, equals_reference, value_of_int, value_of_truth}
 use Rattle.gen_rules.specs.Typed as typed
 use Rattle.gen_rules.specs.Typed.{joins}

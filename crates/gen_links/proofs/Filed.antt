@@ -11,9 +11,10 @@ use Rattle.vm_model.specs.Links as links
 use Rattle.vm_model.specs.Links.{Flaw, Outline, Declared, or_empty, declared, outline, is_dynamic, is_static, right_in}
 use Rattle.vm_model.specs.Links.{wrong_in, some_in, code_among, method_made, method_of_member}
 use Rattle.vm_model.specs.Links.{method_flaws, code_flaws, super_flaw, field_made, judged_code}
+use Rattle.vm_model.specs.BuiltIns.{object_class}
 use Rattle.jv_core.specs.Tree.{Field, Class, Program}
 use Rattle.jv_core.specs.Lookup as core
-use Rattle.gen_rules.specs.Members.{object_class, field_descriptor}
+use Rattle.gen_rules.specs.Members.{field_descriptor}
 use Rattle.gen_rules.specs.Classes.{Compiled, parts, class_file}
 use Rattle.gen_rules.specs.Linked.{declared_field, declared_method, outline_of, linked_code, linked_method, linked_methods, linked_class}
 use Rattle.gen_rules.proofs.Pool.{grows_none}

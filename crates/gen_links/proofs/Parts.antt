@@ -4,10 +4,11 @@ use Rattle.cls_tree.specs.declared.class.Const.{Const}
 use Rattle.cls_tree.specs.Tree as file
 use Rattle.cls_tree.specs.Emitted.{Pooled}
 use Rattle.vm_model.specs.Links.{Outline, judged_code}
+use Rattle.vm_model.specs.BuiltIns.{object_class}
 use Rattle.jv_core.specs.Tree.{Field, Class, Program}
 use Rattle.jv_core.specs.Lookup.{text_at}
 use Rattle.gen_rules.specs.Symbolic.{Instr}
-use Rattle.gen_rules.specs.Members.{object_class, field_descriptor}
+use Rattle.gen_rules.specs.Members.{field_descriptor}
 use Rattle.gen_rules.specs.Assembled.{aimed, assembled}
 use Rattle.gen_rules.specs.Classes.{Compiled, Header, header, field_in_file, code_in_file, method_in_file, each, Parts, parts}
 use Rattle.gen_rules.specs.Linked.{linked_code}

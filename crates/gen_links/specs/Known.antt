@@ -8,6 +8,7 @@ use Rattle.jv_core.specs.declared.program.MethodKind.TheVariants as kinds
 use Rattle.jv_core.specs.Tree.{Field, Class, Method, Program}
 use Rattle.jv_core.specs.Types.{HasTypestate}
 use Rattle.jv_core.specs.Conditions.{IsMethod}
+use Rattle.cls_tree.specs.declared.opcodes.TheConstants.{GETFIELD, PUTFIELD, INVOKEVIRTUAL, INVOKESPECIAL, INVOKESTATIC}
 use Rattle.cls_tree.specs.Pool.{Reference}
 use Rattle.gen_rules.specs.Members.{class_name, field_reference, method_reference, init_of}
 use Rattle.gen_rules.specs.Classes.{constructor_code}
@@ -27,16 +28,16 @@ NamesMethod os count op r = Names os count op r (method_types r.member.name r.me
 
 -- the opcode by which a method of this kind is called; `main` isn't
 abbrev pub IsCalledBy : MethodKind → (op : ℕ) → Type 0
-IsCalledBy kinds.Protocol op = op ≡ 182
-IsCalledBy kinds.Helper op = op ≡ 183
-IsCalledBy kinds.Static op = op ≡ 184
+IsCalledBy kinds.Protocol op = op ≡ INVOKEVIRTUAL
+IsCalledBy kinds.Helper op = op ≡ INVOKESPECIAL
+IsCalledBy kinds.Static op = op ≡ INVOKESTATIC
 IsCalledBy kinds.Main op = ⊥
 
 -- in code of so many instructions
 pub record Knows (os : List Outline) (p : Program) (count : ℕ) : Type 0 where
   pub class : (c : ℕ) → HasTypestate p c → IsLoaded os (class_name p c)
-  pub init : (c : ℕ) → HasTypestate p c → NamesMethod os count 183 (init_of (class_name p c))
-  pub field : (op c f : ℕ) (k : Class) (d : Field) → (op ≡ 180) ⊎ (op ≡ 181) → slice_get p.classes c ≡ Some k →
+  pub init : (c : ℕ) → HasTypestate p c → NamesMethod os count INVOKESPECIAL (init_of (class_name p c))
+  pub field : (op c f : ℕ) (k : Class) (d : Field) → (op ≡ GETFIELD) ⊎ (op ≡ PUTFIELD) → slice_get p.classes c ≡ Some k →
       slice_get k.fields f ≡ Some d → NamesField os count op (field_reference p c f)
   pub method : (op n : ℕ) (k : Method) → slice_get p.methods n ≡ Some k → IsCalledBy k.kind op →
       NamesMethod os count op (method_reference p n)

@@ -1,6 +1,8 @@
 -- When an instruction links: its jumps lead to instructions of the code, what it names is there, and its operand is one of its opcode.
 use Rattle.std.specs.Prelude.{◌≡◌, ◌++◌, ◌⊎◌, ◌<◌, ℕ, pos, List, map, length, true, Option, Some, Ok}
 use Rattle.std.specs.List.{AllByRecursion}
+use Rattle.cls_tree.specs.declared.opcodes.TheConstants.{GETSTATIC, GETFIELD, PUTFIELD, INVOKEVIRTUAL, INVOKESPECIAL, INVOKESTATIC}
+use Rattle.cls_tree.specs.declared.opcodes.TheConstants.{LDC, NEW}
 use Rattle.cls_tree.specs.declared.class.Const.{Const}
 use Rattle.cls_tree.specs.Pool.{Reference}
 use Rattle.vm_model.specs.Program.{Args}
@@ -20,21 +22,21 @@ pub record Names (os : List Outline) (count op : ℕ) (r : Reference) (types : O
   pub fits : fits_code count op args ≡ true
 
 abbrev pub IsFieldOpcode : ℕ → Type 0
-IsFieldOpcode op = (op ≡ 178) ⊎ ((op ≡ 180) ⊎ (op ≡ 181))
+IsFieldOpcode op = (op ≡ GETSTATIC) ⊎ ((op ≡ GETFIELD) ⊎ (op ≡ PUTFIELD))
 
 abbrev pub IsMethodOpcode : ℕ → Type 0
-IsMethodOpcode op = (op ≡ 182) ⊎ ((op ≡ 183) ⊎ (op ≡ 184))
+IsMethodOpcode op = (op ≡ INVOKEVIRTUAL) ⊎ ((op ≡ INVOKESPECIAL) ⊎ (op ≡ INVOKESTATIC))
 
 -- an instruction of a code of so many, where these are the classes
 abbrev pub IsRightWith : List Outline → (count op : ℕ) → Operand → Type 0
 IsRightWith os count op Nothing = fits_code count op machine.Nothing ≡ true
 IsRightWith os count op (Number n) = fits_code count op (machine.Int n) ≡ true
-IsRightWith os count op (Constant c) = op ≡ 18
+IsRightWith os count op (Constant c) = op ≡ LDC
 IsRightWith os count op (Local n) = fits_code count op (machine.Local n) ≡ true
 IsRightWith os count op (Jump target) = (target < count) × (fits_code count op (machine.Jump target) ≡ true)
 IsRightWith os count op (Table default targets) =
     (default < count) × AllByRecursion (λ t. t < count) targets × (fits_code count op (machine.Table default (pos 0) targets) ≡ true)
-IsRightWith os count op (Class name) = (op ≡ 187) × (c : ℕ) × (loaded os name ≡ Some c)
+IsRightWith os count op (Class name) = (op ≡ NEW) × (c : ℕ) × (loaded os name ≡ Some c)
 IsRightWith os count op (Field r) = IsFieldOpcode op × Names os count op r (field_types r.member.descriptor)
 IsRightWith os count op (Method r) = IsMethodOpcode op × Names os count op r (method_types r.member.name r.member.descriptor)
 

@@ -1,11 +1,13 @@
 pub mod Described
 pub mod Found
+pub mod BuiltIns
 pub mod Putting
 pub mod Counting
 pub mod Judging
 pub mod Looking
 pub mod Assembling
 pub mod Sizing
+pub mod Final
 pub mod Filing
 pub mod Seen
 pub mod Stages

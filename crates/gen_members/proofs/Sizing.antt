@@ -11,11 +11,10 @@ use Rattle.cls_tree.specs.declared.instr.Form.TheVariants as forms
 use Rattle.cls_tree.specs.Opcodes.{form_of}
 use Rattle.cls_tree.specs.Tree as file
 use Rattle.cls_tree.specs.Layout.{pad, s4, highest, args_bytes, instr_bytes}
-use Rattle.jv_core.specs.Tree.{Program}
+use Rattle.vm_model.specs.declared.linked.Built.{Built}
 use Rattle.gen_rules.specs.Symbolic.{Operand, Nothing, Number, Constant, Local, Jump, Table, Class, Field, Method}
-use Rattle.gen_symbolic.specs.declared.symbolic.BuiltIn.{BuiltIn}
-use Rattle.gen_symbolic.specs.declared.symbolic.BuiltIn.TheVariants as built
 use Rattle.gen_symbolic.specs.View.{built_in_of}
+use Rattle.gen_symbolic.proofs.BuiltIns.{of_members}
 use Rattle.gen_members.specs.Laid.{size_at}
 use Rattle.gen_members.specs.Sizes.{number_size, local_size, jump_size, table_size, pool_size, sized}
 
@@ -146,14 +145,7 @@ takes place op (Field r) k = ap suc (pool_takes place (form_of op) k)
 takes place op (Method r) k = ap suc (pool_takes place (form_of op) k)
 
 -- each member of a built-in class is a constant
-pub built_in_takes : (p : Program) (b : BuiltIn) (form : Option Form) (place k : ℕ) → sized form place k (built_in_of p b) ≡ pool_size form
-built_in_takes p built.Init form place k = refl
-built_in_takes p built.Out form place k = refl
-built_in_takes p built.Println form place k = refl
-built_in_takes p built.Concat form place k = refl
-built_in_takes p built.Equals form place k = refl
-built_in_takes p built.ValueOfInt form place k = refl
-built_in_takes p built.ValueOfTruth form place k = refl
-built_in_takes p (built.Session call) form place k = refl
+pub built_in_takes : (b : Built) (form : Option Form) (place k : ℕ) → sized form place k (built_in_of b) ≡ pool_size form
+built_in_takes b form place k = of_members (λ o. sized form place k o ≡ pool_size form) (λ r. refl) (λ r. refl) b
 
 pub ruleset sizing = (built_in_takes)

@@ -1,5 +1,6 @@
 -- Instructions with the numbers of their constants, the places at which they start, and how many bytes they take.
 use Rattle.std.specs.Prelude.{ℕ, ◌+◌, pos, List, [], ◌∷◌, length, map, nat_lt, if◌then◌else◌}
+use Rattle.cls_tree.specs.declared.opcodes.TheConstants.{LDC, LDC_W}
 use Rattle.cls_tree.specs.Tree as file
 use Rattle.cls_tree.specs.Layout.{instr_bytes}
 use Rattle.cls_tree.specs.Emitted.{Pooled, ◌>>=◌, give, push_const}
@@ -42,7 +43,7 @@ laid place (i ∷ is) = do
 -- the opcode, and what stands behind it, of an instruction at a place whose constant has this number
 
 abbrev pub final_op : (op : ℕ) → Operand → (number : ℕ) → ℕ
-final_op op (Constant c) k = if nat_lt k 256 then 18 else 19
+final_op op (Constant c) k = if nat_lt k 256 then LDC else LDC_W
 final_op op _ k = op
 
 abbrev pub final_args : (starts : List ℕ) → (here : ℕ) → Operand → (number : ℕ) → file.Args

@@ -10,12 +10,13 @@ ghost use Rattle.gen_members.specs.Constants.{constant_of, field_of_reference, m
 
 use crate::descriptors::{field_descriptor, method_descriptor};
 use crate::names::class_name;
-use crate::session::{session_descriptor, session_name};
+use cls_tree::opcodes::GETSTATIC;
 use gen_pool::{Pool, class_const, field_const, int_const, method_const, text_const};
-use gen_symbolic::{BuiltIn, Operand};
+use gen_symbolic::Operand;
 use jv_core::{Core, CoreField, name_text};
 use mg_text::Memory;
 use std::alloc::Global;
+use vm_model::Built;
 
 /// A field of a class, where there is one.
 #[tactic(auto, using(crate::proofs::Found::found))]
@@ -77,50 +78,15 @@ fn method_constant(
 }
 
 /// The number of a member of a built-in class.
-fn built_in_constant(core: &Core, member: BuiltIn, pool: &mut Pool) -> Result<usize, Memory>
-    ensures made { IfOk result (λ n. IsMade n pool.new (constant_of (built_in_of (tree_of core.now) member) pool.old)) }
+fn built_in_constant(member: Built, pool: &mut Pool) -> Result<usize, Memory>
+    ensures made { IfOk result (λ n. IsMade n pool.new (constant_of (built_in_of member) pool.old)) }
     ensures kept { IsFrontOf pool.old pool.new }
 {
-    match member {
-        BuiltIn::Init => method_const(pool, "java/lang/Object", "<init>", "()V"),
-        BuiltIn::Out => field_const(pool, "java/lang/System", "out", "Ljava/io/PrintStream;"),
-        BuiltIn::Println => method_const(
-            pool,
-            "java/io/PrintStream",
-            "println",
-            "(Ljava/lang/String;)V",
-        ),
-        BuiltIn::Concat => method_const(
-            pool,
-            "java/lang/String",
-            "concat",
-            "(Ljava/lang/String;)Ljava/lang/String;",
-        ),
-        BuiltIn::Equals => method_const(
-            pool,
-            "java/lang/String",
-            "equals",
-            "(Ljava/lang/Object;)Z",
-        ),
-        BuiltIn::ValueOfInt => method_const(
-            pool,
-            "java/lang/String",
-            "valueOf",
-            "(I)Ljava/lang/String;",
-        ),
-        BuiltIn::ValueOfTruth => method_const(
-            pool,
-            "java/lang/String",
-            "valueOf",
-            "(Z)Ljava/lang/String;",
-        ),
-        BuiltIn::Session(call) => method_const(
-            pool,
-            "mungo/lib/Session",
-            session_name(call),
-            session_descriptor(call),
-        ),
+    let named = member.member();
+    if named.op == GETSTATIC {
+        return field_const(pool, named.class, named.name, named.descriptor);
     }
+    method_const(pool, named.class, named.name, named.descriptor)
 }
 
 /// The number of the constant of an instruction, which is appended to the pool where it is new; 0
@@ -147,7 +113,7 @@ pub(crate) fn constant(
             "<init>",
             "()V",
         ),
-        Operand::BuiltIn(member) => built_in_constant(core, *member, pool),
+        Operand::BuiltIn(member) => built_in_constant(*member, pool),
         Operand::Nothing | Operand::Number(_) | Operand::Local(_) | Operand::Jump(_) => Ok(0),
         Operand::Table { .. } => Ok(0),
     }

@@ -7,18 +7,12 @@ ghost use Rattle.gen_rules.specs.Classes.{initialised, all_initialised, construc
 ghost use Rattle.gen_symbolic.specs.View.{instrs_of};
 
 use crate::pushed::{plain, push_constant};
-use gen_symbolic::{BuiltIn, Operand, Symbolic};
+use cls_tree::opcodes::{ALOAD_0, INVOKESPECIAL, PUTFIELD, RETURN};
+use gen_symbolic::{Operand, Symbolic};
 use jv_core::{CoreClass, CoreField};
 use mg_text::{List, Memory};
 use std::alloc::Global;
-
-const ALOAD_0: u8 = 42;
-
-const RETURN: u8 = 177;
-
-const PUTFIELD: u8 = 181;
-
-const INVOKESPECIAL: u8 = 183;
+use vm_model::Built;
 
 /// Sets a field of a class to its written initial value, where it has one.
 fn put_field<'a>(
@@ -74,7 +68,7 @@ pub fn constructor_code<'a>(
     instrs.push(plain(ALOAD_0))?;
     instrs.push(Symbolic {
         op: INVOKESPECIAL,
-        operand: Operand::BuiltIn(BuiltIn::Init),
+        operand: Operand::BuiltIn(Built::Init),
     })?;
     put_fields(&mut instrs, number, &class.fields)?;
     instrs.push(plain(RETURN))?;

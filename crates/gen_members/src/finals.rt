@@ -8,15 +8,12 @@ ghost use Rattle.gen_rules.specs.Assembled.{distance};
 ghost use Rattle.gen_members.specs.Laid.{final_op, final_args, finals};
 
 use crate::laying::Laid;
+use cls_tree::opcodes::{LDC, LDC_W};
 use cls_tree::{Args, Instr};
 use gen_pool::short;
 use gen_symbolic::{Operand, Symbolic};
 use mg_text::{List, Memory};
 use std::alloc::Global;
-
-const LDC: u8 = 18;
-
-const LDC_W: u8 = 19;
 
 /// Places from here on are too far for the distances of a class file.
 const TOO_FAR: usize = 0x7fff_ffff;
@@ -80,6 +77,7 @@ fn distances(
 }
 
 /// What stands behind the opcode of an instruction at a place, where its constant has this number.
+#[tactic(auto, using(crate::proofs::Final::built_ins))]
 fn final_args(
     alloc: Global,
     starts: &[usize],
@@ -107,6 +105,7 @@ fn final_args(
 }
 
 /// The opcode of an instruction, where its constant has this number: `ldc` is `ldc_w` past 255.
+#[tactic(auto, using(crate::proofs::Final::built_ins))]
 fn final_op(instr: &Symbolic<'_>, number: usize) -> u8
     ensures { (p : Program) → result ≡ final_op instr.now.op (operand_of p instr.now.operand) number }
 {

@@ -18,6 +18,7 @@ use gen_pool::{Pool, class_const, short};
 use jv_core::{Core, CoreClass, CoreField, name_text};
 use mg_text::List;
 use std::alloc::Global;
+use vm_model::OBJECT_CLASS;
 
 const PRIVATE: u16 = 2;
 
@@ -46,7 +47,7 @@ pub(crate) fn header(
 {
     let old = pool.len();
     let this_class = class_const(pool, name_text(core, class.name))?;
-    let super_class = class_const(pool, "java/lang/Object")?;
+    let super_class = class_const(pool, OBJECT_CLASS)?;
     judge(alloc, told_at(core, class), 0, 0, pool, old)?;
     Ok((short(this_class)?, short(super_class)?))
 }

@@ -19,7 +19,6 @@ mod laying;
 mod members;
 mod names;
 mod pushed;
-mod session;
 mod sizes;
 mod texts;
 

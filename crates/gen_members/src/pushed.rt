@@ -7,17 +7,10 @@ ghost use Rattle.gen_rules.specs.Symbolic.{plain, push, push_truth};
 ghost use Rattle.gen_rules.specs.Classes.{push_constant};
 ghost use Rattle.gen_symbolic.specs.View.{instr_of};
 
+use cls_tree::opcodes::{ACONST_NULL, BIPUSH, ICONST_0, LDC, SIPUSH};
 use gen_symbolic::{Operand, Symbolic};
 use jv_core::{CoreExpr, CoreExprKind};
 use mg_text::Memory;
-
-const ACONST_NULL: u8 = 1;
-
-const BIPUSH: u8 = 16;
-
-const SIPUSH: u8 = 17;
-
-const LDC: u8 = 18;
 
 /// An instruction without an operand.
 pub(crate) fn plain<'a>(op: u8) -> Symbolic<'a>
@@ -34,7 +27,7 @@ fn push<'a>(number: i32) -> Symbolic<'a>
     ensures { (p : Program) → instr_of p result ≡ push number }
 {
     if number >= -1 && number <= 5 {
-        return plain((number + 3) as u8);
+        return plain((i32::from(ICONST_0) + number) as u8);
     }
     if number >= -128 && number <= 127 {
         return Symbolic {

@@ -9,8 +9,9 @@ use Rattle.jv_core.specs.declared.program.MethodKind.{MethodKind}
 use Rattle.jv_core.specs.declared.program.MethodKind.TheVariants as kinds
 use Rattle.jv_core.specs.Tree.{Expr, Int, Truth, Text, Constant, Field, Class, Method, Program}
 use Rattle.jv_core.specs.Lookup.{text_at}
+use Rattle.vm_model.specs.BuiltIns.{object_class}
 use Rattle.gen_rules.specs.Symbolic.{Instr, push, push_truth, push_text, aconst_null, aload, invokespecial, putfield, return}
-use Rattle.gen_rules.specs.Members.{object_class, init_name, init_descriptor}
+use Rattle.gen_rules.specs.Members.{init_name, init_descriptor}
 use Rattle.gen_rules.specs.Members.{init_of, field_descriptor, field_reference, method_descriptor}
 use Rattle.gen_rules.specs.Templates.{IsCode}
 use Rattle.gen_rules.specs.Frames.{max_stack, max_locals}

@@ -5,7 +5,6 @@ use Rattle.std.specs.List.{list_all}
 use Rattle.std.specs.Str.{bytes_eq}
 use Rattle.jv_tree.specs.declared.tree.Op.TheVariants as ops
 use Rattle.jv_core.specs.declared.tree.SessionCall.{SessionCall}
-use Rattle.jv_core.specs.declared.tree.SessionCall.TheVariants as calls
 use Rattle.jv_core.specs.declared.program.CoreType.{CoreType}
 use Rattle.jv_core.specs.Tree.{Expr, Null, Method, Program}
 use Rattle.jv_core.specs.Types.{Has}
@@ -17,10 +16,11 @@ use Rattle.cls_tree.specs.Pool.{Reference}
 use Rattle.vm_model.specs.declared.linked.Built.{Built as BuiltIn}
 use Rattle.vm_model.specs.declared.linked.Built.TheVariants as built
 use Rattle.vm_model.specs.Links.{built_in, built_members}
+use Rattle.vm_model.specs.BuiltIns.{object_class}
 use Rattle.gen_rules.specs.Symbolic.{Operand, Nothing, Number, Constant, Local, Jump, Table, Class, Field, Method as MethodOf, Instr}
 use Rattle.gen_rules.specs.Symbolic as instr
-use Rattle.gen_rules.specs.Members.{init_of, object_class, out_reference, println_reference, concat_reference, equals_reference}
-use Rattle.gen_rules.specs.Members.{value_of_int, value_of_truth, session_reference}
+use Rattle.gen_rules.specs.Members.{init_of, out_reference, println_reference, concat_reference, equals_reference}
+use Rattle.gen_rules.specs.Members.{value_of_int, value_of_truth, session_member, session_reference}
 use Rattle.gen_rules.specs.Typed.{type_of}
 use Rattle.gen_rules.specs.Templates.{IsCode}
 use Rattle.gen_rules.specs.Classes.{AreClasses}
@@ -148,19 +148,6 @@ words =
     ∷ word (instr.invokestatic some_member) (codes "invokestatic")
     ∷ word (instr.new []) (codes "new")
     ∷ []
-
--- the member of a built-in class that a method of Session is
-abbrev pub session_member : SessionCall → BuiltIn
-session_member calls.Send = built.Send
-session_member calls.SendInt = built.SendInt
-session_member calls.SendBoolean = built.SendTruth
-session_member calls.SendString = built.SendText
-session_member calls.Look = built.Look
-session_member calls.Take = built.Take
-session_member calls.TakeInt = built.TakeInt
-session_member calls.TakeBoolean = built.TakeTruth
-session_member calls.TakeString = built.TakeText
-session_member calls.Refuse = built.Refuse
 
 abbrev pub IsBuiltIn : Instr → Reference → BuiltIn → Type 0
 IsBuiltIn i r b = built_in i.op r built_members ≡ Some b

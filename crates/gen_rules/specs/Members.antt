@@ -1,9 +1,12 @@
 -- The names and descriptors under which a program's classes, fields and methods, and those that are built in, stand in class files.
-use Rattle.std.specs.Prelude.{ℕ, List, [], map, Option, Some, None, slice_get, option_and_then, codes, if◌then◌else◌}
+use Rattle.std.specs.Prelude.{ℕ, List, [], map, Option, Some, None, slice_get, option_and_then, if◌then◌else◌}
 use Rattle.mg_text.specs.Call.{Name}
 use Rattle.cls_tree.specs.Pool.{Reference}
 use Rattle.vm_model.specs.Types.{FieldType, Named, type_text, signature_text, main_signature}
 use Rattle.vm_model.specs.Types as descriptors
+use Rattle.vm_model.specs.declared.linked.Built.{Built}
+use Rattle.vm_model.specs.declared.linked.Built.TheVariants as built
+use Rattle.vm_model.specs.BuiltIns.{string_class, session_class, built_member, reference_of}
 use Rattle.jv_core.specs.declared.tree.SessionCall.{SessionCall}
 use Rattle.jv_core.specs.declared.tree.SessionCall.TheVariants as calls
 use Rattle.jv_core.specs.declared.program.CoreType.{CoreType}
@@ -11,21 +14,6 @@ use Rattle.jv_core.specs.declared.program.CoreType.TheVariants as types
 use Rattle.jv_core.specs.Tree.{Field, Method, Program}
 use Rattle.jv_core.specs.Lookup.{text_at, class_text, param_types, is_main}
 use Rattle.jv_core.specs.Types.{session_params, session_result}
-
-abbrev pub object_class : Name
-object_class = codes "java/lang/Object"
-
-abbrev pub string_class : Name
-string_class = codes "java/lang/String"
-
-abbrev pub system_class : Name
-system_class = codes "java/lang/System"
-
-abbrev pub print_stream_class : Name
-print_stream_class = codes "java/io/PrintStream"
-
-abbrev pub session_class : Name
-session_class = codes "mungo/lib/Session"
 
 abbrev pub or_empty : Option Name → Name
 or_empty None = []
@@ -76,11 +64,12 @@ method_member p (Some m) = member (class_name p m.class) (text_at p m.name) (met
 abbrev pub method_reference : Program → (method : ℕ) → Reference
 method_reference p n = method_member p (slice_get p.methods n)
 
+-- constructors are named as that of `Object` is
 abbrev pub init_name : Name
-init_name = codes "<init>"
+init_name = (built_member built.Init).name
 
 abbrev pub init_descriptor : Name
-init_descriptor = codes "()V"
+init_descriptor = (built_member built.Init).descriptor
 
 -- the constructor of a class
 abbrev pub init_of : Name → Reference
@@ -89,34 +78,39 @@ init_of class = member class init_name init_descriptor
 -- The members of built-in classes.
 
 abbrev pub out_reference : Reference
-out_reference = member system_class (codes "out") (codes "Ljava/io/PrintStream;")
+out_reference = reference_of built.Out
 
 abbrev pub println_reference : Reference
-println_reference = member print_stream_class (codes "println") (codes "(Ljava/lang/String;)V")
+println_reference = reference_of built.Println
 
 abbrev pub concat_reference : Reference
-concat_reference = member string_class (codes "concat") (codes "(Ljava/lang/String;)Ljava/lang/String;")
+concat_reference = reference_of built.Concat
 
 abbrev pub equals_reference : Reference
-equals_reference = member string_class (codes "equals") (codes "(Ljava/lang/Object;)Z")
+equals_reference = reference_of built.Equals
 
 abbrev pub value_of_int : Reference
-value_of_int = member string_class (codes "valueOf") (codes "(I)Ljava/lang/String;")
+value_of_int = reference_of built.ValueOfInt
 
 abbrev pub value_of_truth : Reference
-value_of_truth = member string_class (codes "valueOf") (codes "(Z)Ljava/lang/String;")
+value_of_truth = reference_of built.ValueOfTruth
+
+-- the member that a method of `Session` is
+abbrev pub session_member : SessionCall → Built
+session_member calls.Send = built.Send
+session_member calls.SendInt = built.SendInt
+session_member calls.SendBoolean = built.SendTruth
+session_member calls.SendString = built.SendText
+session_member calls.Look = built.Look
+session_member calls.Take = built.Take
+session_member calls.TakeInt = built.TakeInt
+session_member calls.TakeBoolean = built.TakeTruth
+session_member calls.TakeString = built.TakeText
+session_member calls.Refuse = built.Refuse
 
 abbrev pub session_name : SessionCall → Name
-session_name calls.Send = codes "send"
-session_name calls.SendInt = codes "sendInt"
-session_name calls.SendBoolean = codes "sendBoolean"
-session_name calls.SendString = codes "sendString"
-session_name calls.Look = codes "look"
-session_name calls.Take = codes "take"
-session_name calls.TakeInt = codes "takeInt"
-session_name calls.TakeBoolean = codes "takeBoolean"
-session_name calls.TakeString = codes "takeString"
-session_name calls.Refuse = codes "refuse"
+session_name c = (built_member (session_member c)).name
 
+-- its descriptor is that of its types
 abbrev pub session_reference : Program → SessionCall → Reference
 session_reference p c = member session_class (session_name c) (descriptor_of p (session_params c) (session_result c))

@@ -6,6 +6,7 @@ use Rattle.jv_tree.specs.declared.tree.Op.{Op}
 use Rattle.jv_tree.specs.declared.tree.Op.TheVariants as ops
 use Rattle.jv_core.specs.declared.program.CoreType.{CoreType}
 use Rattle.jv_core.specs.declared.program.CoreType.TheVariants as types
+use Rattle.cls_tree.specs.declared.opcodes.TheConstants as opcodes
 use Rattle.cls_tree.specs.Pool.{Pushed, Int, Letters, Reference}
 
 -- what an instruction works with
@@ -37,12 +38,12 @@ jump op target = record { op = op; operand = Jump target }
 -- Constants.
 
 abbrev pub aconst_null : Instr
-aconst_null = plain 1
+aconst_null = plain opcodes.ACONST_NULL
 
 -- the opcode that pushes an int from -1 to 5
 abbrev pub iconst : ℤ → ℕ
-iconst (pos n) = 3 + n
-iconst (negsuc n) = 2
+iconst (pos n) = opcodes.ICONST_0 + n
+iconst (negsuc n) = opcodes.ICONST_M1
 
 abbrev pub lies_within : (low high n : ℤ) → Bool
 lies_within low high n = int_le low n && int_le n high
@@ -51,9 +52,9 @@ lies_within low high n = int_le low n && int_le n high
 abbrev pub push : ℤ → Instr
 push n =
     if lies_within (negsuc 0) (pos 5) n then plain (iconst n)
-    else if lies_within (negsuc 127) (pos 127) n then record { op = 16; operand = Number n }
-    else if lies_within (negsuc 32767) (pos 32767) n then record { op = 17; operand = Number n }
-    else record { op = 18; operand = Constant (Int n) }
+    else if lies_within (negsuc 127) (pos 127) n then record { op = opcodes.BIPUSH; operand = Number n }
+    else if lies_within (negsuc 32767) (pos 32767) n then record { op = opcodes.SIPUSH; operand = Number n }
+    else record { op = opcodes.LDC; operand = Constant (Int n) }
 
 -- a truth value is 1 or 0
 abbrev pub push_truth : Bool → Instr
@@ -61,7 +62,7 @@ push_truth true = push (pos 1)
 push_truth false = push (pos 0)
 
 abbrev pub push_text : List ℕ → Instr
-push_text text = record { op = 18; operand = Constant (Letters text) }
+push_text text = record { op = opcodes.LDC; operand = Constant (Letters text) }
 
 -- Locals. Those of 0 to 3 have short forms.
 
@@ -69,16 +70,16 @@ abbrev pub with_local : (short long local : ℕ) → Instr
 with_local short long local = if nat_le local 3 then plain (short + local) else record { op = long; operand = Local local }
 
 abbrev pub iload : ℕ → Instr
-iload local = with_local 26 21 local
+iload local = with_local opcodes.ILOAD_0 opcodes.ILOAD local
 
 abbrev pub aload : ℕ → Instr
-aload local = with_local 42 25 local
+aload local = with_local opcodes.ALOAD_0 opcodes.ALOAD local
 
 abbrev pub istore : ℕ → Instr
-istore local = with_local 59 54 local
+istore local = with_local opcodes.ISTORE_0 opcodes.ISTORE local
 
 abbrev pub astore : ℕ → Instr
-astore local = with_local 75 58 local
+astore local = with_local opcodes.ASTORE_0 opcodes.ASTORE local
 
 -- Strings and objects are references; ints, truth values and the constants of enums are ints.
 abbrev pub is_reference : CoreType → Bool
@@ -95,52 +96,52 @@ store type local = if is_reference type then astore local else istore local
 -- Operands.
 
 abbrev pub pop : Instr
-pop = plain 87
+pop = plain opcodes.POP
 
 abbrev pub dup : Instr
-dup = plain 89
+dup = plain opcodes.DUP
 
 abbrev pub iadd : Instr
-iadd = plain 96
+iadd = plain opcodes.IADD
 
 abbrev pub isub : Instr
-isub = plain 100
+isub = plain opcodes.ISUB
 
 abbrev pub imul : Instr
-imul = plain 104
+imul = plain opcodes.IMUL
 
 abbrev pub idiv : Instr
-idiv = plain 108
+idiv = plain opcodes.IDIV
 
 abbrev pub irem : Instr
-irem = plain 112
+irem = plain opcodes.IREM
 
 abbrev pub ineg : Instr
-ineg = plain 116
+ineg = plain opcodes.INEG
 
 -- Jumps.
 
 abbrev pub ifeq : (target : ℕ) → Instr
-ifeq target = jump 153 target
+ifeq target = jump opcodes.IFEQ target
 
 abbrev pub ifne : (target : ℕ) → Instr
-ifne target = jump 154 target
+ifne target = jump opcodes.IFNE target
 
 abbrev pub ifnull : (target : ℕ) → Instr
-ifnull target = jump 198 target
+ifnull target = jump opcodes.IFNULL target
 
 abbrev pub ifnonnull : (target : ℕ) → Instr
-ifnonnull target = jump 199 target
+ifnonnull target = jump opcodes.IFNONNULL target
 
 -- the jump where two ints compare so
 abbrev pub if_icmp : Op → (target : ℕ) → Instr
-if_icmp ops.Eq target = jump 159 target
-if_icmp ops.Ne target = jump 160 target
-if_icmp ops.Lt target = jump 161 target
-if_icmp ops.Ge target = jump 162 target
-if_icmp ops.Gt target = jump 163 target
-if_icmp ops.Le target = jump 164 target
-if_icmp _ target = jump 159 target
+if_icmp ops.Eq target = jump opcodes.IF_ICMPEQ target
+if_icmp ops.Ne target = jump opcodes.IF_ICMPNE target
+if_icmp ops.Lt target = jump opcodes.IF_ICMPLT target
+if_icmp ops.Ge target = jump opcodes.IF_ICMPGE target
+if_icmp ops.Gt target = jump opcodes.IF_ICMPGT target
+if_icmp ops.Le target = jump opcodes.IF_ICMPLE target
+if_icmp _ target = jump opcodes.IF_ICMPEQ target
 
 -- the comparison that holds where the other doesn't
 abbrev pub opposite : Op → Op
@@ -153,21 +154,21 @@ opposite ops.Le = ops.Gt
 opposite o = o
 
 abbrev pub goto : (target : ℕ) → Instr
-goto target = jump 167 target
+goto target = jump opcodes.GOTO target
 
 abbrev pub tableswitch : (default : ℕ) → (targets : List ℕ) → Instr
-tableswitch default targets = record { op = 170; operand = Table default targets }
+tableswitch default targets = record { op = opcodes.TABLESWITCH; operand = Table default targets }
 
 -- Returns.
 
 abbrev pub ireturn : Instr
-ireturn = plain 172
+ireturn = plain opcodes.IRETURN
 
 abbrev pub areturn : Instr
-areturn = plain 176
+areturn = plain opcodes.ARETURN
 
 abbrev pub return : Instr
-return = plain 177
+return = plain opcodes.RETURN
 
 -- the return of a value of this type
 abbrev pub return_value : CoreType → Instr
@@ -176,22 +177,22 @@ return_value type = if is_reference type then areturn else ireturn
 -- Classes and members.
 
 abbrev pub getstatic : Reference → Instr
-getstatic r = record { op = 178; operand = Field r }
+getstatic r = record { op = opcodes.GETSTATIC; operand = Field r }
 
 abbrev pub getfield : Reference → Instr
-getfield r = record { op = 180; operand = Field r }
+getfield r = record { op = opcodes.GETFIELD; operand = Field r }
 
 abbrev pub putfield : Reference → Instr
-putfield r = record { op = 181; operand = Field r }
+putfield r = record { op = opcodes.PUTFIELD; operand = Field r }
 
 abbrev pub invokevirtual : Reference → Instr
-invokevirtual r = record { op = 182; operand = Method r }
+invokevirtual r = record { op = opcodes.INVOKEVIRTUAL; operand = Method r }
 
 abbrev pub invokespecial : Reference → Instr
-invokespecial r = record { op = 183; operand = Method r }
+invokespecial r = record { op = opcodes.INVOKESPECIAL; operand = Method r }
 
 abbrev pub invokestatic : Reference → Instr
-invokestatic r = record { op = 184; operand = Method r }
+invokestatic r = record { op = opcodes.INVOKESTATIC; operand = Method r }
 
 abbrev pub new : Name → Instr
-new class = record { op = 187; operand = Class class }
+new class = record { op = opcodes.NEW; operand = Class class }

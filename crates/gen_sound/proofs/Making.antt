@@ -30,8 +30,9 @@ use Rattle.vm_model.specs.Tests as tests
 use Rattle.vm_model.specs.Tests.{Any, Typed, misfit, object_name, call_takes, descriptor_in, is_sort, max_locals_in, max_stack_in}
 use Rattle.vm_model.specs.Tests.{misfit_type}
 use Rattle.vm_model.specs.Step.{step, blank, blank_of, writes_object}
+use Rattle.vm_model.specs.BuiltIns.{object_class}
 use Rattle.gen_rules.specs.Symbolic.{Instr, new, dup, invokespecial, return, push, push_text, aconst_null, aload, putfield}
-use Rattle.gen_rules.specs.Members.{class_name, type_in, field_descriptor, init_of, method_descriptor, field_reference, object_class}
+use Rattle.gen_rules.specs.Members.{class_name, type_in, field_descriptor, init_of, method_descriptor, field_reference}
 use Rattle.gen_rules.specs.Classes.{constructor_code, push_constant, initialised, all_initialised, constructor_stack}
 use Rattle.gen_rules.specs.Linked.{declared_field}
 use Rattle.gen_rules.specs.Frames.{max_stack, depth_of_all}

@@ -7,3 +7,4 @@ mod Seen
 mod Stating
 mod Whole
 mod Written
+pub mod BuiltIns

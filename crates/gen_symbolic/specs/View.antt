@@ -1,25 +1,19 @@
 -- The instructions that the program's values say, in a program.
-use Rattle.std.specs.Prelude.{List, map}
+use Rattle.std.specs.Prelude.{List, map, if◌then◌else◌, ◌==◌}
+use Rattle.cls_tree.specs.declared.opcodes.TheConstants.{GETSTATIC}
 use Rattle.cls_tree.specs.Pool.{Int, Letters}
 use Rattle.jv_core.specs.Tree.{Program}
+use Rattle.vm_model.specs.declared.linked.Built.{Built}
+use Rattle.vm_model.specs.BuiltIns.{built_member, reference_of}
 use Rattle.gen_rules.specs.Symbolic.{Operand, Nothing, Number, Constant, Local, Jump, Table, Class, Field, Method, Instr}
-use Rattle.gen_rules.specs.Members.{class_name, field_reference, method_reference, init_of, session_reference, object_class}
-use Rattle.gen_rules.specs.Members.{out_reference, println_reference, concat_reference, equals_reference, value_of_int, value_of_truth}
-use Rattle.gen_symbolic.specs.declared.symbolic.BuiltIn.{BuiltIn}
-use Rattle.gen_symbolic.specs.declared.symbolic.BuiltIn.TheVariants as built
+use Rattle.gen_rules.specs.Members.{class_name, field_reference, method_reference, init_of}
 use Rattle.gen_symbolic.specs.declared.symbolic.Operand.{Operand as KeptOperand}
 use Rattle.gen_symbolic.specs.declared.symbolic.Operand.TheVariants as kept
 use Rattle.gen_symbolic.specs.declared.symbolic.Symbolic.{Symbolic}
 
-abbrev pub built_in_of : Program → BuiltIn → Operand
-built_in_of p built.Init = Method (init_of object_class)
-built_in_of p built.Out = Field out_reference
-built_in_of p built.Println = Method println_reference
-built_in_of p built.Concat = Method concat_reference
-built_in_of p built.Equals = Method equals_reference
-built_in_of p built.ValueOfInt = Method value_of_int
-built_in_of p built.ValueOfTruth = Method value_of_truth
-built_in_of p (built.Session call) = Method (session_reference p call)
+-- a member of a built-in class: a field, where it is read
+abbrev pub built_in_of : Built → Operand
+built_in_of b = if (built_member b).op == GETSTATIC then Field (reference_of b) else Method (reference_of b)
 
 abbrev pub operand_of : Program → KeptOperand → Operand
 operand_of p kept.Nothing = Nothing
@@ -33,7 +27,7 @@ operand_of p (kept.Class c) = Class (class_name p c)
 operand_of p (kept.Field c f) = Field (field_reference p c f)
 operand_of p (kept.Method n) = Method (method_reference p n)
 operand_of p (kept.Constructor c) = Method (init_of (class_name p c))
-operand_of p (kept.BuiltIn b) = built_in_of p b
+operand_of p (kept.BuiltIn b) = built_in_of b
 
 abbrev pub instr_of : Program → Symbolic → Instr
 instr_of p i = record { op = i.op; operand = operand_of p i.operand }

@@ -9,9 +9,9 @@ ghost use Rattle.gen_symbolic.specs.inner.Drafting.{emit, value, tested_binary, 
 ghost use Rattle.gen_symbolic.specs.inner.Drafting.{compare_op, with_null, comparison, past};
 
 use crate::coder::{Coder, Draft};
-use crate::emitted::{GOTO, IFEQ, IFNE, IFNONNULL, IFNULL};
 use crate::locals::Locals;
 use crate::typed::is_null;
+use cls_tree::opcodes::{GOTO, IF_ICMPEQ, IF_ICMPGE, IF_ICMPGT, IF_ICMPLE, IF_ICMPLT, IF_ICMPNE, IFEQ, IFNE, IFNONNULL, IFNULL};
 use jv_core::{CoreExpr, CoreExprKind, CoreOp};
 use mg_text::Memory;
 
@@ -47,25 +47,25 @@ fn compare_op(op: CoreOp, holds: bool) -> u8
 {
     if holds {
         return match op {
-            CoreOp::Eq => 159,
-            CoreOp::Ne => 160,
-            CoreOp::Lt => 161,
-            CoreOp::Ge => 162,
-            CoreOp::Gt => 163,
-            CoreOp::Le => 164,
-            CoreOp::Or | CoreOp::And | CoreOp::Add | CoreOp::Sub => 159,
-            CoreOp::Mul | CoreOp::Div | CoreOp::Rem => 159,
+            CoreOp::Eq => IF_ICMPEQ,
+            CoreOp::Ne => IF_ICMPNE,
+            CoreOp::Lt => IF_ICMPLT,
+            CoreOp::Ge => IF_ICMPGE,
+            CoreOp::Gt => IF_ICMPGT,
+            CoreOp::Le => IF_ICMPLE,
+            CoreOp::Or | CoreOp::And | CoreOp::Add | CoreOp::Sub => IF_ICMPEQ,
+            CoreOp::Mul | CoreOp::Div | CoreOp::Rem => IF_ICMPEQ,
         };
     }
     match op {
-        CoreOp::Eq => 160,
-        CoreOp::Ne => 159,
-        CoreOp::Lt => 162,
-        CoreOp::Ge => 161,
-        CoreOp::Gt => 164,
-        CoreOp::Le => 163,
-        CoreOp::Or | CoreOp::And | CoreOp::Add | CoreOp::Sub => 159,
-        CoreOp::Mul | CoreOp::Div | CoreOp::Rem => 159,
+        CoreOp::Eq => IF_ICMPNE,
+        CoreOp::Ne => IF_ICMPEQ,
+        CoreOp::Lt => IF_ICMPGE,
+        CoreOp::Ge => IF_ICMPLT,
+        CoreOp::Gt => IF_ICMPLE,
+        CoreOp::Le => IF_ICMPGT,
+        CoreOp::Or | CoreOp::And | CoreOp::Add | CoreOp::Sub => IF_ICMPEQ,
+        CoreOp::Mul | CoreOp::Div | CoreOp::Rem => IF_ICMPEQ,
     }
 }
 

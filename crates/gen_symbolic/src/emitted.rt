@@ -1,4 +1,4 @@
-//! Instructions for ints, texts and locals, and the names of opcodes.
+//! Instructions for ints, texts, locals, fields and calls.
 
 ghost use Rattle.std.specs.Prelude.{◌≡◌, ◌≤◌, OnOk, pos};
 ghost use Rattle.gen_rules.specs.Symbolic.{push, push_truth, push_text, load, store, aload, is_reference, return_value, with_local};
@@ -9,83 +9,11 @@ ghost use Rattle.gen_symbolic.specs.inner.Drafting.{emit, variable, store_in, te
 
 use crate::coder::{Coder, Draft};
 use crate::locals::Locals;
-use crate::symbolic::{BuiltIn, Operand};
+use crate::symbolic::Operand;
+use cls_tree::opcodes::{ALOAD, ALOAD_0, ARETURN, ASTORE, ASTORE_0, BIPUSH, GETFIELD, ICONST_0, ILOAD, ILOAD_0, INVOKESTATIC, IRETURN, ISTORE, ISTORE_0, LDC, POP, SIPUSH};
 use jv_core::{CoreType, Var};
 use mg_text::{Memory, Text};
-
-pub(crate) const ACONST_NULL: u8 = 1;
-
-const ICONST_0: u8 = 3;
-
-const BIPUSH: u8 = 16;
-
-const SIPUSH: u8 = 17;
-
-const LDC: u8 = 18;
-
-const ILOAD: u8 = 21;
-
-const ALOAD: u8 = 25;
-
-const ILOAD_0: u8 = 26;
-
-const ALOAD_0: u8 = 42;
-
-const ISTORE: u8 = 54;
-
-const ASTORE: u8 = 58;
-
-const ISTORE_0: u8 = 59;
-
-const ASTORE_0: u8 = 75;
-
-pub(crate) const POP: u8 = 87;
-
-pub(crate) const DUP: u8 = 89;
-
-pub(crate) const IADD: u8 = 96;
-
-pub(crate) const ISUB: u8 = 100;
-
-pub(crate) const IMUL: u8 = 104;
-
-pub(crate) const IDIV: u8 = 108;
-
-pub(crate) const IREM: u8 = 112;
-
-pub(crate) const INEG: u8 = 116;
-
-pub(crate) const IFEQ: u8 = 153;
-
-pub(crate) const IFNE: u8 = 154;
-
-pub(crate) const IFNULL: u8 = 198;
-
-pub(crate) const IFNONNULL: u8 = 199;
-
-pub(crate) const GOTO: u8 = 167;
-
-pub(crate) const TABLESWITCH: u8 = 170;
-
-const IRETURN: u8 = 172;
-
-const ARETURN: u8 = 176;
-
-pub(crate) const RETURN: u8 = 177;
-
-pub(crate) const GETSTATIC: u8 = 178;
-
-pub(crate) const GETFIELD: u8 = 180;
-
-pub(crate) const PUTFIELD: u8 = 181;
-
-pub(crate) const INVOKEVIRTUAL: u8 = 182;
-
-pub(crate) const INVOKESPECIAL: u8 = 183;
-
-pub(crate) const INVOKESTATIC: u8 = 184;
-
-pub(crate) const NEW: u8 = 187;
+use vm_model::Built;
 
 /// Whether values of a type are references.
 pub(crate) fn is_reference(ty: CoreType) -> bool
@@ -268,9 +196,9 @@ impl<'a> Coder<'a> {
             return Ok(());
         };
         match ty {
-            CoreType::Int => self.put(draft, INVOKESTATIC, Operand::BuiltIn(BuiltIn::ValueOfInt)),
+            CoreType::Int => self.put(draft, INVOKESTATIC, Operand::BuiltIn(Built::ValueOfInt)),
             CoreType::Boolean => {
-                self.put(draft, INVOKESTATIC, Operand::BuiltIn(BuiltIn::ValueOfTruth))
+                self.put(draft, INVOKESTATIC, Operand::BuiltIn(Built::ValueOfTruth))
             }
             CoreType::Void => Ok(()),
             CoreType::Text => Ok(()),

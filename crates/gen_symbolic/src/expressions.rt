@@ -9,15 +9,13 @@ ghost use Rattle.gen_symbolic.specs.inner.Drafting.{emit, value, arguments, trut
 ghost use Rattle.gen_symbolic.specs.inner.Drafting.{called_on, called_own, created, two_values, forms, jump};
 
 use crate::coder::{Coder, Draft};
-use crate::emitted::{
-    ACONST_NULL, DUP, GOTO, IADD, IDIV, IMUL, INEG, INVOKESPECIAL, INVOKESTATIC, INVOKEVIRTUAL,
-    IREM, ISUB, NEW,
-};
 use crate::locals::Locals;
-use crate::symbolic::{BuiltIn, Operand};
+use crate::symbolic::{Operand, session_member};
 use crate::typed::joins;
+use cls_tree::opcodes::{ACONST_NULL, DUP, GOTO, IADD, IDIV, IMUL, INEG, INVOKESPECIAL, INVOKESTATIC, INVOKEVIRTUAL, IREM, ISUB, NEW};
 use jv_core::{CoreExpr, CoreExprKind, CoreOp, Var};
 use mg_text::Memory;
+use vm_model::Built;
 
 impl<'a> Coder<'a> {
     /// An expression, whose value is then on top.
@@ -59,13 +57,13 @@ impl<'a> Coder<'a> {
                 self.call(draft, locals, args.as_slice(), Operand::Method(*method))
             }
             CoreExprKind::Equals(left, right) => {
-                self.call_text(draft, locals, left, right, BuiltIn::Equals)
+                self.call_text(draft, locals, left, right, Built::Equals)
             }
             CoreExprKind::Concat(left, right) => {
-                self.call_text(draft, locals, left, right, BuiltIn::Concat)
+                self.call_text(draft, locals, left, right, Built::Concat)
             }
             CoreExprKind::Session { call, args } => {
-                let called = Operand::BuiltIn(BuiltIn::Session(*call));
+                let called = Operand::BuiltIn(session_member(*call));
                 self.call(draft, locals, args.as_slice(), called)
             }
             CoreExprKind::New(class) => self.put_new(draft, *class),
@@ -140,12 +138,12 @@ impl<'a> Coder<'a> {
         locals: &Locals,
         left: &'a CoreExpr,
         right: &'a CoreExpr,
-        called: BuiltIn,
+        called: Built,
     ) -> Result<(), Memory>
         ensures { OnOk result (draft_in self.now draft.new
             ≡ two_values (forms (program_in self.now) (method_in self.now) locals.now (expr_of left.now))
             (forms (program_in self.now) (method_in self.now) locals.now (expr_of right.now))
-            (record { op = 182; operand = built_in_of (program_in self.now) called }) (draft_in self.now draft.old)) }
+            (record { op = INVOKEVIRTUAL; operand = built_in_of called }) (draft_in self.now draft.old)) }
     {
         self.two_values(draft, locals, left, right)?;
         self.put(draft, INVOKEVIRTUAL, Operand::BuiltIn(called))
@@ -172,7 +170,7 @@ impl<'a> Coder<'a> {
         self.put_text_of(draft, left_type)?;
         self.value(draft, locals, right)?;
         self.put_text_of(draft, right_type)?;
-        self.put(draft, INVOKEVIRTUAL, Operand::BuiltIn(BuiltIn::Concat))
+        self.put(draft, INVOKEVIRTUAL, Operand::BuiltIn(Built::Concat))
     }
 
     // An expression with two operands.
@@ -283,7 +281,7 @@ impl<'a> Coder<'a> {
         called: Operand<'a>,
     ) -> Result<(), Memory>
         ensures { OnOk result (draft_in self.now draft.new
-            ≡ emit (record { op = 184; operand = operand_of (program_in self.now) called.entry })
+            ≡ emit (record { op = INVOKESTATIC; operand = operand_of (program_in self.now) called.entry })
             (arguments (program_in self.now) (method_in self.now) locals.now (exprs_of (map expr_of args.now))
             (draft_in self.now draft.old))) }
     {

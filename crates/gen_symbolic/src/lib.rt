@@ -18,4 +18,4 @@ mod symbolic;
 mod typed;
 
 pub use method::{MethodCode, method_code};
-pub use symbolic::{BuiltIn, Operand, Symbolic};
+pub use symbolic::{Operand, Symbolic};

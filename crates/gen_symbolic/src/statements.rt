@@ -9,12 +9,14 @@ ghost use Rattle.gen_symbolic.specs.inner.Drafting.{if_true, if_else, while_true
 
 use crate::around::Around;
 use crate::coder::{Coder, Draft};
-use crate::emitted::{GETSTATIC, GOTO, INVOKEVIRTUAL, PUTFIELD, RETURN, return_of};
+use crate::emitted::return_of;
 use crate::locals::Locals;
 use crate::switches::next_label;
-use crate::symbolic::{BuiltIn, Operand};
+use crate::symbolic::Operand;
+use cls_tree::opcodes::{GETSTATIC, GOTO, INVOKEVIRTUAL, PUTFIELD, RETURN};
 use jv_core::{CoreExpr, CoreGroup, CoreStmt, CoreStmtKind, Var};
 use mg_text::Memory;
+use vm_model::Built;
 
 // What a declaration declares is in scope.
 #[tactic(auto, using(crate::proofs::Seen::seen))]
@@ -178,10 +180,10 @@ impl<'a> Coder<'a> {
         ensures { OnOk result (draft_in self.now draft.new ≡ printed (program_in self.now) (method_in self.now) locals.now
             (expr_of value.now) (draft_in self.now draft.old)) }
     {
-        self.put(draft, GETSTATIC, Operand::BuiltIn(BuiltIn::Out))?;
+        self.put(draft, GETSTATIC, Operand::BuiltIn(Built::Out))?;
         self.value(draft, locals, value)?;
         self.put_text_of(draft, self.type_of(value))?;
-        self.put(draft, INVOKEVIRTUAL, Operand::BuiltIn(BuiltIn::Println))
+        self.put(draft, INVOKEVIRTUAL, Operand::BuiltIn(Built::Println))
     }
 
     // A value that is dropped.

@@ -9,8 +9,8 @@ ghost use Rattle.gen_symbolic.specs.inner.Held.{draft_in, program_in, method_in}
 ghost use Rattle.gen_symbolic.specs.inner.Drafting.{groups, table, wanted, target_by};
 
 use crate::coder::{Coder, Draft};
-use crate::emitted::TABLESWITCH;
 use crate::symbolic::Operand;
+use cls_tree::opcodes::TABLESWITCH;
 use jv_core::CoreGroup;
 use mg_text::{List, Memory};
 

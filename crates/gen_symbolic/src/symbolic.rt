@@ -1,29 +1,15 @@
 //! Instructions before they are laid out in a class file.
 //! Classes, fields and methods stand in them by their numbers in the program, and jumps lead to instructions by their numbers in the code.
 
+ghost use Rattle.std.specs.Prelude.{◌≡◌};
+ghost use Rattle.jv_core.specs.Tree.{Program};
+ghost use Rattle.gen_rules.specs.Symbolic.{Method};
+ghost use Rattle.gen_rules.specs.Members.{session_reference};
+ghost use Rattle.gen_symbolic.specs.View.{built_in_of};
+
 use jv_core::SessionCall;
 use mg_text::{List, Text};
-
-/// A member of the built-in classes.
-#[derive(Clone, Copy, Debug, PartialEq, Eq)]
-pub enum BuiltIn {
-    /// The constructor of `java/lang/Object`.
-    Init,
-    /// The field `System.out`.
-    Out,
-    /// `PrintStream.println(String)`.
-    Println,
-    /// `String.concat(String)`.
-    Concat,
-    /// `String.equals(Object)`.
-    Equals,
-    /// `String.valueOf(int)`.
-    ValueOfInt,
-    /// `String.valueOf(boolean)`.
-    ValueOfTruth,
-    /// A method of `Session`.
-    Session(SessionCall),
-}
+use vm_model::Built;
 
 /// What an instruction works with.
 #[derive(Debug, Drop)]
@@ -49,8 +35,8 @@ pub enum Operand<'a> {
     Method(u32),
     /// The constructor of the class of this number.
     Constructor(u32),
-    /// A member of a built-in class: `Out` is a field, and the others are methods.
-    BuiltIn(BuiltIn),
+    /// A member of a built-in class.
+    BuiltIn(Built),
 }
 
 /// An instruction: its opcode, and what it works with. A constant of its own has the opcode of `ldc`.
@@ -58,4 +44,22 @@ pub enum Operand<'a> {
 pub struct Symbolic<'a> {
     pub op: u8,
     pub operand: Operand<'a>,
+}
+
+/// The member that a method of `Session` is.
+pub(crate) fn session_member(call: SessionCall) -> Built
+    ensures { (p : Program) → built_in_of result ≡ Method (session_reference p call) }
+{
+    match call {
+        SessionCall::Send => Built::Send,
+        SessionCall::SendInt => Built::SendInt,
+        SessionCall::SendBoolean => Built::SendTruth,
+        SessionCall::SendString => Built::SendText,
+        SessionCall::Look => Built::Look,
+        SessionCall::Take => Built::Take,
+        SessionCall::TakeInt => Built::TakeInt,
+        SessionCall::TakeBoolean => Built::TakeTruth,
+        SessionCall::TakeString => Built::TakeText,
+        SessionCall::Refuse => Built::Refuse,
+    }
 }

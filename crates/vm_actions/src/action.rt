@@ -6,6 +6,7 @@ ghost use Rattle.vm_model.specs.Actions as model;
 ghost use Rattle.vm_model.specs.View.{args_of};
 ghost use Rattle.vm_actions.specs.Table.{action_of};
 
+use cls_tree::opcodes::*;
 use mg_text::Text;
 use std::rc::Rc;
 use vm_model::{Built, LinkedArgs, LinkedInstr};
@@ -109,25 +110,25 @@ fn plain_action<'a>(op: u8) -> Option<Action<'a>>
     ensures { option_map action_of result ≡ model.plain_action op }
 {
     let action = match op {
-        0x01 => Action::Plain(Plain::Push(Constant::Null)),
-        0x02 => Action::Plain(Plain::Push(Constant::Int(-1))),
-        0x03..=0x08 => Action::Plain(Plain::Push(Constant::Int(i32::from(op) - 3))),
-        0x1a..=0x1d => Action::Plain(Plain::Load(Sort::Number, op - 0x1a)),
-        0x2a..=0x2d => Action::Plain(Plain::Load(Sort::Reference, op - 0x2a)),
-        0x3b..=0x3e => Action::Plain(Plain::Store(Sort::Number, op - 0x3b)),
-        0x4b..=0x4e => Action::Plain(Plain::Store(Sort::Reference, op - 0x4b)),
-        0x57 => Action::Plain(Plain::Pop),
-        0x59 => Action::Plain(Plain::Double),
-        0x5f => Action::Plain(Plain::Swap),
-        0x60 => Action::Plain(Plain::Compute(Operation::Plus)),
-        0x64 => Action::Plain(Plain::Compute(Operation::Minus)),
-        0x68 => Action::Plain(Plain::Compute(Operation::Times)),
-        0x6c => Action::Plain(Plain::Compute(Operation::Divide)),
-        0x70 => Action::Plain(Plain::Compute(Operation::Remain)),
-        0x74 => Action::Plain(Plain::Negate),
-        0xac => Action::Return(Some(Sort::Number)),
-        0xb0 => Action::Return(Some(Sort::Reference)),
-        0xb1 => Action::Return(None),
+        ACONST_NULL => Action::Plain(Plain::Push(Constant::Null)),
+        ICONST_M1 => Action::Plain(Plain::Push(Constant::Int(-1))),
+        ICONST_0..=ICONST_5 => Action::Plain(Plain::Push(Constant::Int(i32::from(op - ICONST_0)))),
+        ILOAD_0..=ILOAD_3 => Action::Plain(Plain::Load(Sort::Number, op - ILOAD_0)),
+        ALOAD_0..=ALOAD_3 => Action::Plain(Plain::Load(Sort::Reference, op - ALOAD_0)),
+        ISTORE_0..=ISTORE_3 => Action::Plain(Plain::Store(Sort::Number, op - ISTORE_0)),
+        ASTORE_0..=ASTORE_3 => Action::Plain(Plain::Store(Sort::Reference, op - ASTORE_0)),
+        POP => Action::Plain(Plain::Pop),
+        DUP => Action::Plain(Plain::Double),
+        SWAP => Action::Plain(Plain::Swap),
+        IADD => Action::Plain(Plain::Compute(Operation::Plus)),
+        ISUB => Action::Plain(Plain::Compute(Operation::Minus)),
+        IMUL => Action::Plain(Plain::Compute(Operation::Times)),
+        IDIV => Action::Plain(Plain::Compute(Operation::Divide)),
+        IREM => Action::Plain(Plain::Compute(Operation::Remain)),
+        INEG => Action::Plain(Plain::Negate),
+        IRETURN => Action::Return(Some(Sort::Number)),
+        ARETURN => Action::Return(Some(Sort::Reference)),
+        RETURN => Action::Return(None),
         _ => return None,
     };
     Some(action)
@@ -138,7 +139,7 @@ fn int_action<'a>(op: u8, value: i32) -> Option<Action<'a>>
     ensures { option_map action_of result ≡ model.int_action op value }
 {
     match op {
-        0x10 | 0x11 | 0x12 | 0x13 => Some(Action::Plain(Plain::Push(Constant::Int(value)))),
+        BIPUSH | SIPUSH | LDC | LDC_W => Some(Action::Plain(Plain::Push(Constant::Int(value)))),
         _ => None,
     }
 }
@@ -148,7 +149,7 @@ fn text_action<'a>(op: u8, text: &'a Rc<Text>) -> Option<Action<'a>>
     ensures { option_map action_of result ≡ model.text_action op text.now.value }
 {
     match op {
-        0x12 | 0x13 => Some(Action::Plain(Plain::Push(Constant::Text(text)))),
+        LDC | LDC_W => Some(Action::Plain(Plain::Push(Constant::Text(text)))),
         _ => None,
     }
 }
@@ -158,10 +159,10 @@ fn local_action<'a>(op: u8, local: u8) -> Option<Action<'a>>
     ensures { option_map action_of result ≡ model.local_action op local }
 {
     match op {
-        0x15 => Some(Action::Plain(Plain::Load(Sort::Number, local))),
-        0x19 => Some(Action::Plain(Plain::Load(Sort::Reference, local))),
-        0x36 => Some(Action::Plain(Plain::Store(Sort::Number, local))),
-        0x3a => Some(Action::Plain(Plain::Store(Sort::Reference, local))),
+        ILOAD => Some(Action::Plain(Plain::Load(Sort::Number, local))),
+        ALOAD => Some(Action::Plain(Plain::Load(Sort::Reference, local))),
+        ISTORE => Some(Action::Plain(Plain::Store(Sort::Number, local))),
+        ASTORE => Some(Action::Plain(Plain::Store(Sort::Reference, local))),
         _ => None,
     }
 }
@@ -171,21 +172,21 @@ fn jump_action<'a>(op: u8, target: u32) -> Option<Action<'a>>
     ensures { option_map action_of result ≡ model.jump_action op target }
 {
     let action = match op {
-        0x99 => Action::Plain(Plain::IfZero(Comparison::Equal, target)),
-        0x9a => Action::Plain(Plain::IfZero(Comparison::Unequal, target)),
-        0x9b => Action::Plain(Plain::IfZero(Comparison::Less, target)),
-        0x9c => Action::Plain(Plain::IfZero(Comparison::AtLeast, target)),
-        0x9d => Action::Plain(Plain::IfZero(Comparison::Greater, target)),
-        0x9e => Action::Plain(Plain::IfZero(Comparison::AtMost, target)),
-        0x9f => Action::Plain(Plain::IfBoth(Comparison::Equal, target)),
-        0xa0 => Action::Plain(Plain::IfBoth(Comparison::Unequal, target)),
-        0xa1 => Action::Plain(Plain::IfBoth(Comparison::Less, target)),
-        0xa2 => Action::Plain(Plain::IfBoth(Comparison::AtLeast, target)),
-        0xa3 => Action::Plain(Plain::IfBoth(Comparison::Greater, target)),
-        0xa4 => Action::Plain(Plain::IfBoth(Comparison::AtMost, target)),
-        0xa7 => Action::Plain(Plain::Go(target)),
-        0xc6 => Action::Plain(Plain::IfNull(true, target)),
-        0xc7 => Action::Plain(Plain::IfNull(false, target)),
+        IFEQ => Action::Plain(Plain::IfZero(Comparison::Equal, target)),
+        IFNE => Action::Plain(Plain::IfZero(Comparison::Unequal, target)),
+        IFLT => Action::Plain(Plain::IfZero(Comparison::Less, target)),
+        IFGE => Action::Plain(Plain::IfZero(Comparison::AtLeast, target)),
+        IFGT => Action::Plain(Plain::IfZero(Comparison::Greater, target)),
+        IFLE => Action::Plain(Plain::IfZero(Comparison::AtMost, target)),
+        IF_ICMPEQ => Action::Plain(Plain::IfBoth(Comparison::Equal, target)),
+        IF_ICMPNE => Action::Plain(Plain::IfBoth(Comparison::Unequal, target)),
+        IF_ICMPLT => Action::Plain(Plain::IfBoth(Comparison::Less, target)),
+        IF_ICMPGE => Action::Plain(Plain::IfBoth(Comparison::AtLeast, target)),
+        IF_ICMPGT => Action::Plain(Plain::IfBoth(Comparison::Greater, target)),
+        IF_ICMPLE => Action::Plain(Plain::IfBoth(Comparison::AtMost, target)),
+        GOTO => Action::Plain(Plain::Go(target)),
+        IFNULL => Action::Plain(Plain::IfNull(true, target)),
+        IFNONNULL => Action::Plain(Plain::IfNull(false, target)),
         _ => return None,
     };
     Some(action)
@@ -196,8 +197,8 @@ fn field_action<'a>(op: u8, class: u32, field: u32) -> Option<Action<'a>>
     ensures { option_map action_of result ≡ model.field_action op class field }
 {
     match op {
-        0xb4 => Some(Action::Read { class, field }),
-        0xb5 => Some(Action::Write { class, field }),
+        GETFIELD => Some(Action::Read { class, field }),
+        PUTFIELD => Some(Action::Write { class, field }),
         _ => None,
     }
 }
@@ -208,9 +209,9 @@ fn method_action<'a>(op: u8, class: u32, method: u32) -> Option<Action<'a>>
     ensures { option_map action_of result ≡ model.method_action op class method }
 {
     let calling = match op {
-        0xb6 => Calling::Telling,
-        0xb7 => Calling::Silent,
-        0xb8 => Calling::Static,
+        INVOKEVIRTUAL => Calling::Telling,
+        INVOKESPECIAL => Calling::Silent,
+        INVOKESTATIC => Calling::Static,
         _ => return None,
     };
     Some(Action::Call {
@@ -218,18 +219,6 @@ fn method_action<'a>(op: u8, class: u32, method: u32) -> Option<Action<'a>>
         class,
         method,
     })
-}
-
-/// The opcode by which a member of a built-in class is used.
-fn built_op(built: Built) -> u8
-    ensures { result ≡ model.built_op built }
-{
-    match built {
-        Built::Out => 0xb2,
-        Built::Init => 0xb7,
-        Built::Concat | Built::Equals | Built::Println => 0xb6,
-        _ => 0xb8,
-    }
 }
 
 /// What an instruction does. An opcode with arguments of another form does nothing.
@@ -242,7 +231,7 @@ pub fn action_of(instr: &LinkedInstr) -> Option<Action<'_>>
         LinkedArgs::Int(value) => int_action(op, *value),
         LinkedArgs::Text(text) => text_action(op, text),
         LinkedArgs::Local(local) => local_action(op, *local),
-        LinkedArgs::Add(local, by) if op == 0x84 => Some(Action::Plain(Plain::Increase(
+        LinkedArgs::Add(local, by) if op == IINC => Some(Action::Plain(Plain::Increase(
             *local, by,
         ))),
         LinkedArgs::Add(_, _) => None,
@@ -251,17 +240,17 @@ pub fn action_of(instr: &LinkedInstr) -> Option<Action<'_>>
             default,
             low,
             targets,
-        } if op == 0xaa => Some(Action::Plain(Plain::Switch {
+        } if op == TABLESWITCH => Some(Action::Plain(Plain::Switch {
             default: *default,
             low,
             targets: targets.as_slice(),
         })),
         LinkedArgs::Table { .. } => None,
-        LinkedArgs::Class(class) if op == 0xbb => Some(Action::Make(*class)),
+        LinkedArgs::Class(class) if op == NEW => Some(Action::Make(*class)),
         LinkedArgs::Class(_) => None,
         LinkedArgs::Field { class, field } => field_action(op, *class, *field),
         LinkedArgs::Method { class, method } => method_action(op, *class, *method),
-        LinkedArgs::Built(built) if op == built_op(*built) => Some(Action::Use(*built)),
+        LinkedArgs::Built(built) if op == built.member().op => Some(Action::Use(*built)),
         LinkedArgs::Built(_) => None,
     }
 }

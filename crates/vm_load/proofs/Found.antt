@@ -4,30 +4,8 @@ use Rattle.std.proofs.Common.{Some, None, slice_get, refl, sym, ap, ◌∙◌, a
 use Rattle.std.proofs.lemmas.Option.{slice_get-map}
 use Rattle.std.proofs.lemmas.Bool.Decides.{nat_tests}
 use Rattle.std.specs.List.{position, position_or_len, list_any}
-use Rattle.cls_tree.specs.Pool.{Reference}
-use Rattle.vm_model.specs.Links.{Member_of, is_named, built_in}
 
 pub ruleset found = (slice_get-map)
-
--- a member that isn't named is passed over
-pub passed : (op : ℕ) (r : Reference) (bs : List Member_of) (i : ℕ) (b : Member_of) → slice_get bs i ≡ Some b → is_named op r b ≡ false →
-    built_in op r (drop i bs) ≡ built_in op r (drop (i + 1) bs)
-passed op r [] i b at test = absurd cc
-passed op r (x ∷ bs) zero b at test =
-    let same : x ≡ b = cc in
-    let no : is_named op r x ≡ false = ap (is_named op r) same ∙ test in
-    rw no refl
-passed op r (x ∷ bs) (suc i) b at test = passed op r bs i b at test ∙ ap (λ k. built_in op r (drop k bs)) (add-one i) ∙
-    ap (λ k. built_in op r (drop k (x ∷ bs))) (sym (add-one (suc i)))
-
-pub stopped : (op : ℕ) (r : Reference) (bs : List Member_of) (i : ℕ) (b : Member_of) → slice_get bs i ≡ Some b → is_named op r b ≡ true →
-    built_in op r (drop i bs) ≡ Some b.member
-stopped op r [] i b at test = absurd cc
-stopped op r (x ∷ bs) zero b at test =
-    let same : x ≡ b = cc in
-    let yes : is_named op r x ≡ true = ap (is_named op r) same ∙ test in
-    rw yes (ap (λ (m : Member_of). Some m.member) same)
-stopped op r (x ∷ bs) (suc i) b at test = stopped op r bs i b at test
 
 -- what is looked for isn't first, or is
 later : {X : Type 0} (p : X → Bool) (x : X) (xs : List X) (i : ℕ) → p x ≡ false → position p xs ≡ Some i →

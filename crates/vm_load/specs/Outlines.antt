@@ -7,8 +7,7 @@ use Rattle.vm_model.specs.declared.types.FieldType.{FieldType}
 use Rattle.vm_model.specs.declared.types.FieldType.TheVariants as types
 use Rattle.mg_text.specs.Call.{Name}
 use Rattle.cls_tree.specs.Tree.{Code, Attr, Coded}
-use Rattle.vm_model.specs.Links.{Outline, Member_of}
-use Rattle.vm_load.specs.declared.member.BuiltMember.{BuiltMember}
+use Rattle.vm_model.specs.Links.{Outline}
 use Rattle.vm_load.specs.Declaring.{declared_of}
 use Rattle.vm_load.specs.declared.outline.Outline.{Outline as KeptOutline}
 
@@ -31,9 +30,6 @@ names_of os = map (λ o. o.name) os
 abbrev pub class_named : FieldType → Option Name
 class_named (types.Named name) = Some name.now
 class_named _ = None
-
-abbrev pub built_view : BuiltMember → Member_of
-built_view b = record { class = b.class.now; name = b.name.now; descriptor = b.descriptor.now; op = b.op; member = b.member }
 
 -- the code that an attribute is
 abbrev pub code_in : Attr → Option Code

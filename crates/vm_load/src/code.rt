@@ -213,8 +213,9 @@ fn judge_args(
 fn fitting(alloc: Global, count: usize, op: u8, args: LinkedArgs) -> Result<LinkedInstr, LoadFault>
     ensures { Judges model.instr_of result (with_op count op (Ok (args_of args))) }
 {
-    if fits_code(count, op, &args) {
-        return Ok(LinkedInstr { op, args });
+    let instr = LinkedInstr { op, args };
+    if fits_code(count, &instr) {
+        return Ok(instr);
     }
     Err(unknown_member(alloc, ""))
 }

@@ -2,7 +2,6 @@
 
 ghost use Rattle.std.specs.Prelude.{◌≡◌, option_map, IfOk};
 ghost use Rattle.std.specs.Str.{bytes_eq};
-ghost use Rattle.vm_model.specs.Linked.{is_built_in};
 ghost use Rattle.vm_model.specs.Types.{is_main_alone, types_of_signature};
 ghost use Rattle.vm_model.specs.Descriptors.{types_view, signature_view};
 ghost use Rattle.vm_model.specs.Links.{UnknownClass, loaded, is_known, unknown_in, method_types, field_flaw, method_flaw, super_flaw};
@@ -16,18 +15,7 @@ use crate::fault::{LoadFault, bad_descriptor, unknown_class};
 use crate::outline::Outline;
 use mg_text::{Memory, Names};
 use std::alloc::Global;
-use vm_model::{FieldType, Signature, read_signature, read_type};
-
-/// Whether this is the name of a built-in class.
-pub(crate) fn is_built_in(name: &str) -> bool
-    ensures { result ≡ is_built_in name.now }
-{
-    name == "java/lang/Object"
-        || name == "java/lang/String"
-        || name == "java/lang/System"
-        || name == "java/io/PrintStream"
-        || name == "mungo/lib/Session"
-}
+use vm_model::{FieldType, OBJECT_CLASS, Signature, is_built_in, read_signature, read_type};
 
 /// The number of the loaded class of this name.
 pub(crate) fn class_number(outlines: &[Outline<'_>], names: &Names, name: &str) -> Option<u32>
@@ -182,7 +170,7 @@ pub(crate) fn judge_method(
 pub(crate) fn judge_super(alloc: Global, name: &str) -> Result<(), LoadFault>
     ensures { Tells result (super_flaw name.now) }
 {
-    if name == "java/lang/Object" {
+    if name == OBJECT_CLASS {
         return Ok(());
     }
     Err(unknown_class(alloc, name))

@@ -9,13 +9,12 @@ ghost use Rattle.vm_load.specs.Faults.{best_flaw, IsLeast, IsRefused};
 ghost use Rattle.vm_load.specs.Outlines.{outlines_of, names_of, is_taken};
 
 use crate::classes::judge_class;
-use crate::descriptor::is_built_in;
 use crate::fault::{LoadFault, duplicate_class};
 use crate::outline::{Outline, outlines};
 use cls_tree::Class;
 use mg_text::{List, Memory, Names};
 use std::alloc::Global;
-use vm_model::{Linked, LinkedClass};
+use vm_model::{Linked, LinkedClass, is_built_in};
 
 /// Whether a name is that of a class before, or of a built-in class.
 fn is_taken(names: &Names, name: &str) -> bool

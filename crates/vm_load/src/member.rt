@@ -6,214 +6,34 @@ ghost use Rattle.vm_model.specs.Links.{is_named, built_in, built_members, loaded
 ghost use Rattle.vm_model.specs.Links.{args_by};
 ghost use Rattle.vm_model.specs.Program.{Field, Method};
 ghost use Rattle.vm_load.specs.Declaring.{named_of, member_of};
-ghost use Rattle.vm_load.specs.Outlines.{outlines_of, outline_of, names_of, built_view};
+ghost use Rattle.vm_load.specs.Outlines.{outlines_of, outline_of, names_of};
 
 use crate::descriptor::class_number;
 use crate::outline::Outline;
 use crate::pool::{Named, NamedType};
+use cls_tree::opcodes::{GETFIELD, INVOKESPECIAL, INVOKESTATIC, INVOKEVIRTUAL, PUTFIELD};
 use mg_text::{Memory, Names};
 use std::alloc::Global;
 use vm_model::{Built, LinkedArgs};
 
-/// Reads a static field.
-pub(crate) const GETSTATIC: u8 = 0xb2;
-
-/// Reads a field of an object.
-pub(crate) const GETFIELD: u8 = 0xb4;
-
-/// Writes a field of an object.
-pub(crate) const PUTFIELD: u8 = 0xb5;
-
-/// Calls a method on an object.
-pub(crate) const INVOKEVIRTUAL: u8 = 0xb6;
-
-/// Calls a constructor or a method that no protocol names.
-pub(crate) const INVOKESPECIAL: u8 = 0xb7;
-
-/// Calls a static method.
-pub(crate) const INVOKESTATIC: u8 = 0xb8;
-
-/// A member of a built-in class, and the opcode that names it.
-#[derive(Clone, Copy)]
-pub(crate) struct BuiltMember {
-    class: &'static str,
-    name: &'static str,
-    descriptor: &'static str,
-    op: u8,
-    member: Built,
-}
-
-/// How many members the built-in classes have.
-const BUILT_COUNT: u8 = 17;
-
-/// A member of a built-in class.
-fn member(
-    class: &'static str,
-    name: &'static str,
-    descriptor: &'static str,
-    op: u8,
-    member: Built,
-) -> BuiltMember
-    ensures { built_view result ≡ record { class = class.now; name = name.now; descriptor = descriptor.now; op = op; member = member } }
+/// Whether an opcode and a reference name this member of a built-in class.
+fn is_named(op: u8, reference: Named<'_>, built: Built) -> bool
+    ensures { result ≡ is_named op (member_of reference.entry) built }
 {
-    BuiltMember {
-        class,
-        name,
-        descriptor,
-        op,
-        member,
-    }
-}
-
-/// The members of the built-in classes, by number.
-fn built_member(index: u8) -> BuiltMember
-    requires { index < 17 }
-    ensures { slice_get built_members index ≡ Some (built_view result) }
-{
-    match index {
-        0 => member(
-            "java/lang/System",
-            "out",
-            "Ljava/io/PrintStream;",
-            GETSTATIC,
-            Built::Out,
-        ),
-        1 => member(
-            "java/lang/Object",
-            "<init>",
-            "()V",
-            INVOKESPECIAL,
-            Built::Init,
-        ),
-        2 => member(
-            "java/lang/String",
-            "concat",
-            "(Ljava/lang/String;)Ljava/lang/String;",
-            INVOKEVIRTUAL,
-            Built::Concat,
-        ),
-        3 => member(
-            "java/lang/String",
-            "equals",
-            "(Ljava/lang/Object;)Z",
-            INVOKEVIRTUAL,
-            Built::Equals,
-        ),
-        4 => member(
-            "java/lang/String",
-            "valueOf",
-            "(I)Ljava/lang/String;",
-            INVOKESTATIC,
-            Built::ValueOfInt,
-        ),
-        5 => member(
-            "java/lang/String",
-            "valueOf",
-            "(Z)Ljava/lang/String;",
-            INVOKESTATIC,
-            Built::ValueOfTruth,
-        ),
-        6 => member(
-            "java/io/PrintStream",
-            "println",
-            "(Ljava/lang/String;)V",
-            INVOKEVIRTUAL,
-            Built::Println,
-        ),
-        7 => member(
-            "mungo/lib/Session",
-            "send",
-            "(Ljava/lang/String;Ljava/lang/String;)V",
-            INVOKESTATIC,
-            Built::Send,
-        ),
-        8 => member(
-            "mungo/lib/Session",
-            "sendInt",
-            "(Ljava/lang/String;Ljava/lang/String;I)V",
-            INVOKESTATIC,
-            Built::SendInt,
-        ),
-        9 => member(
-            "mungo/lib/Session",
-            "sendBoolean",
-            "(Ljava/lang/String;Ljava/lang/String;Z)V",
-            INVOKESTATIC,
-            Built::SendTruth,
-        ),
-        10 => member(
-            "mungo/lib/Session",
-            "sendString",
-            "(Ljava/lang/String;Ljava/lang/String;Ljava/lang/String;)V",
-            INVOKESTATIC,
-            Built::SendText,
-        ),
-        11 => member(
-            "mungo/lib/Session",
-            "look",
-            "(Ljava/lang/String;)Ljava/lang/String;",
-            INVOKESTATIC,
-            Built::Look,
-        ),
-        12 => member(
-            "mungo/lib/Session",
-            "take",
-            "(Ljava/lang/String;Ljava/lang/String;)V",
-            INVOKESTATIC,
-            Built::Take,
-        ),
-        13 => member(
-            "mungo/lib/Session",
-            "takeInt",
-            "(Ljava/lang/String;Ljava/lang/String;)I",
-            INVOKESTATIC,
-            Built::TakeInt,
-        ),
-        14 => member(
-            "mungo/lib/Session",
-            "takeBoolean",
-            "(Ljava/lang/String;Ljava/lang/String;)Z",
-            INVOKESTATIC,
-            Built::TakeTruth,
-        ),
-        15 => member(
-            "mungo/lib/Session",
-            "takeString",
-            "(Ljava/lang/String;Ljava/lang/String;)Ljava/lang/String;",
-            INVOKESTATIC,
-            Built::TakeText,
-        ),
-        _ => member(
-            "mungo/lib/Session",
-            "refuse",
-            "(Ljava/lang/String;Ljava/lang/String;)V",
-            INVOKESTATIC,
-            Built::Refuse,
-        ),
-    }
-}
-
-/// Whether an opcode and a reference name this member.
-fn is_named(op: u8, reference: Named<'_>, built: BuiltMember) -> bool
-    ensures { result ≡ is_named op (member_of reference.entry) (built_view built) }
-{
-    op == built.op
-        && reference.class == built.class
-        && reference.name == built.name
-        && reference.descriptor == built.descriptor
+    let member = built.member();
+    op == member.op
+        && reference.class == member.class
+        && reference.name == member.name
+        && reference.descriptor == member.descriptor
 }
 
 /// The member of a built-in class that an opcode and a reference name.
 fn built_in(op: u8, reference: Named<'_>) -> Option<Built>
     ensures { result ≡ built_in op (member_of reference.entry) built_members }
 {
-    for index in 0..BUILT_COUNT {
-        let built = built_member(index);
-        if is_named(op, reference, built) {
-            return Some(built.member);
-        }
-    }
-    None
+    Built::ALL
+        .into_iter()
+        .find(|built| is_named(op, reference, *built))
 }
 
 /// The field of a class, by its number.

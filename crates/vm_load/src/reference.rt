@@ -12,19 +12,17 @@ ghost use Rattle.vm_load.specs.Outlines.{outlines_of, names_of};
 
 use crate::descriptor::{class_number, is_known, judge_types, method_types};
 use crate::fault::{LoadFault, unknown_class, unknown_member};
-use crate::member::{
-    GETFIELD, GETSTATIC, INVOKESPECIAL, INVOKESTATIC, INVOKEVIRTUAL, PUTFIELD, member_args,
-};
+use crate::member::member_args;
 use crate::outline::Outline;
 use crate::pool::{Named, class_at, constant, field_at, method_at, or_empty, text_at};
 use cls_tree::Const;
+use cls_tree::opcodes::{
+    GETFIELD, GETSTATIC, INVOKESPECIAL, INVOKESTATIC, INVOKEVIRTUAL, NEW, PUTFIELD,
+};
 use mg_text::{Memory, Names, Text};
 use std::alloc::Global;
 use std::rc::Rc;
 use vm_model::{FieldType, LinkedArgs, read_type};
-
-/// Makes an object of a class.
-const NEW: u8 = 0xbb;
 
 /// The type in the descriptor of a field.
 fn field_types<'a>(alloc: Global, descriptor: &'a str) -> Result<Option<Vec<FieldType<'a>>>, Memory>

@@ -2,3 +2,4 @@ pub mod Queues
 pub mod Descriptors
 pub mod Spelled
 pub mod KeptTypes
+pub mod BuiltLaws

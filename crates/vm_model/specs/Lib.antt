@@ -1,4 +1,5 @@
 pub mod Program
+pub mod BuiltIns
 pub mod View
 pub mod Types
 pub mod Kept
@@ -9,6 +10,7 @@ pub mod Actions
 pub mod Linked
 pub mod Links
 pub mod Tests
+pub mod BuiltLaws
 pub mod Arithmetic
 pub mod Step
 pub mod Start

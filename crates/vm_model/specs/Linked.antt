@@ -1,9 +1,10 @@
 -- What every linked program meets: its instructions have the arguments of their opcodes, their numbers are in range, and its descriptors
 -- link.
-use Rattle.std.specs.Prelude.{◌≡◌, ℕ, List, map, Bool, true, false, Option, Some, None, ◌&&◌, ◌||◌, is_some, nat_lt, length, codes}
+use Rattle.std.specs.Prelude.{◌≡◌, ℕ, List, map, Bool, true, false, Option, Some, None, ◌&&◌, ◌||◌, is_some, nat_lt, length}
 use Rattle.std.specs.List.{list_all, list_any}
 use Rattle.std.specs.Str.{bytes_eq}
 use Rattle.mg_text.specs.Call.{Name}
+use Rattle.vm_model.specs.BuiltIns.{object_class, string_class, system_class, print_stream_class, session_class}
 use Rattle.vm_model.specs.Program.{Args, Jump, Table, Class, Field, Method, Instr, FieldOf, MethodOf, ClassOf, Program, field_at, method_at}
 use Rattle.vm_model.specs.Types.{FieldType, Named, Signature, is_main_alone, signature_of, type_of, types_of_signature}
 use Rattle.vm_model.specs.Actions.{action}
@@ -11,8 +12,8 @@ use Rattle.vm_model.specs.Actions.{action}
 -- the names of the built-in classes
 abbrev pub is_built_in : Name → Bool
 is_built_in name =
-    bytes_eq name (codes "java/lang/Object") || bytes_eq name (codes "java/lang/String") || bytes_eq name (codes "java/lang/System")
-    || bytes_eq name (codes "java/io/PrintStream") || bytes_eq name (codes "mungo/lib/Session")
+    bytes_eq name object_class || bytes_eq name string_class || bytes_eq name system_class || bytes_eq name print_stream_class
+    || bytes_eq name session_class
 
 abbrev pub class_names : Program → List Name
 class_names p = map (λ c. c.name) p

@@ -1,11 +1,12 @@
 -- What class files link to, and what is wrong where they don't link. All that is judged stands in one order:
 -- class by class, the super class, the descriptors of fields and of methods, and what instructions name, by method and place.
 use Rattle.std.specs.Prelude.{◌≡◌, ℕ, ◌+◌, ◌+ℤ◌, ℤ, pos, List, [], ◌∷◌, ◌++◌, length, map, Bool, true, false, not, Option, Some, None}
-use Rattle.std.specs.Prelude.{Result, Ok, Err, if◌then◌else◌, nat_lt, ◌==◌, ◌&&◌, ◌||◌, bit_and, codes, slice_get, option_map}
-use Rattle.std.specs.List.{position, position_or_len, flat_map, filter, list_any}
+use Rattle.std.specs.Prelude.{Result, Ok, Err, if◌then◌else◌, nat_lt, ◌==◌, ◌&&◌, ◌||◌, bit_and, slice_get, option_map}
+use Rattle.std.specs.List.{find, position, position_or_len, flat_map, filter, list_any}
 use Rattle.std.specs.Ordering.{int_eq}
 use Rattle.std.specs.Str.{bytes_eq}
 use Rattle.mg_text.specs.Call.{Name}
+use Rattle.cls_tree.specs.declared.opcodes.TheConstants.{GETSTATIC, GETFIELD, PUTFIELD, INVOKEVIRTUAL, INVOKESPECIAL, INVOKESTATIC, NEW}
 use Rattle.cls_tree.specs.declared.class.Const.{Const}
 use Rattle.cls_tree.specs.Tree.{Class as File, Member, Attr, Coded, Code, Instr as Read}
 use Rattle.cls_tree.specs.Tree as file
@@ -15,6 +16,7 @@ use Rattle.cls_tree.specs.Pool.{text_at, class_at, field_at, method_at, pushed_a
 use Rattle.cls_tree.specs.Pool as pool
 use Rattle.vm_model.specs.declared.linked.Built.{Built as BuiltIn}
 use Rattle.vm_model.specs.declared.linked.Built.TheVariants as built
+use Rattle.vm_model.specs.BuiltIns.{object_class, built_member}
 use Rattle.vm_model.specs.Program.{Args, Nothing, Int, Text, Local, Add, Jump, Table, Class, Field, Method, Built, Instr, FieldOf, MethodOf}
 use Rattle.vm_model.specs.Program.{ClassOf, Program}
 use Rattle.vm_model.specs.Types.{FieldType, Named, is_main_alone, signature_of, type_of, types_of_signature}
@@ -146,53 +148,27 @@ method_flaw os d = descriptor_flaw os (Some (BadDescriptor d.descriptor)) (metho
 
 -- what is wrong with the super class
 abbrev pub super_flaw : Name → Option Flaw
-super_flaw name = if bytes_eq name (codes "java/lang/Object") then None else Some (UnknownClass name)
+super_flaw name = if bytes_eq name object_class then None else Some (UnknownClass name)
 
 -- a member of this name and descriptor, static or not
 abbrev pub is_member : Signature → Bool → Declared → Bool
 is_member m static d = (bytes_eq d.name m.name && bytes_eq d.descriptor m.descriptor) && (if static then d.is_static else not d.is_static)
 
--- the members of the built-in classes (static ones, and others), by their names and descriptors
-pub record Member_of : Type 0 where
-  pub class : Name
-  pub name : Name
-  pub descriptor : Name
-  pub op : ℕ
-  pub member : BuiltIn
-
-abbrev pub member : Name → Name → Name → ℕ → BuiltIn → Member_of
-member class name descriptor op b = record { class = class; name = name; descriptor = descriptor; op = op; member = b }
-
--- each with the opcode that names it: getstatic, invokevirtual, invokespecial or invokestatic
-abbrev pub built_members : List Member_of
+-- the members of the built-in classes
+abbrev pub built_members : List BuiltIn
 built_members =
-    member (codes "java/lang/System") (codes "out") (codes "Ljava/io/PrintStream;") 178 built.Out
-    ∷ member (codes "java/lang/Object") (codes "<init>") (codes "()V") 183 built.Init
-    ∷ member (codes "java/lang/String") (codes "concat") (codes "(Ljava/lang/String;)Ljava/lang/String;") 182 built.Concat
-    ∷ member (codes "java/lang/String") (codes "equals") (codes "(Ljava/lang/Object;)Z") 182 built.Equals
-    ∷ member (codes "java/lang/String") (codes "valueOf") (codes "(I)Ljava/lang/String;") 184 built.ValueOfInt
-    ∷ member (codes "java/lang/String") (codes "valueOf") (codes "(Z)Ljava/lang/String;") 184 built.ValueOfTruth
-    ∷ member (codes "java/io/PrintStream") (codes "println") (codes "(Ljava/lang/String;)V") 182 built.Println
-    ∷ member (codes "mungo/lib/Session") (codes "send") (codes "(Ljava/lang/String;Ljava/lang/String;)V") 184 built.Send
-    ∷ member (codes "mungo/lib/Session") (codes "sendInt") (codes "(Ljava/lang/String;Ljava/lang/String;I)V") 184 built.SendInt
-    ∷ member (codes "mungo/lib/Session") (codes "sendBoolean") (codes "(Ljava/lang/String;Ljava/lang/String;Z)V") 184 built.SendTruth
-    ∷ member (codes "mungo/lib/Session") (codes "sendString") (codes "(Ljava/lang/String;Ljava/lang/String;Ljava/lang/String;)V") 184
-    built.SendText
-    ∷ member (codes "mungo/lib/Session") (codes "look") (codes "(Ljava/lang/String;)Ljava/lang/String;") 184 built.Look
-    ∷ member (codes "mungo/lib/Session") (codes "take") (codes "(Ljava/lang/String;Ljava/lang/String;)V") 184 built.Take
-    ∷ member (codes "mungo/lib/Session") (codes "takeInt") (codes "(Ljava/lang/String;Ljava/lang/String;)I") 184 built.TakeInt
-    ∷ member (codes "mungo/lib/Session") (codes "takeBoolean") (codes "(Ljava/lang/String;Ljava/lang/String;)Z") 184 built.TakeTruth
-    ∷ member (codes "mungo/lib/Session") (codes "takeString") (codes "(Ljava/lang/String;Ljava/lang/String;)Ljava/lang/String;") 184
-    built.TakeText
-    ∷ member (codes "mungo/lib/Session") (codes "refuse") (codes "(Ljava/lang/String;Ljava/lang/String;)V") 184 built.Refuse
-    ∷ []
+    built.Out ∷ built.Init ∷ built.Concat ∷ built.Equals ∷ built.ValueOfInt ∷ built.ValueOfTruth ∷ built.Println
+    ∷ built.Send ∷ built.SendInt ∷ built.SendTruth ∷ built.SendText ∷ built.Look ∷ built.Take ∷ built.TakeInt ∷ built.TakeTruth
+    ∷ built.TakeText ∷ built.Refuse ∷ []
 
-abbrev pub is_named : ℕ → Reference → Member_of → Bool
-is_named op r b = ((op == b.op && bytes_eq r.class b.class) && bytes_eq r.member.name b.name) && bytes_eq r.member.descriptor b.descriptor
+-- the member of a built-in class that an opcode and a reference name
+abbrev pub is_named : ℕ → Reference → BuiltIn → Bool
+is_named op r b =
+    ((op == (built_member b).op && bytes_eq r.class (built_member b).class) && bytes_eq r.member.name (built_member b).name)
+    && bytes_eq r.member.descriptor (built_member b).descriptor
 
-abbrev pub built_in : ℕ → Reference → List Member_of → Option BuiltIn
-built_in op r [] = None
-built_in op r (b ∷ bs) = if is_named op r b then Some b.member else built_in op r bs
+abbrev pub built_in : ℕ → Reference → List BuiltIn → Option BuiltIn
+built_in op r members = find (is_named op r) members
 
 -- the member of a loaded class that an opcode names: a field for getfield and putfield, a static method for invokestatic, another method
 -- for the other two
@@ -211,11 +187,11 @@ args_by make (Some n) = Some (make n)
 abbrev pub loaded_member : List Outline → ℕ → Signature → Option ℕ → Option Args
 loaded_member os op m None = None
 loaded_member os op m (Some c) =
-    if op == 180 then args_by (Field c) (field_of_class m (slice_get os c))
-    else if op == 181 then args_by (Field c) (field_of_class m (slice_get os c))
-    else if op == 182 then args_by (Method c) (method_of_class m false (slice_get os c))
-    else if op == 183 then args_by (Method c) (method_of_class m false (slice_get os c))
-    else if op == 184 then args_by (Method c) (method_of_class m true (slice_get os c))
+    if op == GETFIELD then args_by (Field c) (field_of_class m (slice_get os c))
+    else if op == PUTFIELD then args_by (Field c) (field_of_class m (slice_get os c))
+    else if op == INVOKEVIRTUAL then args_by (Method c) (method_of_class m false (slice_get os c))
+    else if op == INVOKESPECIAL then args_by (Method c) (method_of_class m false (slice_get os c))
+    else if op == INVOKESTATIC then args_by (Method c) (method_of_class m true (slice_get os c))
     else None
 
 abbrev pub named_args : List Outline → ℕ → Reference → Option BuiltIn → Option Args
@@ -261,9 +237,9 @@ pushed_args (Some (pool.Letters text)) = Text text
 -- what the number of a constant means behind an opcode
 abbrev pub judged_pool : List Outline → List Const → ℕ → ℕ → Result Args Flaw
 judged_pool os pool op n =
-    if op == 187 then (let name = or_empty (class_at pool n) in judged_new name (loaded os name))
-    else if op == 178 || (op == 180 || op == 181) then judged_field_reference os op (field_at pool n)
-    else if op == 182 || (op == 183 || op == 184) then judged_method_reference os op (method_at pool n)
+    if op == NEW then (let name = or_empty (class_at pool n) in judged_new name (loaded os name))
+    else if op == GETSTATIC || (op == GETFIELD || op == PUTFIELD) then judged_field_reference os op (field_at pool n)
+    else if op == INVOKEVIRTUAL || (op == INVOKESPECIAL || op == INVOKESTATIC) then judged_method_reference os op (method_at pool n)
     else Ok (pushed_args (pushed_at pool n))
 
 -- the number of the instruction that starts at a place; a sound code has one for each jump

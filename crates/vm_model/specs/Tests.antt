@@ -1,6 +1,6 @@
 -- What an instruction needs of the machine, and what is wrong where it isn't there.
 use Rattle.std.specs.Prelude.{ℕ, ◌+◌, ◌-◌, List, [], ◌∷◌, ◌++◌, length, take, drop, map, Bool, true, false, Option, Some, None}
-use Rattle.std.specs.Prelude.{if◌then◌else◌, nat_lt, ◌&&◌, ◌||◌, not, is_some, codes, slice_get}
+use Rattle.std.specs.Prelude.{if◌then◌else◌, nat_lt, ◌&&◌, ◌||◌, not, is_some, slice_get}
 use Rattle.std.specs.Str.{bytes_eq}
 use Rattle.mg_text.specs.Call.{Name}
 use Rattle.mg_text.specs.declared.event.BadKind.{BadKind}
@@ -9,6 +9,7 @@ use Rattle.vm_model.specs.declared.value.Value.{Value}
 use Rattle.vm_model.specs.declared.value.Value.TheVariants as values
 use Rattle.vm_model.specs.declared.linked.Built.{Built as BuiltIn}
 use Rattle.vm_model.specs.declared.linked.Built.TheVariants as built
+use Rattle.vm_model.specs.BuiltIns.{object_class, string_class, print_stream_class}
 use Rattle.vm_model.specs.Program.{Program, FieldOf, MethodOf, class_name, method_at, field_at}
 use Rattle.vm_model.specs.Types.{FieldType, Named, Texts, Signature, signature_of, type_of}
 use Rattle.vm_model.specs.Machine.{Frame, Object, Machine}
@@ -30,8 +31,8 @@ object_name p (Some o) = class_name p o.class
 -- the class of an object, of a text and of the print stream
 abbrev pub class_of_value : Program → List Object → Value → Name
 class_of_value p heap (values.Object n) = object_name p (slice_get heap n)
-class_of_value p heap (values.Text text) = codes "java/lang/String"
-class_of_value p heap values.Out = codes "java/io/PrintStream"
+class_of_value p heap (values.Text text) = string_class
+class_of_value p heap values.Out = print_stream_class
 class_of_value p heap _ = []
 
 abbrev pub is_object : Value → Bool
@@ -50,8 +51,8 @@ kind_unless b = if b then None else Some bad.Kind
 abbrev pub misfit_class : Program → List Object → Name → Value → Option BadKind
 misfit_class p heap name values.Null = None
 misfit_class p heap name v =
-    if is_reference v && (bytes_eq name (codes "java/lang/Object") || bytes_eq name (class_of_value p heap v)) then None
-    else if is_object v && not (bytes_eq name (codes "java/lang/String")) then Some bad.Member
+    if is_reference v && (bytes_eq name object_class || bytes_eq name (class_of_value p heap v)) then None
+    else if is_object v && not (bytes_eq name string_class) then Some bad.Member
     else Some bad.Kind
 
 abbrev pub is_null : Value → Bool
@@ -189,7 +190,7 @@ abbrev pub number : Want
 number = Sorted Number
 
 abbrev pub text : Want
-text = Typed (Named (codes "java/lang/String"))
+text = Typed (Named string_class)
 
 abbrev pub type_in : Option FieldOf → Want
 type_in None = Any
@@ -232,13 +233,13 @@ call_needs p m takes method =
 
 -- what the members of the built-in classes take, and how many values they give
 abbrev pub built_needs : Program → Machine → BuiltIn → Needs
-built_needs p m built.Init = taking p m (Typed (Named (codes "java/lang/Object")) ∷ []) 0
+built_needs p m built.Init = taking p m (Typed (Named object_class) ∷ []) 0
 built_needs p m built.Concat = taking p m (text ∷ text ∷ []) 1
-built_needs p m built.Equals = taking p m (text ∷ Typed (Named (codes "java/lang/Object")) ∷ []) 1
+built_needs p m built.Equals = taking p m (text ∷ Typed (Named object_class) ∷ []) 1
 built_needs p m built.ValueOfInt = taking p m (number ∷ []) 1
 built_needs p m built.ValueOfTruth = taking p m (number ∷ []) 1
 built_needs p m built.Out = taking p m [] 1
-built_needs p m built.Println = taking p m (Typed (Named (codes "java/io/PrintStream")) ∷ text ∷ []) 0
+built_needs p m built.Println = taking p m (Typed (Named print_stream_class) ∷ text ∷ []) 0
 built_needs p m built.Send = taking p m (text ∷ text ∷ []) 0
 built_needs p m built.SendInt = taking p m (text ∷ text ∷ number ∷ []) 0
 built_needs p m built.SendTruth = taking p m (text ∷ text ∷ number ∷ []) 0

@@ -1,5 +1,6 @@
 -- What the program's linked classes say.
 use Rattle.std.specs.Prelude.{List, map}
+use Rattle.vm_model.specs.declared.built.BuiltMember.{BuiltMember as KeptMember}
 use Rattle.vm_model.specs.declared.linked.LinkedArgs.{LinkedArgs}
 use Rattle.vm_model.specs.declared.linked.LinkedArgs.TheVariants as kept
 use Rattle.vm_model.specs.declared.linked.LinkedInstr.{LinkedInstr}
@@ -8,6 +9,10 @@ use Rattle.vm_model.specs.declared.linked.LinkedField.{LinkedField}
 use Rattle.vm_model.specs.declared.linked.LinkedClass.{LinkedClass}
 use Rattle.vm_model.specs.Program.{Args, Nothing, Int, Text, Local, Add, Jump, Table, Class, Field, Method, Built, Instr, FieldOf, MethodOf}
 use Rattle.vm_model.specs.Program.{ClassOf, Program}
+use Rattle.vm_model.specs.BuiltIns.{BuiltMember}
+
+abbrev pub built_view : KeptMember → BuiltMember
+built_view m = record { class = m.class.now; name = m.name.now; descriptor = m.descriptor.now; op = m.op }
 
 abbrev pub args_of : LinkedArgs → Args
 args_of kept.None = Nothing

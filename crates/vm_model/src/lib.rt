@@ -2,6 +2,7 @@
 //! The definitions of a step stand in `specs/`; the crates above link and run.
 #![tactic(auto)]
 
+mod built;
 mod linked;
 mod linked_type;
 mod ports;
@@ -10,6 +11,10 @@ mod spelling;
 mod types;
 mod value;
 
+pub use built::{
+    BuiltMember, OBJECT_CLASS, PRINT_STREAM_CLASS, SESSION_CLASS, STRING_CLASS, SYSTEM_CLASS,
+    is_built_in, members_do_as_described,
+};
 pub use linked::{Built, LinkedArgs, LinkedClass, LinkedField, LinkedInstr, LinkedMethod};
 pub use linked_type::LinkedType;
 pub use ports::Ports;
