@@ -8,6 +8,7 @@ ghost use Rattle.mg_text.specs.declared.event.BadKind.{BadKind};
 ghost use Rattle.vm_model.specs.declared.linked.Built.TheVariants as builts;
 ghost use Rattle.vm_model.specs.Actions as actions;
 ghost use Rattle.vm_model.specs.Kept.{type_kept};
+ghost use Rattle.vm_model.specs.Program.{Program};
 ghost use Rattle.vm_model.specs.Tests.{Typed, max_stack_in, method_of_frame, misfits, on_top, some_of};
 ghost use Rattle.vm_model.specs.View.{classes_of, instr_of, method_of};
 ghost use Rattle.vm_frames.specs.Frames.{entered};
@@ -354,14 +355,12 @@ fn kept(method: &LinkedMethod, stayed: bool) -> Option<&LinkedMethod>
 #[inline(always)]
 fn use_quietly<'a>(
     state: &mut State,
-    linked: &Linked,
     method: &'a LinkedMethod,
     built: Built,
 ) -> Option<&'a LinkedMethod>
-    requires place { state.old.machine.frame.place < 2 ^ 32 - 1 }
-    requires runs { Runs (classes_of linked.now.classes.items) (state_of state.old) (method_of method.now) }
-    ensures { Leads (classes_of linked.now.classes.items) (actions.Use built) (state_of state.old) (state_of state.new)
-        (option_map (λ x. method_of x.now) result) }
+    requires { state.old.machine.frame.place < 2 ^ 32 - 1 }
+    ensures { (p : Program) → Runs p (state_of state.old) (method_of method.now) → Leads p (actions.Use built) (state_of state.old)
+        (state_of state.new) (option_map (λ x. method_of x.now) result) }
 {
     match built {
         Built::Equals => kept(method, equals(state, method.max_stack)),
@@ -395,7 +394,7 @@ fn act_quietly<'a>(
             class,
             method,
         } => call(state, linked, calling, class, method),
-        Action::Use(built) => use_quietly(state, linked, method, built),
+        Action::Use(built) => use_quietly(state, method, built),
     }
 }
 

@@ -44,4 +44,4 @@ pub returns-in-Call : goal.returns-in-Call
 returns-in-Call c = rw c.in-Call.is c.call.ensures
 
 pub returns-in-Use : goal.returns-in-Use
-returns-in-Use c = rw c.in-Use.is c.use_quietly.ensures
+returns-in-Use c = rw c.in-Use.is (c.use_quietly.ensures (classes_of c.args.linked.now.classes.items) c.requires.runs)
