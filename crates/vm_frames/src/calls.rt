@@ -36,6 +36,7 @@ impl State {
     ///
     /// # Errors
     /// `Memory` only, and then nothing has changed.
+    #[inline(always)]
     pub fn enter(&mut self, callee: Callee) -> Result<(), Memory>
         requires place { self.old.machine.frame.place < 2 ^ 32 - 1 }
         requires args { callee.args ≤ length self.old.machine.frame.operands }
@@ -67,6 +68,7 @@ impl State {
     }
 
     /// The frame that goes on where the running one is left, if one waits.
+    #[inline(always)]
     pub fn waiting(&self) -> Option<Waiting>
         ensures nearest { MatchOption result (self.now.machine.callers ≡ [])
             (λ w. IsNearest w.class w.method w.operands self.now.machine.callers) }
@@ -86,6 +88,7 @@ impl State {
     }
 
     /// Leaves the running frame for the nearest that waits, if one does, and hands a value to it.
+    #[inline(always)]
     pub fn leave(&mut self, value: Option<Cell>) -> bool
         requires { IfSome value (IsSet (length self.old.texts)) }
         ensures yes { OnTrue result (left_to self.old.machine (option_to_list (option_map (value_in self.old.texts) value))

@@ -15,6 +15,7 @@ const LAST: usize = 0xffff_fffe;
 
 impl State {
     /// The class of an object, where there is one of this number.
+    #[inline(always)]
     pub fn class_of_object(&self, object: u32) -> Option<u32>
         ensures { result ≡ option_map (λ o. o.class) (slice_get self.now.machine.heap object) }
     {
@@ -22,6 +23,7 @@ impl State {
     }
 
     /// What a field of an object holds, where there are both.
+    #[inline(always)]
     pub fn field(&self, object: u32, field: u32) -> Option<Cell>
         ensures value { option_map (value_in self.now.texts) result ≡ field_in self.now.machine.heap object field }
         ensures set { IfSome result (IsSet (length self.now.texts)) }
@@ -73,6 +75,7 @@ impl State {
 }
 
 /// The class of the object of a number.
+#[inline(always)]
 fn class_at(heap: &[Object], object: u32) -> Option<u32>
     ensures { result ≡ option_map (λ o. o.class) (slice_get heap.now object) }
 {
@@ -83,6 +86,7 @@ fn class_at(heap: &[Object], object: u32) -> Option<u32>
 }
 
 /// The cell of a field of the object of a number.
+#[inline(always)]
 fn cell_at(heap: &[Object], object: u32, field: u32) -> Option<Cell>
     ensures { result ≡ cell_in heap.now object field }
 {

@@ -24,6 +24,7 @@ impl State {
     }
 
     /// The number of this text, where it is noted that the next instruction pushed it.
+    #[inline(always)]
     pub fn noted(&self, text: &Text) -> Option<u32>
         ensures within { IfSome result (λ n. n < length self.now.texts) }
         ensures says { IfSome result (λ n. slice_index_or self.now.texts n [] ≡ text.now) }

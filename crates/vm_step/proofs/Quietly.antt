@@ -1,9 +1,10 @@
 -- Fields, calls, returns and `equals` where nothing is wrong with them and they tell nothing.
-use Rattle.std.proofs.Common.{◌≡◌, ℕ, zero, suc, ◌+◌, ◌-◌, ◌<◌, ◌≤◌, Bool, true, false, List, [], ◌∷◌, ◌++◌, length, map, drop, get_or, set}
+use Rattle.std.proofs.Common.{◌≡◌, ℕ, ◌+◌, ◌-◌, ◌<◌, ◌≤◌, Bool, true, false, List, [], ◌∷◌, ◌++◌, length, map, drop, get_or, set}
 use Rattle.std.proofs.Common.{slice_get}
-use Rattle.std.proofs.Common.{Option, Some, None, refl, sym, ap, ◌∙◌, subst, arith, add-zero, add-one, add-suc}
+use Rattle.std.proofs.Common.{Option, Some, None, refl, sym, ap, ◌∙◌, subst, arith, add-one}
 use Rattle.std.specs.Prelude.{option_map, ◌||◌, codes}
 use Rattle.std.specs.Bool.{OnTrue, OnFalse}
+use Rattle.std.specs.Prelude.{if◌then◌else◌}
 use Rattle.std.specs.Str.{bytes_eq}
 use Rattle.std.proofs.lemmas.List.{drop_more, length-map}
 use Rattle.std.proofs.lemmas.Slice.Eq.{bytes_eq-Decides}
@@ -11,23 +12,23 @@ use Rattle.std.proofs.lemmas.Option.{slice_get_within, get_or_from_slice_get}
 use Rattle.mg_text.specs.declared.event.BadKind.{BadKind}
 use Rattle.vm_model.specs.declared.value.Value.{Value}
 use Rattle.vm_model.specs.declared.value.Value.TheVariants as values
-use Rattle.vm_model.specs.Program.{Program, class_name, field_at, method_at}
+use Rattle.vm_model.specs.Program.{Program, MethodOf, Instr, class_name, field_at, method_at}
 use Rattle.vm_model.specs.Machine as model
 use Rattle.vm_model.specs.Machine.{Machine, Frame, Went}
 use Rattle.vm_model.specs.Types.{FieldType, Named, signature_of}
 use Rattle.vm_model.specs.declared.linked.Built.TheVariants as built
-use Rattle.vm_model.specs.Actions.{Action, Sort, Reference, Read, Write, Call, Return, Use, Static, Silent}
+use Rattle.vm_model.specs.Actions.{Action, action, Sort, Reference, Read, Write, Call, Return, Use, Static, Silent}
 use Rattle.vm_model.specs.Tests.{Want, Typed, Returned, needs, wrong, taking, returning, returned, call_needs, call_takes, below, on_top}
 use Rattle.vm_model.specs.Tests.{misfit, misfits, misfit_class, misfit_type, misfit_sort, first_of, some_of, is_kind, is_member, is_sort}
 use Rattle.vm_model.specs.Tests.{type_in, text}
 use Rattle.vm_model.specs.Tests.{object_name, params_in, descriptor_in, result_in, max_stack_in, max_locals_in, method_of_frame}
-use Rattle.vm_model.specs.Step.{calls, calls_in, left, next, same_text, truth}
+use Rattle.vm_model.specs.Step.{act_at, act_some, calls, calls_in, code_in, left, next, same_text, truth}
 use Rattle.vm_frames.specs.Frames.{entered, left_to, IsNearest}
-use Rattle.vm_step.specs.Alone.{Quiet, QuietStep, StepAlone, AllAlone}
+use Rattle.vm_step.specs.Alone.{Quiet, Alone, Stays, Runs, Leads, LeadsAlone, AllAlone}
 use Rattle.vm_step.specs.inner.Tops.{at_top, text_in}
 use Rattle.vm_step.specs.inner.Builts.{equals_by}
 use Rattle.vm_step.specs.inner.Objects.{field_in, reads_at, reads_by}
-use Rattle.vm_step.specs.inner.Calls.{HasRoom}
+use Rattle.vm_step.specs.inner.Calls.{Awaits}
 use Rattle.vm_step.proofs.Acts.{on_top_next}
 use Rattle.vm_step.proofs.Calling.{calls_is, returns_is}
 use Rattle.vm_step.proofs.Frames.{writes_is}
@@ -87,32 +88,71 @@ one_less g p heap test xs vs at x v lt is found fits none =
     ∙ ap (λ o. test o || some_of test (misfits p heap (map Typed (map g (drop (at + 1) xs))) (drop (at + 1) vs))) fits
     ∙ ap (λ b. b || some_of test (misfits p heap (map Typed (map g (drop (at + 1) xs))) (drop (at + 1) vs))) none)
 
--- a waiting frame that may have so many operands more
-pub near_room : (p : Program) (class method operands given room : ℕ) (fs : List Frame) → IsNearest class method operands fs →
-    room ≡ max_stack_in (method_at p class method) → operands + given ≤ room → HasRoom p given fs
-near_room p class method operands given room [] near is le = absurd near
-near_room p class method operands given room (f ∷ fs) near is le =
-    let here : max_stack_in (method_at p class method) ≡ max_stack_in (method_at p f.class f.method) =
-    (λ i. max_stack_in (method_at p (near.0 i) (near.1 i))) in
-    omega (arith, near.2, is, here, le)
+-- a frame that waits, and may have so many operands more
+pub near_room : (p : Program) (class method operands given : ℕ) (found : MethodOf) (fs : List Frame) →
+    IsNearest class method operands fs → Some found ≡ method_at p class method → operands + given ≤ found.max_stack →
+    Awaits p given found fs
+near_room p class method operands given found [] near is le = absurd near
+near_room p class method operands given found (f ∷ fs) near is le =
+    (is ∙ (λ i. method_at p (near.0 i) (near.1 i)), omega (arith, near.2, le))
 
--- a step that ends with a return
-pub quiet_if : (p : Program) (a : Action) (m m' : Machine) {R : Type 0} (S : Type 0) (b : Bool) → OnTrue b R → OnFalse b (S × (m' ≡ m)) →
-    (R → Quiet p a m m' true) → Quiet p a m m' b
-quiet_if p a m m' S true h k f = f h
-quiet_if p a m m' S false h k f = k.1
+-- it is left to
+pub left_so : (p : Program) (given : ℕ) (found : MethodOf) (fs : List Frame) {R S : Type 0} (b : Bool) → Awaits p given found fs →
+    OnTrue b R → OnFalse b ((fs ≡ []) × S) → R
+left_so p given found fs true awaits h k = h
+left_so p given found fs false awaits h k = absurd (subst (Awaits p given found) k.0 awaits)
 
--- and with a call
-pub quiet_call : (p : Program) (a : Action) (m m' : Machine) {R : Type 0} (b : Bool) → OnTrue b R → OnFalse b (m' ≡ m) →
-    (R → Quiet p a m m' true) → Quiet p a m m' b
-quiet_call p a m m' true h k f = f h
-quiet_call p a m m' false h k f = k
+pub left_runs : (p : Program) (m new : Machine) (vs : List Value) (given : ℕ) (found : MethodOf) (fs : List Frame) →
+    Awaits p given found fs → left_to m vs fs ≡ Some new → Runs p new found
+left_runs p m new vs given found [] awaits is = absurd awaits
+left_runs p m new vs given found (f ∷ fs) awaits is =
+    awaits.0 ∙ ap (λ (n : Machine). method_of_frame p n.frame)
+    (some_is (record m { frame = record f { operands = f.operands ++ vs }; callers = fs }) new is)
+
+-- what is entered runs
+pub entered_runs : (p : Program) (m new : Machine) (class method args locals : ℕ) (told : Option ℕ) (found : MethodOf) →
+    Some found ≡ method_at p class method → new ≡ entered m class method args locals told → Runs p new found
+entered_runs p m new class method args locals told found at is =
+    at ∙ sym (ap (λ (n : Machine). method_of_frame p n.frame) is)
+
+-- Where an action stays in the method, that runs on.
+module _ (p : Program) (a : Action) (m m' : Machine) (method : MethodOf) (runs : Runs p m method) where
+  pub stays_leads : (b : Bool) → Stays p a m m' b → Leads p a m m' (if b then Some method else None)
+  stays_leads true h = (h.1, runs ∙ (λ i. method_at p (sym h.0.0 i) (sym h.0.1 i)))
+  stays_leads false h = h
+
+  pub alone_leads : (b : Bool) → Alone method.max_stack a m m' b → Leads p a m m' (if b then Some method else None)
+  alone_leads true h = stays_leads true (h.0, h.1 p (sym (ap max_stack_in runs)))
+  alone_leads false h = h
+
+-- the next action is the next step
+pub next_leads : (p : Program) (m m' : Machine) (method : MethodOf) (i : Instr) (a : Action) (o : Option MethodOf) → Runs p m method →
+    slice_get method.code m.frame.place ≡ Some i → action i.op i.args ≡ Some a → Leads p a m m' o → LeadsAlone p m m' o
+next_leads p m m' method i a None runs at is h = h
+next_leads p m m' method i a (Some found) runs at is h = (
+  λ me q.
+      ap (λ x. act_at p q m me (slice_get (code_in x) m.frame.place)) (sym runs) ∙ ap (act_at p q m me) at ∙ ap (act_some p q m me) is
+      ∙ h.0 me q,
+  h.1,
+)
+
+-- steps after steps
+pub leads_on : (p : Program) (m n k : Machine) (taken : ℕ) (found : MethodOf) (o : Option MethodOf) → o ≡ Some found →
+    AllAlone p m taken n → LeadsAlone p n k o → AllAlone p m (taken + 1) k × Runs p k found
+leads_on p m n k taken found None e all h = absurd (cc e)
+leads_on p m n k taken found (Some x) e all h =
+    (subst (λ j. AllAlone p m j k) (sym (add-one taken)) (n, (all, h.0)), subst (Runs p k) (some_is x found e) h.1)
+
+pub leads_no_more : (p : Program) (m n k : Machine) (taken : ℕ) (o : Option MethodOf) → o ≡ None → AllAlone p m taken n →
+    LeadsAlone p n k o → AllAlone p m taken k
+leads_no_more p m n k taken None e all h = subst (AllAlone p m taken) (sym h) all
+leads_no_more p m n k taken (Some x) e all h = absurd (cc e)
 
 module _ (p : Program) (m new : Machine) where
   pub quiet_read : (class field n : ℕ) (v : Value) → 1 ≤ length m.frame.operands →
       length m.frame.operands ≤ max_stack_in (method_of_frame p m.frame) → at_top m.frame.operands 0 ≡ Some (values.Object n) →
       option_map (λ o. o.class) (slice_get m.heap n) ≡ Some class → Some v ≡ field_in m.heap n field →
-      new ≡ next m (below 1 m.frame.operands ++ v ∷ []) → Quiet p (Read class field) m new true
+      new ≡ next m (below 1 m.frame.operands ++ v ∷ []) → Quiet p (Read class field) m new
   quiet_read class field n v some room top is holds made = λ me q.
       let found : (test : Option BadKind → Bool) → test None ≡ false →
       some_of test (None ∷ misfits p m.heap (Typed (Named (class_name p class)) ∷ []) (on_top 1 m.frame.operands)) ≡ false =
@@ -132,7 +172,7 @@ module _ (p : Program) (m new : Machine) where
       at_top m.frame.operands 0 ≡ Some w → option_map (λ o. o.class) (slice_get m.heap n) ≡ Some class → slice_get m.heap n ≡ Some o →
       type_in (field_at p class field) ≡ Typed type → misfit_type p m.heap type w ≡ None →
       new ≡ next (record m { heap = set m.heap n (record o { fields = set o.fields field w }) }) (below 2 m.frame.operands) →
-      Quiet p (Write class field) m new true
+      Quiet p (Write class field) m new
   quiet_write class field n w type o some room first second is object typed fits made = λ me q.
       let found : (test : Option BadKind → Bool) → test None ≡ false →
       some_of test (None ∷ misfits p m.heap (Typed (Named (class_name p class)) ∷ type_in (field_at p class field) ∷ [])
@@ -153,7 +193,7 @@ module _ (p : Program) (m new : Machine) where
   pub quiet_equals : (t : List ℕ) (w : Value) → 2 ≤ length m.frame.operands →
       length m.frame.operands - 1 ≤ max_stack_in (method_of_frame p m.frame) → Some t ≡ text_in (at_top m.frame.operands 1) →
       at_top m.frame.operands 0 ≡ Some w → misfit_sort Reference w ≡ None →
-      new ≡ next m (below 2 m.frame.operands ++ truth (same_text t w) ∷ []) → Quiet p (Use built.Equals) m new true
+      new ≡ next m (below 2 m.frame.operands ++ truth (same_text t w) ∷ []) → Quiet p (Use built.Equals) m new
   quiet_equals t w some room first second sorted made = λ me q.
       let found : (test : Option BadKind → Bool) → test None ≡ false →
       some_of test (None ∷ misfits p m.heap (text ∷ Typed (Named (codes "java/lang/Object")) ∷ []) (on_top 2 m.frame.operands))
@@ -185,7 +225,7 @@ module _ (p : Program) (m new : Machine) where
     pub quiet_static : (taken : ℕ) → length types ≡ taken → taken ≤ length m.frame.operands → taken ≤ locals →
         ((test : Option BadKind → Bool) → test None ≡ false →
         some_of test (misfits p m.heap (map Typed types) (on_top taken m.frame.operands)) ≡ false) →
-        new ≡ entered m class method taken locals None → Quiet p (Call Static class method) m new true
+        new ≡ entered m class method taken locals None → Quiet p (Call Static class method) m new
     quiet_static taken count within fitting fits is = λ me q.
         let long : length (map Typed types) ≡ taken = length-map types Typed ∙ count in
         let all : length (call_takes p Static class (method_at p class method)) ≡ taken = ap (λ l. length (map Typed l)) params ∙ long in
@@ -200,7 +240,7 @@ module _ (p : Program) (m new : Machine) where
         at_top m.frame.operands count ≡ Some (values.Object n) → option_map (λ o. o.class) (slice_get m.heap n) ≡ Some class →
         ((test : Option BadKind → Bool) → test None ≡ false →
         some_of test (misfits p m.heap (map Typed types) (on_top count m.frame.operands)) ≡ false) →
-        new ≡ entered m class method (count + 1) locals None → Quiet p (Call Silent class method) m new true
+        new ≡ entered m class method (count + 1) locals None → Quiet p (Call Silent class method) m new
     quiet_silent count n counted within fitting object of fits is = λ me q.
         let takes : List Want = Typed (Named (class_name p class)) ∷ map Typed types in
         let long : length takes ≡ count + 1 = omega (arith, length-map types Typed, counted) in
@@ -221,51 +261,37 @@ module _ (p : Program) (m new : Machine) where
         ∙ calls_is p q m new class method (count + 1) locals None None (omega (arith, within)) many is
 
   module _ (told : m.frame.told ≡ None) where
-    return_right : (sort : Option Sort) (result : Option FieldType) (fs : List Frame) → HasRoom p (length (returned sort None)) fs →
+    return_right : (sort : Option Sort) (result : Option FieldType) (found : MethodOf) (fs : List Frame) →
+        Awaits p (length (returned sort None)) found fs →
         result_in (signature_of (descriptor_in (method_of_frame p m.frame))) ≡ result → m.callers ≡ fs →
         length (returned sort result) ≤ length m.frame.operands →
         ((test : Option BadKind → Bool) → test None ≡ false →
         some_of test (misfits p m.heap (returned sort result) (on_top (length (returned sort result)) m.frame.operands)) ≡ false) →
         is_sort sort result ≡ true → None ≡ wrong p (needs p m (Return sort)) m
-    return_right sort result [] room answers callers within fits kind = absurd room
-    return_right sort result (f ∷ fs) room answers callers within fits kind =
+    return_right sort result found [] awaits answers callers within fits kind = absurd awaits
+    return_right sort result found (f ∷ fs) awaits answers callers within fits kind =
+        let most : found.max_stack ≡ max_stack_in (method_of_frame p f) = ap max_stack_in awaits.0 in
+        let room : length f.operands + length (returned sort None) ≤ max_stack_in (method_of_frame p f) = omega (arith, most, awaits.1) in
         nothing_wrong (returning p (f ∷ fs) sort (record (taking p m (returned sort result) 0) { returns = is_sort sort result })) m
         (None ∷ misfits p m.heap (returned sort result) (on_top (length (returned sort result)) m.frame.operands)) within
         (fits is_kind refl) (omega arith) (fits is_member refl) kind room
         ∙ (λ i. wrong p (returning p (sym callers i) sort
         (record (taking p m (returned sort (sym answers i)) 0) { returns = is_sort sort (sym answers i) })) m)
 
-    pub quiet_return : HasRoom p 0 m.callers → result_in (signature_of (descriptor_in (method_of_frame p m.frame))) ≡ None →
-        left_to m [] m.callers ≡ Some new → Quiet p (Return None) m new true
-    quiet_return room answers is = λ me q.
-        return_none_is p q m me (return_right None None m.callers room answers refl (omega arith) (λ test none. refl) refl)
+    pub quiet_return : (found : MethodOf) → Awaits p 0 found m.callers → result_in (signature_of (descriptor_in (method_of_frame p m.frame))) ≡ None →
+        left_to m [] m.callers ≡ Some new → Quiet p (Return None) m new
+    quiet_return found awaits answers is = λ me q.
+        return_none_is p q m me (return_right None None found m.callers awaits answers refl (omega arith) (λ test none. refl) refl)
         ∙ returns_is q m new [] m.callers None is (sym (ap (λ t. left t []) told))
 
-    pub quiet_return_value : (sort : Sort) (type : FieldType) (v : Value) → HasRoom p 1 m.callers →
+    pub quiet_return_value : (sort : Sort) (type : FieldType) (v : Value) (found : MethodOf) → Awaits p 1 found m.callers →
         result_in (signature_of (descriptor_in (method_of_frame p m.frame))) ≡ Some type → 1 ≤ length m.frame.operands →
         at_top m.frame.operands 0 ≡ Some v → misfit_sort sort v ≡ None → misfit_type p m.heap type v ≡ None →
-        left_to m (v ∷ []) m.callers ≡ Some new → Quiet p (Return (Some sort)) m new true
-    quiet_return_value sort type v room answers some top sorted typed is = λ me q.
+        left_to m (v ∷ []) m.callers ≡ Some new → Quiet p (Return (Some sort)) m new
+    quiet_return_value sort type v found awaits answers some top sorted typed is = λ me q.
         return_some_is p q m me sort v
-        (return_right (Some sort) (Some type) m.callers room answers refl some
+        (return_right (Some sort) (Some type) found m.callers awaits answers refl some
         (λ test none. ap (λ l. some_of test (misfits p m.heap (Returned sort (Some type) ∷ []) l)) (top_one m.frame.operands v some top)
         ∙ ap (λ o. some_of test (first_of o (misfit_type p m.heap type v) ∷ [])) sorted ∙ ap (λ o. some_of test (o ∷ [])) typed
         ∙ (rw none refl)) refl) top
         ∙ returns_is q m new (v ∷ []) m.callers None is (sym (ap (λ t. left t (v ∷ [])) told))
-
--- steps after steps
-pub all_more : (p : Program) (m n k : Machine) (a b : ℕ) → AllAlone p m a n → AllAlone p n b k → AllAlone p m (a + b) k
-all_more p m n k a zero all same = subst (λ j. AllAlone p m j k) (sym (add-zero a)) (subst (AllAlone p m a) (sym same) all)
-all_more p m n k a (suc b) all (x, (more, one)) =
-    subst (λ j. AllAlone p m j k) (sym (add-suc a b)) (x, (all_more p m n x a b all more, one))
-
-pub all_then : (p : Program) (m n k : Machine) (a : ℕ) → AllAlone p m a n → StepAlone p n k → AllAlone p m (a + 1) k
-all_then p m n k a all one = subst (λ j. AllAlone p m j k) (sym (add-one a)) (n, (all, one))
-
-pub all_still : (p : Program) (m n k : Machine) (a : ℕ) (b : Bool) → b ≡ false → QuietStep p n k b → AllAlone p m a n → AllAlone p m a k
-all_still p m n k a true e h all = absurd (cc e)
-all_still p m n k a false e h all = subst (AllAlone p m a) (sym h) all
-
-pub quiet_is : (p : Program) (m m' : Machine) (b : Bool) → b ≡ true → QuietStep p m m' b → StepAlone p m m'
-quiet_is p m m' true e h = h
-quiet_is p m m' false e h = absurd (cc e)

@@ -7,19 +7,18 @@ use Rattle.std.proofs.lemmas.Bool.Decides.{nat_tests}
 use Rattle.mg_text.specs.declared.event.BadKind.{BadKind}
 use Rattle.vm_model.specs.declared.value.Value.{Value}
 use Rattle.vm_model.specs.declared.value.Value.TheVariants as values
-use Rattle.vm_model.specs.Program.{Program, Instr, MethodOf, method_at}
+use Rattle.vm_model.specs.Program.{Program}
 use Rattle.vm_model.specs.Machine.{Machine, Went}
 use Rattle.vm_model.specs.Arithmetic.{wrap, computed, compares, switched}
 use Rattle.std.specs.Bool.{OnTrue, OnFalse}
-use Rattle.std.proofs.Common.{add-one, subst}
 use Rattle.vm_frames.specs.Seen.{held_in}
 use Rattle.vm_model.specs.Actions.{Action, Sort, Number, Reference, Operation, Comparison, Push, Load, Store, Pop, Double, Compute, Negate}
 use Rattle.vm_model.specs.Actions.{Increase, IfZero, IfBoth, IfNull, Go, Switch}
 use Rattle.vm_model.specs.Tests as model
 use Rattle.vm_model.specs.Tests.{Needs, needs, wrong_by, below, on_top, misfits, misfit_local, misfit_sort, some_of}
-use Rattle.vm_model.specs.Tests.{is_kind, is_member, is_null, max_stack_in, method_of_frame}
-use Rattle.vm_model.specs.Step.{code_in, next, at_place, with_local, pushed, computed_to, same_truth}
-use Rattle.vm_step.specs.Alone.{SameMethod, Alone, NextAlone, AllAlone}
+use Rattle.vm_model.specs.Tests.{is_kind, is_member, is_null}
+use Rattle.vm_model.specs.Step.{next, at_place, with_local, pushed, computed_to, same_truth}
+use Rattle.vm_step.specs.Alone.{SameMethod, Alone}
 use Rattle.vm_step.specs.inner.Tops.{at_top, int_in, int_of_local}
 use Rattle.vm_step.specs.inner.Acts.{stored_by, computes_by, negates_by, increased_by, on_zero_by, on_both_by, on_null_by}
 use Rattle.vm_step.specs.inner.Acts.{switches_by}
@@ -78,7 +77,7 @@ unfolding two
 top_two vs v w h e f = by_two (λ l. l) two (λ u t. refl) vs h ∙ ap (λ o. two o (at_top vs 0)) e ∙ ap (two (Some v)) f
 
 module _ (max : ℕ) (m m' : Machine) where
-  stays : {place : ℕ} {locals : List (Option Value)} {operands : List Value} →
+  pub stays : {place : ℕ} {locals : List (Option Value)} {operands : List Value} →
       m' ≡ record m { frame = record m.frame { place = place; locals = locals; operands = operands } } → SameMethod m m'
   stays is = (ap (λ (n : Machine). n.frame.class) is, ap (λ (n : Machine). n.frame.method) is)
 
@@ -298,25 +297,3 @@ held_is (Some o) v e = ap Some (sym e)
 
 pub some_is : {A : Type 0} (x y : A) → Some x ≡ Some y → x ≡ y
 some_is x y e = cc
-
--- Steps one after another.
-
-module _ (p : Program) (m n : Machine) (same : SameMethod m n) (method : MethodOf)
-    (is : Some method ≡ method_at p m.frame.class m.frame.method) where
-  runs : method_of_frame p n.frame ≡ Some method
-  runs = (λ i. method_at p (same.0 i) (same.1 i)) ∙ sym is
-
-  pub more_alone : (k : Machine) (taken max : ℕ) (code : List Instr) (b : Bool) → b ≡ true → AllAlone p m taken n →
-      NextAlone max code n k b →
-      method.max_stack ≡ max → method.code ≡ code → AllAlone p m (taken + 1) k × SameMethod m k
-  more_alone k taken max code true e all (stays, one) room here = (
-    subst (λ j. AllAlone p m j k) (sym (add-one taken)) (n, (all, one p (ap max_stack_in runs ∙ room) (ap code_in runs ∙ here))),
-    (stays.0 ∙ same.0, stays.1 ∙ same.1),
-  )
-  more_alone k taken max code false e all h room here = absurd (cc e)
-
-pub all_alone : (p : Program) (m n k : Machine) (taken max : ℕ) (code : List Instr) (b : Bool) → b ≡ false → AllAlone p m taken n →
-    NextAlone max code n k b →
-    AllAlone p m taken k
-all_alone p m n k taken max code false e all h = subst (AllAlone p m taken) (sym h) all
-all_alone p m n k taken max code true e all h = absurd (cc e)

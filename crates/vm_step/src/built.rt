@@ -66,6 +66,7 @@ pub(crate) fn concat(state: &mut State, alloc: Global) -> Result<Stepped, Memory
 }
 
 /// Whether a value is this text.
+#[inline(always)]
 pub(crate) fn is_text(state: &State, text: &Text, cell: Cell) -> bool
     requires { IsSet (length state.now.texts) cell }
     ensures { result ≡ model.same_text text.now (value_in state.now.texts cell) }

@@ -1,26 +1,23 @@
-//! The frequent instructions where nothing is wrong with them, by the cells where they lie.
-//! What isn't right, needs memory or tells something is left to the general tests.
+//! The instructions that stay in their frame where nothing is wrong with them, by the cells where they lie.
+//! What isn't right or needs memory is left to the general tests.
 
-ghost use Rattle.std.specs.Prelude.{◌≡◌, List, ◌+◌, ◌-◌, ◌<◌, ◌≤◌, ◌^◌, ◌++◌, ◌∷◌, [], length, map, Some, None};
+ghost use Rattle.std.specs.Prelude.{◌≡◌, List, ◌+◌, ◌-◌, ◌<◌, ◌≤◌, ◌^◌, ◌++◌, ◌∷◌, [], length, None};
 ghost use Rattle.std.specs.Bool.{OnTrue, OnFalse};
 ghost use Rattle.vm_model.specs.Actions as actions;
 ghost use Rattle.vm_model.specs.Tests.{misfit_sort};
 ghost use Rattle.vm_model.specs.Step.{next};
-ghost use Rattle.vm_model.specs.View.{instr_of};
 ghost use Rattle.mg_text.specs.Call.{Name};
 ghost use Rattle.vm_frames.specs.Seen.{value_in, IsSet};
 ghost use Rattle.vm_step.specs.State.{state_of, operands_of};
 ghost use Rattle.vm_step.specs.Table.{sort_of, constant_of, operation_of, comparison_of, plain_of};
-ghost use Rattle.vm_step.specs.Alone.{Alone, NextAlone, AllAlone};
+ghost use Rattle.vm_step.specs.Alone.{Alone};
 
-use crate::action::{Action, Comparison, Constant, Operation, Plain, Sort, action_of};
+use crate::action::{Comparison, Constant, Operation, Plain, Sort};
 use crate::arithmetic::{added, compares, computed, negated, switched};
 use crate::needs::is_null;
 use crate::operands::{int_at, int_of_local};
 use crate::plain::{place_after, same_truth};
-use crate::program::method_at;
 use vm_frames::{Cell, State};
-use vm_model::{Linked, LinkedInstr};
 
 /// Whether a value is of this sort.
 #[inline(always)]
@@ -284,7 +281,7 @@ fn switch(state: &mut State, max: u16, default: u32, low: &i32, targets: &[u32])
 
 /// Acts on an instruction that stays in its frame, where nothing is wrong with it.
 #[inline(always)]
-fn act_alone(state: &mut State, max: u16, plain: Plain<'_>) -> bool
+pub(crate) fn act_alone(state: &mut State, max: u16, plain: Plain<'_>) -> bool
     requires { state.old.machine.frame.place < 2 ^ 32 - 1 }
     ensures { Alone max (plain_of plain.entry) (state_of state.old) (state_of state.new) result }
 {
@@ -308,39 +305,4 @@ fn act_alone(state: &mut State, max: u16, plain: Plain<'_>) -> bool
             targets,
         } => switch(state, max, default, low, targets),
     }
-}
-
-/// Takes the next step of the method that runs, whose code this is, where it stays in its frame and
-/// nothing is wrong with it. Else nothing changes.
-#[inline(always)]
-fn next_alone(state: &mut State, max: u16, code: &[LinkedInstr]) -> bool
-    requires { length code.now < 2 ^ 32 }
-    ensures { NextAlone max (map instr_of code.now) (state_of state.old) (state_of state.new) result }
-{
-    let Some(instr) = code.get(state.place() as usize) else {
-        return false;
-    };
-    match action_of(instr) {
-        Some(Action::Plain(plain)) => act_alone(state, max, plain),
-        _ => false,
-    }
-}
-
-/// Takes steps that stay in their frame, at most so many, up to the first with which something is
-/// wrong, and answers how many they were.
-pub(crate) fn steps_here(state: &mut State, linked: &Linked, most: u32) -> u32
-    ensures most { result ≤ most }
-    ensures steps { AllAlone linked.now (state_of state.old) result (state_of state.new) }
-{
-    let Some(method) = method_at(linked, state.class(), state.method()) else {
-        return 0;
-    };
-    let max = method.max_stack;
-    let code = method.code.as_slice();
-    for taken in 0..most {
-        if !next_alone(state, max, code) {
-            return taken;
-        }
-    }
-    most
 }

@@ -89,18 +89,21 @@ fn is_of(class: &str, name: &str) -> bool
     name == "java/lang/Object" || name == class
 }
 
+#[inline(always)]
 fn kind_unless(right: bool) -> Option<BadKind>
     ensures { result ≡ model.kind_unless right }
 {
     if right { None } else { Some(BadKind::Kind) }
 }
 
+#[inline(always)]
 fn is_reference(cell: Cell) -> bool
     ensures { (texts : List Name) → result ≡ model.is_reference (value_in texts cell) }
 {
     !matches!(cell, Cell::Int(_))
 }
 
+#[inline(always)]
 pub(crate) fn is_null(cell: Cell) -> bool
     ensures { (texts : List Name) → result ≡ model.is_null (value_in texts cell) }
 {
@@ -130,6 +133,7 @@ fn misfit_class(linked: &Linked, state: &State, name: &str, cell: Cell) -> Optio
 }
 
 /// Why a value doesn't meet a type.
+#[inline(always)]
 pub(crate) fn misfit_type(
     linked: &Linked,
     state: &State,

@@ -27,6 +27,7 @@ pub(crate) fn int_at(state: &State, depth: usize) -> Option<i32>
 }
 
 /// The same where it is a text.
+#[inline(always)]
 pub(crate) fn text_at(state: &State, depth: usize) -> Option<&Text>
     requires { depth < length (operands_of state.now) }
     ensures { option_map (λ t. t.now) result ≡ text_in (at_top (operands_of state.now) depth) }

@@ -12,6 +12,7 @@ ghost use Rattle.vm_model.specs.Tests.{max_stack_in, max_locals_in, descriptor_i
 use vm_model::{FieldType, Linked, LinkedClass, LinkedField, LinkedMethod, LinkedType};
 
 /// The class of this number.
+#[inline(always)]
 pub(crate) fn class_at(linked: &Linked, class: u32) -> Option<&LinkedClass>
     ensures { option_map (λ c. class_of c.now) result ≡ model.class_at linked.now class }
 {
@@ -29,6 +30,7 @@ pub(crate) fn class_name(linked: &Linked, class: u32) -> &str
 }
 
 /// The method of these numbers.
+#[inline(always)]
 pub(crate) fn method_at(linked: &Linked, class: u32, method: u32) -> Option<&LinkedMethod>
     ensures { option_map (λ m. method_of m.now) result ≡ model.method_at linked.now class method }
 {
@@ -49,6 +51,7 @@ pub(crate) fn field_at(linked: &Linked, class: u32, field: u32) -> Option<&Linke
 }
 
 /// How many operands a method may have.
+#[inline(always)]
 pub(crate) fn max_stack(method: Option<&LinkedMethod>) -> usize
     ensures value { result ≡ max_stack_in (option_map (λ m. method_of m.now) method.entry) }
     ensures bound { result < 2 ^ 16 }
@@ -71,6 +74,7 @@ pub(crate) fn max_locals(method: Option<&LinkedMethod>) -> usize
 }
 
 /// A kept type, lent.
+#[inline(always)]
 pub(crate) fn lent<'a>(kept: &'a Option<LinkedType>) -> Option<FieldType<'a>>
     ensures { option_map type_view result ≡ option_map type_kept kept.now }
 {
@@ -81,6 +85,7 @@ pub(crate) fn lent<'a>(kept: &'a Option<LinkedType>) -> Option<FieldType<'a>>
 }
 
 /// The type of what a method answers.
+#[inline(always)]
 pub(crate) fn result_type<'a>(method: Option<&'a LinkedMethod>) -> Option<FieldType<'a>>
     ensures { option_map type_view result ≡ result_in (signature_of (descriptor_in (option_map (λ m. method_of m.now) method.entry))) }
 {

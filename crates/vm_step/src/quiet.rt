@@ -1,30 +1,32 @@
-//! Fields, calls, returns and `equals` where nothing is wrong with them and they tell nothing, by the cells where they lie.
-//! What isn't right, tells something or finds no memory is left to the general tests.
+//! Steps with which nothing is wrong and that tell nothing, by the cells where they lie: each instruction is looked at once, and each
+//! method where it begins to run. What isn't right, tells something or finds no memory is left to the general tests.
 
 ghost use Rattle.std.specs.Prelude.{◌≡◌, ◌-◌, ◌<◌, ◌≤◌, ◌^◌, Bool, false, Option, None, Some, length, map, option_map, slice_get, IfSome};
+ghost use Rattle.std.specs.Prelude.{if◌then◌else◌, OnSome};
 ghost use Rattle.std.specs.Bool.{OnTrue, OnFalse};
 ghost use Rattle.mg_text.specs.declared.event.BadKind.{BadKind};
-ghost use Rattle.vm_model.specs.Program.{method_at};
 ghost use Rattle.vm_model.specs.declared.linked.Built.TheVariants as builts;
 ghost use Rattle.vm_model.specs.Actions as actions;
 ghost use Rattle.vm_model.specs.Kept.{type_kept};
+ghost use Rattle.vm_model.specs.Program.{Program};
 ghost use Rattle.vm_model.specs.Tests.{Typed, max_stack_in, method_of_frame, misfits, on_top, some_of};
+ghost use Rattle.vm_model.specs.View.{instr_of, method_of};
 ghost use Rattle.vm_frames.specs.Frames.{entered};
 ghost use Rattle.vm_step.specs.State.{state_of, operands_of};
-ghost use Rattle.vm_step.specs.Table.{sort_of, calling_of};
-ghost use Rattle.vm_step.specs.Alone.{Quiet, QuietStep, AllAlone};
-ghost use Rattle.vm_step.specs.inner.Calls.{HasRoom};
+ghost use Rattle.vm_step.specs.Table.{sort_of, calling_of, action_of};
+ghost use Rattle.vm_step.specs.Alone.{Alone, Stays, Runs, Leads, LeadsAlone, AllAlone};
+ghost use Rattle.vm_step.specs.inner.Calls.{Awaits};
 
 use crate::action::{Action, Calling, Sort, action_of};
 use crate::built::is_text;
-use crate::frequent::{is_of_sort, steps_here};
+use crate::frequent::{act_alone, is_of_sort};
 use crate::needs::{Want, misfit_type};
 use crate::operands::text_at;
-use crate::program::{field_at, max_stack, method_at, result_type};
+use crate::program::{field_at, method_at, result_type};
 use crate::session::truth;
-use crate::step::{field_want, next_instr};
+use crate::step::field_want;
 use vm_frames::{Callee, Cell, State};
-use vm_model::{Built, Linked, LinkedType};
+use vm_model::{Built, Linked, LinkedInstr, LinkedMethod, LinkedType};
 
 /// The number of an object, where a value is one of the class of this number.
 #[inline(always)]
@@ -41,24 +43,17 @@ fn object_of(state: &State, cell: Cell, class: u32) -> Option<u32>
     }
 }
 
-/// How many operands the method that runs may have.
-#[inline(always)]
-fn room(linked: &Linked, state: &State) -> usize
-    ensures { result ≡ max_stack_in (method_of_frame linked.now (state_of state.now).frame) }
-{
-    max_stack(method_at(linked, state.class(), state.method()))
-}
-
 /// Pushes what a field of the object on top holds, in the object's place.
-fn read(state: &mut State, linked: &Linked, class: u32, field: u32) -> bool
+#[inline(always)]
+fn read(state: &mut State, max: u16, class: u32, field: u32) -> bool
     requires { state.old.machine.frame.place < 2 ^ 32 - 1 }
-    ensures { Quiet linked.now (actions.Read class field) (state_of state.old) (state_of state.new) result }
+    ensures { Alone max (actions.Read class field) (state_of state.old) (state_of state.new) result }
 {
     let count = state.depth();
     if count < 1 {
         return false;
     }
-    if count > room(linked, state) {
+    if count > usize::from(max) {
         return false;
     }
     let Some(object) = object_of(state, state.operand(0), class) else {
@@ -73,15 +68,17 @@ fn read(state: &mut State, linked: &Linked, class: u32, field: u32) -> bool
 }
 
 /// Takes the value on top into a field of the object under it.
-fn write(state: &mut State, linked: &Linked, class: u32, field: u32) -> bool
-    requires { state.old.machine.frame.place < 2 ^ 32 - 1 }
-    ensures { Quiet linked.now (actions.Write class field) (state_of state.old) (state_of state.new) result }
+#[inline(always)]
+fn write(state: &mut State, linked: &Linked, max: u16, class: u32, field: u32) -> bool
+    requires place { state.old.machine.frame.place < 2 ^ 32 - 1 }
+    requires room { max_stack_in (method_of_frame linked.now (state_of state.old).frame) ≡ max }
+    ensures { Stays linked.now (actions.Write class field) (state_of state.old) (state_of state.new) result }
 {
     let count = state.depth();
     if count < 2 {
         return false;
     }
-    if count - 2 > room(linked, state) {
+    if count - 2 > usize::from(max) {
         return false;
     }
     let Some(object) = object_of(state, state.operand(1), class) else {
@@ -101,15 +98,16 @@ fn write(state: &mut State, linked: &Linked, class: u32, field: u32) -> bool
 }
 
 /// Compares the text under the value on top with it.
-fn equals(state: &mut State, linked: &Linked) -> bool
+#[inline(always)]
+fn equals(state: &mut State, max: u16) -> bool
     requires { state.old.machine.frame.place < 2 ^ 32 - 1 }
-    ensures { Quiet linked.now (actions.Use builts.Equals) (state_of state.old) (state_of state.new) result }
+    ensures { Alone max (actions.Use builts.Equals) (state_of state.old) (state_of state.new) result }
 {
     let count = state.depth();
     if count < 2 {
         return false;
     }
-    if count - 1 > room(linked, state) {
+    if count - 1 > usize::from(max) {
         return false;
     }
     let Some(text) = text_at(state, 1) else {
@@ -126,6 +124,7 @@ fn equals(state: &mut State, linked: &Linked) -> bool
 }
 
 /// Whether the operands on top meet these types.
+#[inline(always)]
 fn fit(linked: &Linked, state: &State, params: &[LinkedType]) -> bool
     requires { length params.now ≤ length (operands_of state.now) }
     ensures { OnTrue result ((test : Option BadKind → Bool) → test None ≡ false →
@@ -142,6 +141,7 @@ fn fit(linked: &Linked, state: &State, params: &[LinkedType]) -> bool
 }
 
 /// Runs a method that has so many locals over the running frame, where there is memory.
+#[inline(always)]
 fn enter(state: &mut State, class: u32, method: u32, taken: usize, locals: u16) -> bool
     requires place { state.old.machine.frame.place < 2 ^ 32 - 1 }
     requires within { taken ≤ length (operands_of state.old) }
@@ -163,156 +163,268 @@ fn enter(state: &mut State, class: u32, method: u32, taken: usize, locals: u16) 
 }
 
 /// Calls a static method.
-fn call_static(state: &mut State, linked: &Linked, class: u32, method: u32) -> bool
+#[inline(always)]
+fn call_static<'a>(
+    state: &mut State,
+    linked: &'a Linked,
+    class: u32,
+    method: u32,
+) -> Option<&'a LinkedMethod>
     requires { state.old.machine.frame.place < 2 ^ 32 - 1 }
-    ensures { Quiet linked.now (actions.Call actions.Static class method) (state_of state.old)
-        (state_of state.new) result }
+    ensures { Leads linked.now (actions.Call actions.Static class method) (state_of state.old)
+        (state_of state.new) (option_map (λ x. method_of x.now) result) }
 {
     let Some(called) = method_at(linked, class, method) else {
-        return false;
+        return None;
     };
     let params = called.params.as_slice();
     let taken = params.len();
     if taken > state.depth() {
-        return false;
+        return None;
     }
     if taken > usize::from(called.max_locals) {
-        return false;
+        return None;
     }
     if !fit(linked, state, params) {
-        return false;
+        return None;
     }
-    enter(state, class, method, taken, called.max_locals)
+    if !enter(state, class, method, taken, called.max_locals) {
+        return None;
+    }
+    Some(called)
 }
 
 /// Calls a method of an object that doesn't tell of it.
-fn call_silent(state: &mut State, linked: &Linked, class: u32, method: u32) -> bool
+#[inline(always)]
+fn call_silent<'a>(
+    state: &mut State,
+    linked: &'a Linked,
+    class: u32,
+    method: u32,
+) -> Option<&'a LinkedMethod>
     requires { state.old.machine.frame.place < 2 ^ 32 - 1 }
-    ensures { Quiet linked.now (actions.Call actions.Silent class method) (state_of state.old)
-        (state_of state.new) result }
+    ensures { Leads linked.now (actions.Call actions.Silent class method) (state_of state.old)
+        (state_of state.new) (option_map (λ x. method_of x.now) result) }
 {
     let Some(called) = method_at(linked, class, method) else {
-        return false;
+        return None;
     };
     let params = called.params.as_slice();
     let count = params.len();
     if count >= state.depth() {
-        return false;
+        return None;
     }
     if count >= usize::from(called.max_locals) {
-        return false;
+        return None;
     }
     let Some(_object) = object_of(state, state.operand(count), class) else {
-        return false;
+        return None;
     };
     if !fit(linked, state, params) {
-        return false;
+        return None;
     }
-    enter(state, class, method, count + 1, called.max_locals)
+    if !enter(state, class, method, count + 1, called.max_locals) {
+        return None;
+    }
+    Some(called)
 }
 
-/// Whether a frame waits that may have so many operands more.
-fn has_room(linked: &Linked, state: &State, given: usize) -> bool
+/// The method of the nearest frame that waits, where that may have so many operands more.
+#[inline(always)]
+fn awaiting<'a>(linked: &'a Linked, state: &State, given: usize) -> Option<&'a LinkedMethod>
     requires { given ≤ 1 }
-    ensures { OnTrue result (HasRoom linked.now given (state_of state.now).callers) }
+    ensures { IfSome result (λ x. Awaits linked.now given (method_of x.now) (state_of state.now).callers) }
 {
     let Some(waiting) = state.waiting() else {
-        return false;
+        return None;
     };
-    let room = max_stack(method_at(linked, waiting.class, waiting.method));
-    if waiting.operands + given > room {
-        return false;
+    let Some(method) = method_at(linked, waiting.class, waiting.method) else {
+        return None;
+    };
+    if waiting.operands + given > usize::from(method.max_stack) {
+        return None;
     }
-    true
+    Some(method)
 }
 
 /// Returns from a method of which no object tells, with no value.
-fn return_nothing(state: &mut State, linked: &Linked) -> bool
-    requires { state.old.machine.frame.told ≡ None }
-    ensures { Quiet linked.now (actions.Return None) (state_of state.old) (state_of state.new) result }
+#[inline(always)]
+fn return_nothing<'a>(
+    state: &mut State,
+    linked: &'a Linked,
+    method: &LinkedMethod,
+) -> Option<&'a LinkedMethod>
+    requires told { state.old.machine.frame.told ≡ None }
+    requires runs { Runs linked.now (state_of state.old) (method_of method.now) }
+    ensures { Leads linked.now (actions.Return None) (state_of state.old) (state_of state.new)
+        (option_map (λ x. method_of x.now) result) }
 {
-    if let Some(_answer) = result_type(method_at(linked, state.class(), state.method())) {
-        return false;
+    if let Some(_answer) = result_type(Some(method)) {
+        return None;
     }
-    if !has_room(linked, state, 0) {
-        return false;
-    }
-    state.leave(None)
+    let Some(next) = awaiting(linked, state, 0) else {
+        return None;
+    };
+    let _left = state.leave(None);
+    Some(next)
 }
 
 /// The same with a value of this sort.
-fn return_value(state: &mut State, linked: &Linked, sort: Sort) -> bool
-    requires { state.old.machine.frame.told ≡ None }
-    ensures { Quiet linked.now (actions.Return (Some (sort_of sort))) (state_of state.old) (state_of state.new) result }
+#[inline(always)]
+fn return_value<'a>(
+    state: &mut State,
+    linked: &'a Linked,
+    method: &LinkedMethod,
+    sort: Sort,
+) -> Option<&'a LinkedMethod>
+    requires told { state.old.machine.frame.told ≡ None }
+    requires runs { Runs linked.now (state_of state.old) (method_of method.now) }
+    ensures { Leads linked.now (actions.Return (Some (sort_of sort))) (state_of state.old)
+        (state_of state.new) (option_map (λ x. method_of x.now) result) }
 {
-    let Some(answer) = result_type(method_at(linked, state.class(), state.method())) else {
-        return false;
+    let Some(answer) = result_type(Some(method)) else {
+        return None;
     };
     if state.depth() < 1 {
-        return false;
+        return None;
     }
-    if !has_room(linked, state, 1) {
-        return false;
-    }
+    let Some(next) = awaiting(linked, state, 1) else {
+        return None;
+    };
     let value = state.operand(0);
     if !is_of_sort(sort, value) {
-        return false;
+        return None;
     }
     if let Some(_kind) = misfit_type(linked, state, answer, value) {
-        return false;
+        return None;
     }
-    state.leave(Some(value))
+    let _left = state.leave(Some(value));
+    Some(next)
 }
 
 /// Returns from a method of which no object tells.
-fn return_from(state: &mut State, linked: &Linked, sort: Option<Sort>) -> bool
-    ensures { Quiet linked.now (actions.Return (option_map sort_of sort)) (state_of state.old)
-        (state_of state.new) result }
+#[inline(always)]
+fn return_from<'a>(
+    state: &mut State,
+    linked: &'a Linked,
+    method: &LinkedMethod,
+    sort: Option<Sort>,
+) -> Option<&'a LinkedMethod>
+    requires runs { Runs linked.now (state_of state.old) (method_of method.now) }
+    ensures { Leads linked.now (actions.Return (option_map sort_of sort)) (state_of state.old)
+        (state_of state.new) (option_map (λ x. method_of x.now) result) }
 {
     if let Some(_object) = state.told() {
-        return false;
+        return None;
     }
     match sort {
-        None => return_nothing(state, linked),
-        Some(sort) => return_value(state, linked, sort),
+        None => return_nothing(state, linked, method),
+        Some(sort) => return_value(state, linked, method, sort),
     }
 }
 
 /// Calls a method, where no object tells of it.
-fn call(state: &mut State, linked: &Linked, calling: Calling, class: u32, method: u32) -> bool
+#[inline(always)]
+fn call<'a>(
+    state: &mut State,
+    linked: &'a Linked,
+    calling: Calling,
+    class: u32,
+    method: u32,
+) -> Option<&'a LinkedMethod>
     requires { state.old.machine.frame.place < 2 ^ 32 - 1 }
-    ensures { Quiet linked.now (actions.Call (calling_of calling) class method) (state_of state.old)
-        (state_of state.new) result }
+    ensures { Leads linked.now (actions.Call (calling_of calling) class method) (state_of state.old)
+        (state_of state.new) (option_map (λ x. method_of x.now) result) }
 {
     match calling {
-        Calling::Telling => false,
+        Calling::Telling => None,
         Calling::Silent => call_silent(state, linked, class, method),
         Calling::Static => call_static(state, linked, class, method),
     }
 }
 
-/// Takes the next step, where it works on a field, calls, returns or compares texts, nothing is wrong
-/// with it and it tells nothing. Else nothing changes.
-pub(crate) fn step_quietly(state: &mut State, linked: &Linked) -> bool
-    ensures { QuietStep linked.now (state_of state.old) (state_of state.new) result }
+/// The method that runs, where a step stayed in it.
+#[inline(always)]
+fn kept(method: &LinkedMethod, stayed: bool) -> Option<&LinkedMethod>
+    ensures { option_map (λ x. method_of x.now) result ≡ (if stayed then Some (method_of method.now) else None) }
 {
-    let Some(instr) = next_instr(linked, state) else {
-        return false;
-    };
-    match action_of(instr) {
-        Some(Action::Return(sort)) => return_from(state, linked, sort),
-        Some(Action::Read { class, field }) => read(state, linked, class, field),
-        Some(Action::Write { class, field }) => write(state, linked, class, field),
-        Some(Action::Use(Built::Equals)) => equals(state, linked),
-        Some(
-            Action::Call {
-                calling,
-                class,
-                method,
-            },
-        ) => call(state, linked, calling, class, method),
-        _ => false,
+    if stayed { Some(method) } else { None }
+}
+
+/// Uses a member of a built-in class.
+#[inline(always)]
+fn use_quietly<'a>(
+    state: &mut State,
+    method: &'a LinkedMethod,
+    built: Built,
+) -> Option<&'a LinkedMethod>
+    requires { state.old.machine.frame.place < 2 ^ 32 - 1 }
+    ensures { (p : Program) → Runs p (state_of state.old) (method_of method.now) → Leads p (actions.Use built) (state_of state.old)
+        (state_of state.new) (option_map (λ x. method_of x.now) result) }
+{
+    match built {
+        Built::Equals => kept(method, equals(state, method.max_stack)),
+        _ => None,
     }
+}
+
+/// Acts on an instruction of the method that runs, and answers the method that runs then, where nothing is wrong with it and it
+/// tells nothing. Else nothing changes.
+#[inline(always)]
+fn act_quietly<'a>(
+    state: &mut State,
+    linked: &'a Linked,
+    method: &'a LinkedMethod,
+    action: Action<'_>,
+) -> Option<&'a LinkedMethod>
+    requires place { state.old.machine.frame.place < 2 ^ 32 - 1 }
+    requires runs { Runs linked.now (state_of state.old) (method_of method.now) }
+    ensures { Leads linked.now (action_of action.entry) (state_of state.old) (state_of state.new)
+        (option_map (λ x. method_of x.now) result) }
+{
+    let max = method.max_stack;
+    match action {
+        Action::Plain(plain) => kept(method, act_alone(state, max, plain)),
+        Action::Return(sort) => return_from(state, linked, method, sort),
+        Action::Read { class, field } => kept(method, read(state, max, class, field)),
+        Action::Write { class, field } => kept(method, write(state, linked, max, class, field)),
+        Action::Make(_class) => None,
+        Action::Call {
+            calling,
+            class,
+            method,
+        } => call(state, linked, calling, class, method),
+        Action::Use(built) => use_quietly(state, method, built),
+    }
+}
+
+/// The instruction of a number.
+#[inline(always)]
+fn instr_at(method: &LinkedMethod, place: u32) -> Option<&LinkedInstr>
+    ensures value { option_map (λ i. instr_of i.now) result ≡ slice_get (method_of method.now).code place }
+    ensures place { OnSome result (place < 2 ^ 32 - 1) }
+{
+    method.code.as_slice().get(place as usize)
+}
+
+/// The same of the next instruction.
+#[inline(always)]
+fn step_quietly<'a>(
+    state: &mut State,
+    linked: &'a Linked,
+    method: &'a LinkedMethod,
+) -> Option<&'a LinkedMethod>
+    requires { Runs linked.now (state_of state.old) (method_of method.now) }
+    ensures { LeadsAlone linked.now (state_of state.old) (state_of state.new)
+        (option_map (λ x. method_of x.now) result) }
+{
+    let Some(instr) = instr_at(method, state.place()) else {
+        return None;
+    };
+    let Some(action) = action_of(instr) else {
+        return None;
+    };
+    act_quietly(state, linked, method, action)
 }
 
 /// Takes steps that look at no message and tell nothing, at most so many, up to the first with which
@@ -321,16 +433,15 @@ pub(crate) fn steps_alone(state: &mut State, linked: &Linked, most: u32) -> u32
     ensures most { result ≤ most }
     ensures steps { AllAlone linked.now (state_of state.old) result (state_of state.new) }
 {
-    let mut taken = 0;
-    for _round in 0..most {
-        taken += steps_here(state, linked, most - taken);
-        if taken == most {
-            return taken;
+    let Some(first) = method_at(linked, state.class(), state.method()) else {
+        return 0;
+    };
+    let mut method = first;
+    for taken in 0..most {
+        match step_quietly(state, linked, method) {
+            Some(next) => method = next,
+            None => return taken,
         }
-        if !step_quietly(state, linked) {
-            return taken;
-        }
-        taken += 1;
     }
-    taken
+    most
 }

@@ -276,6 +276,16 @@ module _ (p : Program) where
       takes (suc k) v t =
           catches_up (suc k) t.before t.after t.after v (sym there ∙ t.there) t.alone t.is
 
+    -- who is still in the world of the turns isn't ahead, and is still
+    pub rests_too : StillAt p w r → (get_or ahead r 0 ≡ 0) × Advances p now r now false
+    rests_too still = go (get_or ahead r 0) refl
+      where
+        go : (k : ℕ) → get_or ahead r 0 ≡ k → (get_or ahead r 0 ≡ 0) × Advances p now r now false
+        go zero e = (e, ((λ role at. still_before e role.state (still role (sym (there e) ∙ at))), refl))
+        go (suc k) e =
+            absurd (not_still p w r both.0 both.2 k
+            (subst (λ n. RoleAlone p both.0 n both.2) e (h.roles.each r both.0 both.2 both.1 both.3)) (still both.0 both.1))
+
 -- in a world that rests no role is ahead
 pub rests_caught_up : (p : Program) (w now : World) (ahead : List ℕ) → WorldAhead p w ahead now → Rests p w → now ≡ w
 rests_caught_up p w now ahead h rests =

@@ -1,15 +1,18 @@
 -- Roles that were found still since the last turn that may have moved a message.
 use Rattle.std.proofs.Common.{◌≡◌, ◌≢◌, ◌⊎◌, inl, inr, ◌<◌, ◌≤◌, ◌+◌, ◌-◌, ℕ, zero, suc, List, length, get_or, set, replicate}
-use Rattle.std.proofs.Common.{true, false, refl, sym, ap, ◌∙◌, subst, arith}
+use Rattle.std.proofs.Common.{Bool, true, false, refl, sym, ap, ◌∙◌, subst, arith}
 use Rattle.std.specs.Prelude.{◌==◌}
+use Rattle.std.specs.Bool.{OnFalse}
 use Rattle.std.proofs.lemmas.Bool.Decides.{eqb_tells}
 use Rattle.std.proofs.lemmas.List.{get_or-set_same, get_or-set_other}
 use Rattle.vm_model.specs.Program.{Program}
 use Rattle.vm_world_law.specs.World.{World}
 use Rattle.vm_world_law.specs.Turns.{Advances, StillAt}
 use Rattle.vm_world_law.proofs.Lists.{set_there}
-use Rattle.vm_world.specs.Alone.{Counts}
+use Rattle.vm_world.specs.Alone.{TurnsAlone, Counts}
 use Rattle.vm_world.specs.Seen.{Seen}
+use Rattle.vm_world.specs.Telling.{LastMovesNone}
+use Rattle.vm_world.proofs.Telling.{turn_stays}
 
 -- who was asked at this version is still; a version is at most one more than what was counted
 pub record Asked (now : Seen) (asked : List ℕ) (version left limit : ℕ) : Type 0 where
@@ -34,9 +37,9 @@ none_asked now asked n limit is =
     }
 
 module _ (now : Seen) (asked : List ℕ) (version left limit : ℕ) (h : Asked now asked version left limit) where
-  -- a turn that came before
-  pub asked_less : 0 < left → Asked now asked version (left - 1) limit
-  asked_less some = record { still = h.still; old = h.old; some = h.some; bound = omega (arith, h.bound) }
+  -- turns that came before
+  pub asked_less : (k : ℕ) → Asked now asked version (left - k) limit
+  asked_less k = record { still = h.still; old = h.old; some = h.some; bound = omega (arith, h.bound) }
 
   -- who was asked needs not be asked again
   pub asked_again : (role : ℕ) → get_or asked role 0 ≡ version → Advances now.program now.world role now.world false
@@ -71,36 +74,44 @@ module _ (now : Seen) (asked : List ℕ) (version left limit : ℕ) (h : Asked n
             let e : get_or (set asked role version) r 0 ≡ get_or asked r 0 = get_or-set_other asked role r version 0 other.1 in
             omega (arith, e, h.old r)
 
-    -- turns that count: one may have moved a message, and several moved none
-    pub asked_counted : (k next : ℕ) → get_or asked role 0 ≢ version → 0 < k → 0 < left → (k ≡ 1 → next ≡ version + 1) →
-        (k ≢ 1 → next ≡ version) → Counts now.program now.world role k after.world → Asked after asked next (left - 1) limit
-    asked_counted zero next new some more one several t = absurd (omega (arith, some))
-    asked_counted (suc zero) next new some more one several t =
-        let e : next ≡ version + 1 = one refl in record {
-          still = λ r is. absurd (omega (arith, e, is, h.old r));
-          old = λ r. omega (arith, e, h.old r);
-          some = omega (arith, e);
-          bound = omega (arith, e, h.bound, more);
-        }
-    asked_counted (suc (suc k)) next new some more one several t =
-        let e : next ≡ version = several (λ is. omega (arith, is)) in record {
-          still = λ r is. stays r (λ same_role. new (sym (ap (λ j. get_or asked j 0) same_role) ∙ is ∙ e)) (h.still r (is ∙ e));
-          old = λ r. omega (arith, e, h.old r);
-          some = omega (arith, e, h.some);
-          bound = omega (arith, e, h.bound);
-        }
-      where
-        with_other : (w : World) (r : ℕ) → w ≡ record {
-          roles = set now.world.roles role t.after;
-          messages = now.world.messages;
-          events =
-              now.world.events;
-        } →
-            r ≢ role → StillAt now.program now.world r → StillAt now.program w r
-        with_other w r is other still =
-            subst (λ (v : World). StillAt now.program v r) (sym is)
-            (λ x at. still x (sym (set_there now.world.roles role r t.after other) ∙ at))
+    -- turns that count: one may have moved a message, where the last event is of one, and several moved none
+    module _ (next : ℕ) (new : get_or asked role 0 ≢ version) (more : 0 < left) where
+      newer : next ≡ version + 1 → Asked after asked next (left - 1) limit
+      newer e = record {
+        still = λ r is. absurd (omega (arith, e, is, h.old r));
+        old = λ r. omega (arith, e, h.old r);
+        some = omega (arith, e);
+        bound = omega (arith, e, h.bound, more);
+      }
 
-        stays : (r : ℕ) → r ≢ role → StillAt now.program now.world r → StillAt after.program after.world r
-        stays r other still =
-            subst (λ (q : Program). StillAt q after.world r) (sym same) (with_other after.world r t.is other still)
+      as_new : next ≡ version → ((r : ℕ) → r ≢ role → StillAt now.program now.world r → StillAt now.program after.world r) →
+          Asked after asked next (left - 1) limit
+      as_new e beside = record {
+        still = λ r is. subst (λ (q : Program). StillAt q after.world r) (sym same)
+            (beside r (λ same_role. new (sym (ap (λ j. get_or asked j 0) same_role) ∙ is ∙ e)) (h.still r (is ∙ e)));
+        old = λ r. omega (arith, e, h.old r);
+        some = omega (arith, e, h.some);
+        bound = omega (arith, e, h.bound);
+      }
+
+      beside_one : Advances now.program now.world role after.world true → LastMovesNone after.world.events → (r : ℕ) → r ≢ role →
+          StillAt now.program now.world r → StillAt now.program after.world r
+      beside_one a last r other still =
+          subst (λ (v : World). StillAt now.program v r) (sym a.0)
+          (turn_stays now.program now.world role r other still (subst (λ (v : World). LastMovesNone v.events) a.0 last))
+
+      beside_several : (k : ℕ) → TurnsAlone now.program now.world role k after.world → (r : ℕ) → r ≢ role →
+          StillAt now.program now.world r → StillAt now.program after.world r
+      beside_several k t r other still =
+          subst (λ (v : World). StillAt now.program v r) (sym t.is)
+          (λ x at. still x (sym (set_there now.world.roles role r t.after other) ∙ at))
+
+      pub asked_counted : (k : ℕ) (moved : Bool) → 0 < k → (next ≡ version + 1) ⊎ (next ≡ version) × ((k ≢ 1) ⊎ (moved ≡ false)) →
+          OnFalse moved (LastMovesNone after.world.events) → Counts now.program now.world role k after.world →
+          Asked after asked next (left - 1) limit
+      asked_counted k moved some (inl e) told t = newer e
+      asked_counted zero moved some (inr (e, why)) told t = absurd (omega (arith, some))
+      asked_counted (suc zero) moved some (inr (e, inl several)) told t = absurd (several refl)
+      asked_counted (suc zero) true some (inr (e, inr none)) told t = absurd (cc none)
+      asked_counted (suc zero) false some (inr (e, inr none)) told t = as_new e (beside_one t told)
+      asked_counted (suc (suc k)) moved some (inr (e, why)) told t = as_new e (beside_several (suc (suc k)) t)

@@ -6,13 +6,13 @@ use Rattle.std.proofs.lemmas.Bool.Decides.{eqb_tells}
 use Rattle.std.proofs.lemmas.List.{get_or-set_same, get_or-set_other}
 use Rattle.std.proofs.Math.Nat.{div-add-mod', mul-add-mod_self_right}
 
-mod_more : (k t n : ℕ) → (k % n + t) % n ≡ (k + t) % n
+pub mod_more : (k t n : ℕ) → (k % n + t) % n ≡ (k + t) % n
 mod_more k t n =
     sym (ap (λ m. m % n) (let e : k + t ≡ k / n * n + (k % n + t) = omega (arith, div-add-mod' k n) in e) ∙ mul-add-mod_self_right (k / n) n
     (k % n + t))
 
 -- a whole cycle on is the same place
-mod_whole : (k n : ℕ) → (k + n) % n ≡ k % n
+pub mod_whole : (k n : ℕ) → (k + n) % n ≡ k % n
 mod_whole k n = ap (λ m. m % n) (let e : k + n ≡ 1 * n + k = omega arith in e) ∙ mul-add-mod_self_right 1 n k
 
 -- A turn of the role comes after so many others, and then one in each cycle: as many as this before those that are left have ended.
@@ -36,6 +36,19 @@ none_due order next role zero (inr c) = refl
 none_due order next role (suc k) (inr c) =
     let grown : suc k * length order ≡ k * length order + length order = grind arith in
     absurd (omega (arith, c.before, grown))
+
+times_more : (k n : ℕ) → 0 < n → k ≤ k * n
+times_more k zero some = absurd (omega (arith, some))
+times_more k (suc n) some = let e : k * suc n ≡ k * n + k = grind arith in omega (arith, e)
+
+-- no more are due than are left
+pub due_within : (order : List ℕ) (next left role many : ℕ) → 0 < length order → IsDue order next left role many → many ≤ left
+due_within order next left role many some (inl none) = omega (arith, none)
+due_within order next left role zero some (inr c) = omega arith
+due_within order next left role (suc k) some (inr c) =
+    let grown : suc k * length order ≡ k * length order + length order = grind arith in
+    let le : k ≤ k * length order = times_more k (length order) some in
+    omega (arith, c.before, grown, le)
 
 module _ (order : List ℕ) (next left : ℕ) (within : next < length order) where
   -- with more that are left no fewer come

@@ -25,7 +25,7 @@ pub record Going (p : Program) (first : World) (order : List ℕ) (limit : ℕ) 
   pub few : idle ≤ length order
 
 -- the place behind the next
-next_mod : (k n : ℕ) → 0 < n → (k % n + 1) % n ≡ suc k % n
+pub next_mod : (k n : ℕ) → 0 < n → (k % n + 1) % n ≡ suc k % n
 next_mod k n pos =
     sym (ap (λ m. m % n) (let e : suc k ≡ k / n * n + (k % n + 1) = omega (arith, div-add-mod' k n) in e) ∙ mul-add-mod_self_right (k / n) n
     (k % n + 1))

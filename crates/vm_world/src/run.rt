@@ -5,10 +5,10 @@
 //! Steps that a role takes alone change nothing but its machine, so they are the same whether the
 //! turns of other roles come before them or behind. A role whose turn comes takes as many of them at
 //! once as turns of its own are sure to come, and is then that many turns ahead: when they come
-//! they are counted, and nothing is left to do. A role that was found still isn't asked again before a
-//! turn that may have moved a message.
+//! they are counted, and nothing is left to do: all at once where every other role is still. A role that
+//! was found still isn't asked again before a turn that may have moved a message.
 
-ghost use Rattle.std.specs.Prelude.{◌≡◌, ◌⊎◌, ◌<◌, ◌≤◌, ◌^◌, ◌-◌, ◌+◌, ◌*◌, ◌%◌, ◌≢◌, ℕ, Contains, length, replicate, slice_get, IfOk};
+ghost use Rattle.std.specs.Prelude.{◌≡◌, ◌⊎◌, ◌<◌, ◌≤◌, ◌^◌, ◌-◌, ◌+◌, ◌*◌, ◌%◌, ◌≢◌, ℕ, false, Contains, length, replicate, slice_get, IfOk};
 ghost use Rattle.std.specs.Prelude.{IfSome};
 ghost use Rattle.vm_world_law.specs.Turns.{counted, Advances, IsRun};
 ghost use Rattle.vm_world.specs.Alone.{Counts};
@@ -40,14 +40,28 @@ fn most_at_once(count: usize, left: u32) -> u32
     if cycles > 1 { cycles as u32 } else { 1 }
 }
 
-/// The version of the messages behind turns that counted so many instructions: several of them move
-/// no message.
-fn version_behind(version: u64, counted: u32) -> u64
-    requires { version < 2 ^ 64 - 1 }
-    ensures one { counted ≡ 1 → result ≡ version + 1 }
-    ensures several { counted ≢ 1 → result ≡ version }
+/// How many turns of a role that is so many ahead are counted at once. Where the turns of all others, which are the last so many, found
+/// them still, nothing happens until all of its own have come.
+fn come_at_once(ahead: u32, idle: usize, count: usize) -> u32
+    requires ahead { 0 < ahead }
+    requires within { idle < count }
+    ensures some { 0 < result }
+    ensures within { result ≤ ahead }
+    ensures come { (result ≡ 1) ⊎ (result ≡ ahead) × (idle + 1 ≡ count) }
 {
-    if counted == 1 { version + 1 } else { version }
+    if idle + 1 == count { ahead } else { 1 }
+}
+
+/// The version of the messages behind turns that counted so many instructions: several of them move
+/// no message, and one does only where the last event is of one.
+fn version_behind(version: u64, counted: u32, moved: bool) -> u64
+    requires { version < 2 ^ 64 - 1 }
+    ensures { (result ≡ version + 1) ⊎ (result ≡ version) × ((counted ≢ 1) ⊎ (moved ≡ false)) }
+{
+    if counted > 1 {
+        return version;
+    }
+    if moved { version + 1 } else { version }
 }
 
 impl World {
@@ -159,8 +173,9 @@ impl World {
             let place = role as usize;
             next = following(next, order.len());
             if ahead[place] > 0 {
-                ahead[place] -= 1;
-                left -= 1;
+                let come = come_at_once(ahead[place], idle, order.len());
+                ahead[place] -= come;
+                left -= come;
                 idle = 0;
                 continue;
             }
@@ -174,7 +189,7 @@ impl World {
                 idle += 1;
                 continue;
             }
-            version = version_behind(version, counted);
+            version = version_behind(version, counted, self.last_moved());
             ahead[place] = counted - 1;
             left -= 1;
             idle = 0;

@@ -3,6 +3,7 @@
 
 ghost use Rattle.std.specs.Prelude.{◌≡◌, ◌+◌, ◌<◌, ◌≤◌, ◌^◌, ◌-◌, ◌++◌, ◌↔◌, [], length, map, option_map, slice_get, IsTrue, IfOk, OnErr};
 ghost use Rattle.std.specs.Prelude.{IfSome};
+ghost use Rattle.std.specs.Bool.{OnFalse};
 ghost use Rattle.std.specs.List.{IsDistinct, AllByRecursion};
 ghost use Rattle.std.specs.Str.{bytes_eq};
 ghost use Rattle.vm_step.specs.Main.{HasMain};
@@ -10,6 +11,7 @@ ghost use Rattle.vm_world_law.specs.World as model;
 ghost use Rattle.vm_world_law.specs.Turns.{over_in};
 ghost use Rattle.vm_world.specs.Alone.{TurnsAlone};
 ghost use Rattle.vm_world.specs.Resting.{GoesOn};
+ghost use Rattle.vm_world.specs.Telling.{MovesNone, LastMovesNone};
 ghost use Rattle.vm_world.specs.View.{roles_of, ending_in};
 ghost use Rattle.vm_model.specs.Machine.{noted};
 
@@ -71,6 +73,21 @@ fn names_of(alloc: Global, mains: &[RoleMain]) -> Result<List<Text>, Memory>
         names.push(main.role.copy()?)?;
     }
     Ok(names)
+}
+
+/// Whether an event is of a message that was sent or taken.
+fn is_of_message(event: &Event) -> bool
+    ensures { OnFalse result (MovesNone event.now) }
+{
+    match event {
+        Event::Print(_text) => false,
+        Event::Made { .. } => false,
+        Event::Enter { .. } => false,
+        Event::Leave { .. } => false,
+        Event::Send { .. } => true,
+        Event::Look { .. } => false,
+        Event::Take { .. } => true,
+    }
 }
 
 /// Keeps an event of a role, for which there is room.
@@ -188,6 +205,16 @@ impl World {
         ensures { result.now.items ≡ self.now.world.events }
     {
         &self.events
+    }
+
+    /// Whether the last event is of a message that was sent or taken.
+    pub(crate) fn last_moved(&self) -> bool
+        ensures { OnFalse result (LastMovesNone self.now.world.events) }
+    {
+        match self.events().as_slice().last() {
+            Some(last) => is_of_message(&last.event),
+            None => false,
+        }
     }
 
     /// How many instructions of a role were counted.

@@ -1,16 +1,15 @@
-use Rattle.std.proofs.Common.{◌≡◌, List, Some, length, map, sym, ap, ◌∙◌, arith}
+use Rattle.std.proofs.Common.{◌≡◌, ◌+◌, List, Some, None, length, map, sym, ap, ◌∙◌, arith}
 use Rattle.std.proofs.lemmas.List.{length-map}
 use Rattle.vm_model.specs.Program.{method_at}
 use Rattle.vm_model.specs.Types.{FieldType, signature_of}
 use Rattle.vm_model.specs.Kept.{type_kept}
-use Rattle.vm_model.specs.Actions.{Call, Silent}
 use Rattle.vm_model.specs.Tests.{params_in, descriptor_in, max_locals_in}
 use Rattle.vm_model.proofs.KeptTypes.{params_are}
 use Rattle.vm_model.specs.View.{method_of}
 use Rattle.vm_frames.specs.Seen.{value_in}
 use Rattle.vm_step.specs.State.{state_of}
-use Rattle.vm_step.proofs.Ready.{when_true}
-use Rattle.vm_step.proofs.Quietly.{quiet_call, quiet_silent}
+use Rattle.vm_step.proofs.Ready.{when_true, when_false}
+use Rattle.vm_step.proofs.Quietly.{quiet_silent, entered_runs}
 use Rattle.vm_step.proofs.quiet.call_silent.Goals as goal
 
 pub returns : goal.returns
@@ -24,10 +23,15 @@ returns c =
     (λ i. params_in (signature_of (descriptor_in (sym e i)))) ∙
     sym (params_are called.params.items (signature_of called.descriptor) called.takes)
     ∙ ap (map type_kept) (sym c.as_slice-params.ensures.items) in
-    quiet_call p (Call Silent c.args.class c.args.method) m (state_of c.enter.new.state) c.enter.result c.enter.ensures.yes
-    c.enter.ensures.no
-    (λ is. quiet_silent p m (state_of c.enter.new.state) c.args.class c.args.method called.max_locals types params (ap max_locals_in e)
-    (length c.as_slice-params.result.now) c.in-Some-object_of._object (length-map c.as_slice-params.result.now type_kept)
-    (omega arith) (omega arith)
-    (c.operand.ensures.value ∙ ap (λ x. Some (value_in c.args.state.now.texts x)) c.in-Some-object_of.ensures.object)
-    c.in-Some-object_of.ensures.class (when_true c.fit.result c.if-not-fit.false c.fit.ensures) is)
+    let is = when_true c.enter.result c.if-not-enter.false c.enter.ensures.yes in (
+      quiet_silent p m (state_of c.enter.new.state) c.args.class c.args.method called.max_locals types params (ap max_locals_in e)
+          (length c.as_slice-params.result.now) c.in-Some-object_of._object (length-map c.as_slice-params.result.now type_kept)
+          (omega arith) (omega arith)
+          (c.operand.ensures.value ∙ ap (λ x. Some (value_in c.args.state.now.texts x)) c.in-Some-object_of.ensures.object)
+          c.in-Some-object_of.ensures.class (when_true c.fit.result c.if-not-fit.false c.fit.ensures) is,
+      entered_runs p m (state_of c.enter.new.state) c.args.class c.args.method (length c.as_slice-params.result.now + 1) called.max_locals
+          None (method_of called) e is,
+    )
+
+pub returns-then-not-enter : goal.returns-then-not-enter
+returns-then-not-enter c = when_false c.enter.result c.if-not-enter.true c.enter.ensures.no

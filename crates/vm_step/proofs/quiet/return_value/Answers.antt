@@ -1,29 +1,30 @@
-use Rattle.std.proofs.Common.{◌≡◌, Some, sym, ap, ◌∙◌, arith}
+use Rattle.std.proofs.Common.{◌≡◌, [], ◌∷◌, sym, ap, ◌∙◌, arith}
 use Rattle.std.specs.Option.{option_map}
-use Rattle.vm_model.specs.Program.{method_at}
 use Rattle.vm_model.specs.Types.{signature_of}
 use Rattle.vm_model.specs.Descriptors.{type_view}
-use Rattle.vm_model.specs.Actions.{Return}
 use Rattle.vm_model.specs.Tests.{result_in, descriptor_in, method_of_frame}
+use Rattle.vm_model.specs.View.{method_of}
 use Rattle.vm_frames.specs.Seen.{value_in}
 use Rattle.vm_step.specs.State.{state_of}
 use Rattle.vm_step.specs.Table.{sort_of}
 use Rattle.vm_step.proofs.Ready.{when_true}
-use Rattle.vm_step.proofs.Quietly.{quiet_if, quiet_return_value}
+use Rattle.vm_step.proofs.Quietly.{left_so, left_runs, quiet_return_value}
 use Rattle.vm_step.proofs.quiet.return_value.Goals as goal
 
 pub returns : goal.returns
 returns c =
     let p = c.args.linked.now in
     let m = state_of c.args.state.now in
+    let new = state_of c.leave-left.new.self in
+    let next = method_of c.in-Some-awaiting.next.now in
+    let awaits = c.in-Some-awaiting.ensures in
+    let v = value_in c.args.state.now.texts c.operand-value.result in
     let same : option_map type_view c.result_type.result ≡ result_in (signature_of (descriptor_in (method_of_frame p m.frame))) =
-    (rw (c.method_at.ensures) at c.result_type.ensures)
-    ∙ (λ i. result_in (signature_of (descriptor_in (method_at p (c.class.ensures i) (c.method.ensures i))))) in
-    quiet_if p (Return (Some (sort_of c.args.sort))) m (state_of c.leave.new.self) _ c.leave.result c.leave.ensures.yes
-    c.leave.ensures.no
-    (λ is. quiet_return_value p m (state_of c.leave.new.self) c.requires (sort_of c.args.sort) (type_view c.in-Some.answer)
-    (value_in c.args.state.now.texts c.operand-value.result)
-    (when_true c.has_room.result c.if-not-has_room.false c.has_room.ensures)
-    (sym same ∙ ap (option_map type_view) c.in-Some.is) (omega arith) c.operand-value.ensures.value
-    (when_true c.is_of_sort.result c.if-not-is_of_sort.false c.is_of_sort.ensures c.args.state.now.texts)
-    (sym c.misfit_type.ensures ∙ c.in_default-misfit_type.is) is)
+    c.result_type.ensures ∙ ap (λ o. result_in (signature_of (descriptor_in o))) c.requires.runs in
+    let is = left_so p 1 next m.callers c.leave-left.result awaits c.leave-left.ensures.yes c.leave-left.ensures.no in (
+      quiet_return_value p m new c.requires.told (sort_of c.args.sort) (type_view c.in-Some.answer) v next awaits
+          (sym same ∙ ap (option_map type_view) c.in-Some.is) (omega arith) c.operand-value.ensures.value
+          (when_true c.is_of_sort.result c.if-not-is_of_sort.false c.is_of_sort.ensures c.args.state.now.texts)
+          (sym c.misfit_type.ensures ∙ c.in_default-misfit_type.is) is,
+      left_runs p m new (v ∷ []) 1 next m.callers awaits is,
+    )

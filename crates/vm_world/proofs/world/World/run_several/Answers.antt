@@ -1,8 +1,8 @@
 use Rattle.std.proofs.Common.{◌<◌, ◌≤◌, ℕ, get_or, length, inl, inr, refl, ap, ◌∙◌, subst, arith}
 use Rattle.vm_world.specs.Alone.{Counts}
 use Rattle.vm_world.proofs.Going.{zero_is}
-use Rattle.vm_world.proofs.Several.{begin_several, several_stopped, within_ahead, within_roles, taken_several, idle_several, down_several}
-use Rattle.vm_world.proofs.Several.{room_several, lt}
+use Rattle.vm_world.proofs.Several.{begin_several, several_stopped, within_ahead, within_roles, taken_several, idle_several, room_several}
+use Rattle.vm_world.proofs.Several.{come_several, come_within, lt}
 use Rattle.vm_world.proofs.Asked.{none_asked, asked_less, asked_again, asked_still, asked_counted}
 use Rattle.vm_world_law.proofs.Lists.{set_long}
 use Rattle.std.proofs.lemmas.List.{length-replicate}
@@ -24,14 +24,21 @@ bounds-ahead-place c =
 
 pub loop-left-preserved-then-ahead-place-gt0 : goal.loop-left-preserved-then-ahead-place-gt0
 loop-left-preserved-then-ahead-place-gt0 c = record {
-  several = down_several c.args.self.now.program c.args.self.now.world c.args.order.now c.args.limit c.loop-left.self c.loop-left.ahead
-      c.loop-left.left c.loop-left.idle c.loop-left.next c.loop-left.invariant.several c.if-idle-order.true c.requires.numbers
-      (get_or c.args.order.now c.loop-left.next 0) refl c.following-next.result c.following-next.ensures c.if-ahead-place-gt0.true
-      c.loop-left-test.true;
+  several = come_several c.args.self.now.program c.args.self.now.world c.args.order.now c.args.limit c.loop-left.self c.requires.numbers
+      c.loop-left.next (get_or c.args.order.now c.loop-left.next 0) refl c.loop-left.ahead c.loop-left.left c.loop-left.idle
+      c.loop-left.invariant.several c.if-idle-order.true c.loop-left-test.true c.if-ahead-place-gt0.true c.come_at_once-come.result
+      c.come_at_once-come.ensures.come c.following-next.result c.following-next.ensures;
   asked = asked_less c.loop-left.self c.loop-left.asked c.loop-left.version c.loop-left.left c.args.limit c.loop-left.invariant.asked
-      c.loop-left-test.true;
+      c.come_at_once-come.result;
   long = c.loop-left.invariant.long;
 }
+
+pub overflow_sub-left : goal.overflow_sub-left
+overflow_sub-left c =
+    come_within c.args.self.now.program c.args.self.now.world c.args.order.now c.args.limit c.loop-left.self c.requires.numbers
+    c.loop-left.next (get_or c.args.order.now c.loop-left.next 0) refl c.loop-left.ahead c.loop-left.left c.loop-left.idle
+    c.loop-left.invariant.several c.if-idle-order.true c.loop-left-test.true c.if-ahead-place-gt0.true c.come_at_once-come.result
+    c.come_at_once-come.ensures.come
 
 pub bounds-asked-place : goal.bounds-asked-place
 bounds-asked-place c =
@@ -105,9 +112,9 @@ loop-left-preserved c =
           c.loop-left-test.true c.in_ok-counted.ensures.turns some c.in_ok-counted.ensures.come;
       asked = asked_counted c.loop-left.self c.loop-left.asked c.loop-left.version c.loop-left.left c.args.limit
           c.loop-left.invariant.asked c.take_at_once.new.self c.in_ok-counted.ensures.program
-          (get_or c.args.order.now c.loop-left.next 0) c.in_ok-counted.counted c.version_behind-version.result
-          c.if-asked-place.false some c.loop-left-test.true c.version_behind-version.ensures.one
-          c.version_behind-version.ensures.several c.in_ok-counted.ensures.turns;
+          (get_or c.args.order.now c.loop-left.next 0) c.version_behind-version.result c.if-asked-place.false c.loop-left-test.true
+          c.in_ok-counted.counted c.last_moved.result some c.version_behind-version.ensures c.last_moved.ensures
+          c.in_ok-counted.ensures.turns;
       long = c.loop-left.invariant.long;
     }
 
