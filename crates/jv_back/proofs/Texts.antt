@@ -67,13 +67,20 @@ written_as c = go (eqb c 8) (eqb c 9) (eqb c 10) (eqb c 12) (eqb c 13) (eqb c 34
   where
     go : (a b d e f g h : Bool) → eqb c 8 ≡ a → eqb c 9 ≡ b → eqb c 10 ≡ d → eqb c 12 ≡ e → eqb c 13 ≡ f → eqb c 34 ≡ g → eqb c 92 ≡ h
         → Writes c (pick a b d e f g h c) (laid a b d e f g h c)
-    go true b d e f g h ea eb ed ee ef eg eh = escape c 8 98 (codes "\\b") ea (omega arith) refl refl refl (low_utf8 (codes "\\b") refl)
-    go false true d e f g h ea eb ed ee ef eg eh = escape c 9 116 (codes "\\t") eb (omega arith) refl refl refl (low_utf8 (codes "\\t") refl)
-    go false false true e f g h ea eb ed ee ef eg eh = escape c 10 110 (codes "\\n") ed (omega arith) refl refl refl (low_utf8 (codes "\\n") refl)
-    go false false false true f g h ea eb ed ee ef eg eh = escape c 12 102 (codes "\\f") ee (omega arith) refl refl refl (low_utf8 (codes "\\f") refl)
-    go false false false false true g h ea eb ed ee ef eg eh = escape c 13 114 (codes "\\r") ef (omega arith) refl refl refl (low_utf8 (codes "\\r") refl)
-    go false false false false false true h ea eb ed ee ef eg eh = escape c 34 34 (codes "\\\"") eg (omega arith) refl refl refl (low_utf8 (codes "\\\"") refl)
-    go false false false false false false true ea eb ed ee ef eg eh = escape c 92 92 (codes "\\\\") eh (omega arith) refl refl refl (low_utf8 (codes "\\\\") refl)
+    go true b d e f g h ea eb ed ee ef eg eh = escape c 8 98 (codes "\\b") ea (omega arith)
+        refl refl refl (low_utf8 (codes "\\b") refl)
+    go false true d e f g h ea eb ed ee ef eg eh = escape c 9 116 (codes "\\t") eb (omega arith)
+        refl refl refl (low_utf8 (codes "\\t") refl)
+    go false false true e f g h ea eb ed ee ef eg eh = escape c 10 110 (codes "\\n") ed (omega arith)
+        refl refl refl (low_utf8 (codes "\\n") refl)
+    go false false false true f g h ea eb ed ee ef eg eh = escape c 12 102 (codes "\\f") ee (omega arith)
+        refl refl refl (low_utf8 (codes "\\f") refl)
+    go false false false false true g h ea eb ed ee ef eg eh = escape c 13 114 (codes "\\r") ef (omega arith)
+        refl refl refl (low_utf8 (codes "\\r") refl)
+    go false false false false false true h ea eb ed ee ef eg eh = escape c 34 34 (codes "\\\"") eg (omega arith)
+        refl refl refl (low_utf8 (codes "\\\"") refl)
+    go false false false false false false true ea eb ed ee ef eg eh = escape c 92 92 (codes "\\\\") eh (omega arith)
+        refl refl refl (low_utf8 (codes "\\\\") refl)
     go false false false false false false false ea eb ed ee ef eg eh =
         record { right = plain_of c ed ef eg eh; means = refl; spells = refl; low = inl refl }
 

@@ -11,7 +11,8 @@ use Rattle.scr_read.proofs.Once as once
 use Rattle.scr_read.proofs.Once.{Got, Large, Bad, Word, NoTree, Fault, Tree, Spelled, Comes}
 use Rattle.scr_global_read.specs.Unsupported.{IsUnsupported, unsupported_word}
 use Rattle.scr_global_read.specs.Spelling.{Spells}
-use Rattle.scr_global_read.specs.Outcome.{Answer, Protocol, TooLarge, BadByte, Unsupported, Syntax, Refused, told, Outcome, too_large, bad_byte}
+use Rattle.scr_global_read.specs.Outcome.{Answer, Protocol, TooLarge, BadByte, Unsupported, Syntax, Refused, told, Outcome, too_large}
+use Rattle.scr_global_read.specs.Outcome.{bad_byte}
 use Rattle.scr_global_read.specs.Outcome.{unsupported, syntax, refused, found}
 use Rattle.scr_read.proofs.Sought.{single}
 
@@ -30,7 +31,8 @@ module _ (file : ℕ) (bytes : List ℕ) where
       record { same_file = s.same_file; tokens = s.tokens; separates = s.separates; supported = s.supported; spelled = s.spelled }
 
   comes_to : (a : Answer) → Outcome file bytes a →
-      (g : Got WrittenTree GlobalCondition) × Comes (λ w. w.file) IsUnsupported IsSpelled IsFault file bytes g × (answer_at file bytes g ≡ a)
+      (g : Got WrittenTree GlobalCondition) × Comes (λ w. w.file) IsUnsupported IsSpelled IsFault file bytes g
+      × (answer_at file bytes g ≡ a)
   comes_to a (too_large h) = (Large, once.too_large h, refl)
   comes_to a (bad_byte k le h) = (Bad k, once.bad_byte k le h, refl)
   comes_to a (unsupported {place = p} {word = w} s h) = (Word p w, once.unsupported s h, refl)
@@ -40,7 +42,8 @@ module _ (file : ℕ) (bytes : List ℕ) where
 
   pub one_file : (w v : WrittenTree) → Spells file bytes w → Spells file bytes v → w ≡ v
   one_file w v a b =
-      once.one_file (λ w. w.file) IsUnsupported IsSpelled IsFault file bytes (single unsupported_word) same_tree one_fault w v (spelled_of w a) (spelled_of v b)
+      once.one_file (λ w. w.file) IsUnsupported IsSpelled IsFault file bytes (single unsupported_word) same_tree one_fault w v
+      (spelled_of w a) (spelled_of v b)
 
   pub one_outcome : (a b : Answer) → Outcome file bytes a → Outcome file bytes b → a ≡ b
   one_outcome = once.one_by (λ w. w.file) IsUnsupported IsSpelled IsFault file bytes (single unsupported_word) same_tree one_fault

@@ -69,8 +69,8 @@ module _ {W C : Type 0} (file_in : W → ℕ) (IsUnsupported : Tok → Culprit �
     cut_or_bad : (k : ℕ) (ts : List Tok) → IsBadAt k bytes → Separates file bytes ts → ⊥
     cut_or_bad k ts bad s = tokens_or_bad scribble apart tok_said file ts k bytes s.cut bad
 
-    supported_or_not : (ts us : List Tok) (c : Culprit) → Separates file bytes ts → Separates file bytes us → Judged IsUnsupported ts (Some c)
-        → Judged IsUnsupported us None → ⊥
+    supported_or_not : (ts us : List Tok) (c : Culprit) → Separates file bytes ts → Separates file bytes us →
+        Judged IsUnsupported ts (Some c) → Judged IsUnsupported us None → ⊥
     supported_or_not ts us c a b h g =
         let same = one_answer single (subst (λ (xs : List Tok). Judged IsUnsupported xs (Some c)) (tokens_once ts us a b) h) g in
         let e : ◌≡◌ {A = Option Culprit} (Some c) None = same in cc

@@ -40,7 +40,8 @@ module _ (file : ℕ) (bytes : List ℕ) where
 
   pub one_file : (w v : WrittenTree) → Spells file bytes w → Spells file bytes v → w ≡ v
   one_file w v a b =
-      once.one_file (λ w. w.file) IsUnsupported IsSpelled IsFault file bytes (single unsupported_word) same_tree one_fault w v (spelled_of w a) (spelled_of v b)
+      once.one_file (λ w. w.file) IsUnsupported IsSpelled IsFault file bytes (single unsupported_word) same_tree one_fault w v
+      (spelled_of w a) (spelled_of v b)
 
   pub one_outcome : (a b : Answer) → Outcome file bytes a → Outcome file bytes b → a ≡ b
   one_outcome = once.one_by (λ w. w.file) IsUnsupported IsSpelled IsFault file bytes (single unsupported_word) same_tree one_fault
