@@ -90,7 +90,8 @@ core_class e n t fs ms = record { place = e.class.place; name = n; typestate = t
 module _ (tables : Tables) (names : List Name) (e : Entry) (n : ℕ) (ns : List Name)
     (named : interned names e.class.name ≡ Some (with_number n ns)) where
   abbrev with_fields : ℕ → Option (Naming (List Core.Field)) → Option (Naming Core.Class)
-  with_fields m o = o >>= λ fs. Some (naming (core_class e m e.typestate fs.it (numbers_from e.first_method (length e.class.methods))) fs.names)
+  with_fields m o =
+      o >>= λ fs. Some (naming (core_class e m e.typestate fs.it (numbers_from e.first_method (length e.class.methods))) fs.names)
 
   class_opened : class tables names e ≡ with_fields n (fields tables ns e.class.fields)
   class_opened = ap (λ o. o >>= λ m. with_fields m.number (fields tables m.names e.class.fields)) named

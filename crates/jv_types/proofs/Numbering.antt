@@ -13,6 +13,12 @@ use Rattle.jv_types.specs.inner.Numbers.{numbers, numbers_in, number_named, numb
 behind_none : (a : ℕ) → a + 0 ≡ a
 behind_none a = omega arith
 
+before_none : (a : ℕ) → a + 0 ≡ 0 + a
+before_none a = omega arith
+
+none_before : (a : ℕ) → a ≡ 0 + a
+none_before a = omega arith
+
 grouped : (a b c : ℕ) → a + (b + c) ≡ (a + b) + c
 grouped a b c = omega arith
 
@@ -29,11 +35,11 @@ numbers-append names n m [] c = ap (λ x. x ∷ [])
 numbers-append names n m (k ∷ cs) c =
     ap (λ xs. numbers n m (number_named names k.typestate) ∷ xs) (numbers-append names (suc n) (m + length k.methods) cs c
     ∙ ap (λ x. numbers_from names (suc n) (m + length k.methods) cs ++ x ∷ [])
-    (same_numbers (suc n + length cs) (n + suc (length cs)) ((m + length k.methods) + methods_in cs) (m + (length k.methods + methods_in cs))
-    (number_named names c.typestate) (behind_next n (length cs)) (sym (grouped m (length k.methods) (methods_in cs)))))
+    (same_numbers (suc n + length cs) (n + suc (length cs)) ((m + length k.methods) + methods_in cs)
+    (m + (length k.methods + methods_in cs)) (number_named names c.typestate) (behind_next n (length cs)) (sym (grouped m (length k.methods) (methods_in cs)))))
 
 methods-append : (cs : List Class) (c : Class) → methods_in (cs ++ c ∷ []) ≡ methods_in cs + length c.methods
-methods-append [] c = behind_none (length c.methods)
+methods-append [] c = before_none (length c.methods)
 methods-append (k ∷ cs) c = ap (λ x. length k.methods + x) (methods-append cs c) ∙
     grouped (length k.methods) (methods_in cs) (length c.methods)
 
@@ -43,14 +49,16 @@ module _ (names : List Name) (m next : ℕ) (es ns : List ClassEntry) (e : Class
   classes_more : classes_seen ns ≡ classes_seen es ++ class_of e.class.now ∷ []
   classes_more = ap classes_seen more ∙ map-append (λ x. class_of x.class.now) es (e ∷ [])
 
-  module _ (number : e.number ≡ length es) (first : e.first_method ≡ m)
+  module _ (number : e.number ≡ 0 + length es) (first : e.first_method ≡ m)
       (typestate : option_map (λ t. t.number) e.typestate ≡ number_named names e.class.now.typestate)
       (behind : next ≡ m + length e.class.now.methods.items) where
-    numbered : numbers_in e ≡ numbers (length (classes_seen es)) (methods_in (classes_seen es)) (number_named names e.class.now.typestate)
+    numbered : numbers_in e ≡ numbers (0 + length (classes_seen es)) (0 + methods_in (classes_seen es))
+        (number_named names e.class.now.typestate)
     numbered =
-        same_numbers e.number (length (classes_seen es)) e.first_method (methods_in (classes_seen es))
-        (option_map (λ t. t.number) e.typestate) (number ∙ sym (length-map es (λ x. class_of x.class.now))) (first ∙ so_far.all)
-        ∙ ap (numbers (length (classes_seen es)) (methods_in (classes_seen es))) typestate
+        same_numbers e.number (0 + length (classes_seen es)) e.first_method (0 + methods_in (classes_seen es))
+        (option_map (λ t. t.number) e.typestate) (number ∙ ap (λ k. 0 + k) (sym (length-map es (λ x. class_of x.class.now))))
+        (first ∙ so_far.all ∙ none_before (methods_in (classes_seen es)))
+        ∙ ap (numbers (0 + length (classes_seen es)) (0 + methods_in (classes_seen es))) typestate
 
     pub numbered_more : AreNumbered names next ns
     numbered_more = record {

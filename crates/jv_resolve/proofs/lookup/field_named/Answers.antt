@@ -4,7 +4,8 @@ use Rattle.jv_resolve.proofs.Called.{called_got, not_called}
 use Rattle.jv_resolve.proofs.lookup.field_named.Goals as goal
 
 pub returns-in-None : goal.returns-in-None
-returns-in-None c = not_called field_of (λ x. x.name) (λ n f. record { field = f; place = n }) c.args.entry.now.class.now.fields.items _ refl
+returns-in-None c =
+    not_called field_of (λ x. x.name) (λ n f. record { field = f; place = n }) c.args.entry.now.class.now.fields.items _ refl
     c.args.name.now c.in-None.ensures
 
 pub returns-in-Some-get : goal.returns-in-Some-get
