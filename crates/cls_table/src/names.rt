@@ -11,7 +11,9 @@ ghost use Rattle.cls_table.specs.Known.{IsKnown, KnowsNames};
 
 use mg_text::{Memory, Names};
 use std::alloc::Global;
-use vm_model::{LinkedClass, OBJECT_CLASS, PRINT_STREAM_CLASS, SESSION_CLASS, STRING_CLASS, SYSTEM_CLASS};
+use vm_model::{
+    LinkedClass, OBJECT_CLASS, PRINT_STREAM_CLASS, SESSION_CLASS, STRING_CLASS, SYSTEM_CLASS,
+};
 
 /// Adds a name, where the table has room for it among the numbers of kinds.
 pub(crate) fn add_name(names: &mut Names, name: &str) -> Result<(), Memory>

@@ -46,12 +46,7 @@ pub struct BuiltMember {
 }
 
 /// A member of a class.
-fn row(
-    class: &'static str,
-    name: &'static str,
-    descriptor: &'static str,
-    op: u8,
-) -> BuiltMember
+fn row(class: &'static str, name: &'static str, descriptor: &'static str, op: u8) -> BuiltMember
     ensures { built_view result ≡ record { class = class.now; name = name.now; descriptor = descriptor.now; op = op } }
 {
     BuiltMember {
