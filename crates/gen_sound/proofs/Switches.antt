@@ -48,7 +48,7 @@ use Rattle.gen_sound.proofs.Calling.{CallsDo}
 use Rattle.gen_sound.proofs.Steps.{comes_on, lead_of, follows_then}
 use Rattle.gen_sound.proofs.Taking.{step_takes}
 use Rattle.gen_sound.proofs.Forms.{Value_at}
-use Rattle.gen_sound.proofs.Completing.{Stand, Leap, Complete, DoesHere, goes_on, leap_stands, completes_closed}
+use Rattle.gen_sound.proofs.Completing.{Complete, DoesHere, goes_on, leap_stands, completes_closed}
 use Rattle.gen_sound.proofs.Uses.{forms_do, over_none}
 
 -- Tables.
@@ -146,12 +146,6 @@ module _ (p : Program) (ok : IsCore p) (os : List Outline) (program : linked.Pro
     (calls : CallsDo p ok os program inputs me may (suc n) low) (number_of : ℕ) (at : slice_get p.methods number_of ≡ Some m) where
   abbrev here : Here ℕ
   here = record { class = m.class; object = this }
-
-  abbrev S : (place : ℕ) → Moment → Lives ℕ → Type 0
-  S = Stand p ok os program inputs me r m code runs this
-
-  abbrev L : (place : ℕ) → Moment → Lives ℕ → Type 0
-  L = Leap p ok os program inputs me r m code runs this
 
   abbrev C : List Around → (to : ℕ) → Moment → Completion ℕ → Lives ℕ → Type 0
   C = Complete p ok os program inputs me r m code runs this

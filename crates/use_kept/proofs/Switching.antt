@@ -1,7 +1,7 @@
 -- Switches: what is known where a case begins, by what the value is; and the groups are entered with what leads to them.
 use Rattle.std.proofs.Common.{◌≡◌, ℕ, zero, suc, ◌+◌, ◌<◌, Bool, true, false, List, [], ◌∷◌, ◌++◌, map, length, Option, Some, None, refl}
 use Rattle.std.proofs.Common.{sym, ap, ◌∙◌, subst, arith, inl, inr, ⊎_elim, slice_get}
-use Rattle.std.specs.Prelude.{◌⊎◌, nat_eq, if◌then◌else◌, option_map, option_and_then, slice_index_or, codes}
+use Rattle.std.specs.Prelude.{◌⊎◌, nat_eq, if◌then◌else◌, option_map, option_and_then}
 use Rattle.mg_text.specs.Call.{Name}
 use Rattle.mg_text.specs.declared.place.Place.{Place}
 use Rattle.ts_tree.specs.declared.parts.To.{To}
@@ -9,46 +9,44 @@ use Rattle.ts_tree.specs.Typestate.{Target, One, ByAnswer}
 use Rattle.ts_tree.specs.Calls.{led_by}
 use Rattle.jv_values.specs.Values.{Value, Row, Shared, Lives, Inputs, Here, Wrong}
 use Rattle.jv_values.specs.Values as values
-use Rattle.jv_values.specs.Doing.{Outcome, Gives, Ends, Run, and_then, ◌>>=◌, give, stop, found, kept, within, declared, valued}
+use Rattle.jv_values.specs.Doing.{Outcome, Gives, Ends, and_then, ◌>>=◌, give, stop, found, kept, within, declared}
 use Rattle.jv_values.specs.Objects.{answer_of}
 use Rattle.jv_values.specs.Seen.{label_in}
-use Rattle.jv_values.specs.Statements.{Completion, Normal, Breaks, Continues, Returns, Does}
+use Rattle.jv_values.specs.Statements.{Completion, Normal, Does}
 use Rattle.jv_core.specs.declared.tree.CoreVar.{CoreVar}
 use Rattle.jv_core.specs.declared.program.CoreType.{CoreType}
 use Rattle.jv_core.specs.declared.program.CoreType.TheVariants as types
-use Rattle.jv_core.specs.Tree.{Program, Method, Loop, Slot, Enum, Expr, Stmt, Block, Empty, Local, Assign, If, IfElse, While, Do, Switch}
-use Rattle.jv_core.specs.Tree.{Break, Continue, Return, Print, Eval, Stmts, NoStmt, Then, Declare, Groups, NoGroup, Group, Constant}
+use Rattle.jv_core.specs.Tree.{Program, Method, Enum, Expr}
+use Rattle.jv_core.specs.Tree.{Stmts, Groups, NoGroup, Group, Constant}
 use Rattle.jv_core.specs.Tree as trees
 use Rattle.jv_core.specs.Lookup.{text_at, variable_type, IsInstance}
-use Rattle.jv_core.specs.Types.{Has, IsVariable, IsShown, CallsHelper}
+use Rattle.jv_core.specs.Types.{Has, CallsHelper}
 use Rattle.jv_core.specs.Types as typing
 use Rattle.jv_core.specs.Statements.{Target as Around, ASwitch}
 use Rattle.jv_core.specs.Conditions.{IsCore}
 use Rattle.jv_core.specs.Calls.{constants_of}
-use Rattle.jv_core.specs.Meaning.{Lower, eval, value, test, write, exec, exec_all, exec_from, exec_groups}
+use Rattle.jv_core.specs.Meaning.{Lower, eval, value, test, exec_all, exec_from, exec_groups}
 use Rattle.use_rules.specs.declared.key.Context.{Context}
 use Rattle.use_rules.specs.Elements.{Set, targets, targets_by, found as found_to}
-use Rattle.use_rules.specs.Keys.{Tables, AreReached, contexts_in, class_in}
+use Rattle.use_rules.specs.Keys.{Tables, AreReached, contexts_in}
 use Rattle.use_rules.specs.State.{Now, Log, Flow, joined, caught}
 use Rattle.use_rules.specs.Flow as rules
-use Rattle.use_rules.specs.Flow.{Evaluated, after, flow, declared_here, placed}
+use Rattle.use_rules.specs.Flow.{Evaluated, after, flow}
 use Rattle.use_rules.specs.Tables.{Solves}
 use Rattle.use_rules.specs.inner.Order.{Mem, NowIn}
-use Rattle.use_rules.proofs.Members.{within_refl}
 use Rattle.use_rules.proofs.Orders.{now_refl, joined_left, joined_right}
 use Rattle.use_kept.proofs.Roots as roots
-use Rattle.use_kept.proofs.Roots.{class_fields, Root, Held, Onto, onto_then, to_front, Within, IsConstant}
+use Rattle.use_kept.proofs.Roots.{Root, Held, onto_then, to_front, IsConstant}
 use Rattle.use_kept.proofs.Worlds.{some_is, Holds, holds_onto}
 use Rattle.use_kept.proofs.Quiets.{Quiet}
 use Rattle.use_kept.proofs.Frames.{Me, Nobody, IsScope, held_by, variables, my_self}
-use Rattle.use_kept.proofs.Running.{Good, good_then, good_as, At, at_in, at_rest, loose, given, Result, given_goes, plainly_at, side}
-use Rattle.use_kept.proofs.Running.{side_after}
+use Rattle.use_kept.proofs.Running.{Good, good_as, At, at_rest, loose, Result}
 use Rattle.use_kept.proofs.Reading.{here_of}
 use Rattle.use_kept.proofs.Calling.{CallsWell}
 use Rattle.use_kept.proofs.Passing as passing
 use Rattle.use_kept.proofs.Expressions as exprs
 use Rattle.use_kept.proofs.Living as living
-use Rattle.use_kept.proofs.Living.{Suffix, whole, inner, Lv, lv_in, lv_rest, Left, outer_of, Post, Surround, Wider, post_in, Setting}
+use Rattle.use_kept.proofs.Living.{Lv, lv_in, post_in, Setting}
 use Rattle.use_kept.proofs.Completing.{PO}
 
 pub by_constant : (target : Target) (l : Name) (to : To) → led_by target (Some l) ≡ Some to → Mem to (targets_by l target)
@@ -82,23 +80,11 @@ module _ (p : Program) (ok : IsCore p) (reached : List (List Bool)) (rok : AreRe
   abbrev P : (sc out : List ℕ) → List Around → Flow → List Root → Completion ℕ → Lives ℕ → Type 0
   P sc out ts f rest c s = PO p reached t m cx me sc out ts f rest c s
 
-  abbrev SUR : List ℕ → List ℕ → List Around → Type 0
-  SUR sc out ts = Surround p reached t m cx me sc out ts
-
   abbrev E : ℕ → Expr → Now → Log → Evaluated
   E w e now log = rules.eval p cs cx m t w e now log
 
-  abbrev ST : (sc out : List ℕ) → Stmt → Now → Log → Flow
-  ST sc out z now log = rules.step p cs cx m t sc out z now log
-
-  abbrev SS : (sc out : List ℕ) → Stmts → Now → Log → Flow
-  SS sc out z now log = rules.steps p cs cx m t sc out z now log
-
   abbrev FO : (sc : List ℕ) → Now → List Now → Groups → Now → Log → Flow
   FO sc rn nows gs before log = rules.follow p cs cx m t sc rn nows gs before log
-
-  abbrev X : Stmt → Does ℕ
-  X z = exec p inputs low n here z
 
   abbrev XA : Stmts → Does ℕ
   XA body = exec_all p inputs low n here body
