@@ -26,60 +26,26 @@ arithmetic ops.Sub j h = refl
 arithmetic ops.Mul j h = refl
 arithmetic ops.Div j h = refl
 arithmetic ops.Rem j h = refl
-arithmetic ops.Add j h = absurd h
-arithmetic ops.Or j h = absurd h
-arithmetic ops.And j h = absurd h
-arithmetic ops.Eq j h = absurd h
-arithmetic ops.Ne j h = absurd h
-arithmetic ops.Lt j h = absurd h
-arithmetic ops.Le j h = absurd h
-arithmetic ops.Gt j h = absurd h
-arithmetic ops.Ge j h = absurd h
+arithmetic _ j h = absurd h
+
+-- operators of a kind that has no arithmetic give truth values
+of_truth : (Is : Op → Type 0) → (Is ops.Add → ⊥) → (Is ops.Sub → ⊥) → (Is ops.Mul → ⊥) → (Is ops.Div → ⊥) → (Is ops.Rem → ⊥) →
+    (o : Op) (j : Bool) → Is o → operator_type o j ≡ types.Boolean
+of_truth Is a s m d r ops.Add j h = absurd (a h)
+of_truth Is a s m d r ops.Sub j h = absurd (s h)
+of_truth Is a s m d r ops.Mul j h = absurd (m h)
+of_truth Is a s m d r ops.Div j h = absurd (d h)
+of_truth Is a s m d r ops.Rem j h = absurd (r h)
+of_truth Is a s m d r _ j h = refl
 
 ordered : (o : Op) (j : Bool) → IsOrder o → operator_type o j ≡ types.Boolean
-ordered ops.Lt j h = refl
-ordered ops.Le j h = refl
-ordered ops.Gt j h = refl
-ordered ops.Ge j h = refl
-ordered ops.Eq j h = refl
-ordered ops.Ne j h = refl
-ordered ops.Or j h = refl
-ordered ops.And j h = refl
-ordered ops.Add j h = absurd h
-ordered ops.Sub j h = absurd h
-ordered ops.Mul j h = absurd h
-ordered ops.Div j h = absurd h
-ordered ops.Rem j h = absurd h
+ordered = of_truth IsOrder (λ h. h) (λ h. h) (λ h. h) (λ h. h) (λ h. h)
 
 logical : (o : Op) (j : Bool) → IsLogic o → operator_type o j ≡ types.Boolean
-logical ops.Or j h = refl
-logical ops.And j h = refl
-logical ops.Eq j h = refl
-logical ops.Ne j h = refl
-logical ops.Lt j h = refl
-logical ops.Le j h = refl
-logical ops.Gt j h = refl
-logical ops.Ge j h = refl
-logical ops.Add j h = absurd h
-logical ops.Sub j h = absurd h
-logical ops.Mul j h = absurd h
-logical ops.Div j h = absurd h
-logical ops.Rem j h = absurd h
+logical = of_truth IsLogic (λ h. h) (λ h. h) (λ h. h) (λ h. h) (λ h. h)
 
 equal : (o : Op) (j : Bool) → IsEquality o → operator_type o j ≡ types.Boolean
-equal ops.Eq j h = refl
-equal ops.Ne j h = refl
-equal ops.Or j h = refl
-equal ops.And j h = refl
-equal ops.Lt j h = refl
-equal ops.Le j h = refl
-equal ops.Gt j h = refl
-equal ops.Ge j h = refl
-equal ops.Add j h = absurd h
-equal ops.Sub j h = absurd h
-equal ops.Mul j h = absurd h
-equal ops.Div j h = absurd h
-equal ops.Rem j h = absurd h
+equal = of_truth IsEquality (λ h. h) (λ h. h) (λ h. h) (λ h. h) (λ h. h)
 
 text_left : (s t : Option CoreType) → s ≡ Some types.Text → operator_type ops.Add (joins ops.Add s t) ≡ types.Text
 text_left s t e = ap (λ x. operator_type ops.Add (joins ops.Add x t)) e

@@ -66,13 +66,13 @@ beyond k = grind arith
 
 load_number : (os : List Outline) (k : ℕ) → action_of os (iload k) ≡ Some (Load Number k)
 load_number os = first_four (λ k. action_of os (iload k) ≡ Some (Load Number k)) refl refl refl refl
-    (λ k. ap (λ b. action_of os (if b then plain (26 + suc (suc (suc (suc k)))) else record { op = 21; operand = symbolic.Local (suc (suc (suc (suc k)))) }))
-    (beyond k))
+    (λ k. let n : ℕ = suc (suc (suc (suc k))) in
+    ap (λ b. action_of os (if b then plain (26 + n) else record { op = 21; operand = symbolic.Local n })) (beyond k))
 
 load_reference : (os : List Outline) (k : ℕ) → action_of os (aload k) ≡ Some (Load Reference k)
 load_reference os = first_four (λ k. action_of os (aload k) ≡ Some (Load Reference k)) refl refl refl refl
-    (λ k. ap (λ b. action_of os (if b then plain (42 + suc (suc (suc (suc k)))) else record { op = 25; operand = symbolic.Local (suc (suc (suc (suc k)))) }))
-    (beyond k))
+    (λ k. let n : ℕ = suc (suc (suc (suc k))) in
+    ap (λ b. action_of os (if b then plain (42 + n) else record { op = 25; operand = symbolic.Local n })) (beyond k))
 
 pub load_does : (os : List Outline) (type : CoreType) (k : ℕ) → action_of os (load type k) ≡ Some (Load (sort_of type) k)
 load_does os types.Int k = load_number os k
@@ -84,13 +84,13 @@ load_does os (types.Object c) k = load_reference os k
 
 store_number : (os : List Outline) (k : ℕ) → action_of os (istore k) ≡ Some (Store Number k)
 store_number os = first_four (λ k. action_of os (istore k) ≡ Some (Store Number k)) refl refl refl refl
-    (λ k. ap (λ b. action_of os (if b then plain (59 + suc (suc (suc (suc k)))) else record { op = 54; operand = symbolic.Local (suc (suc (suc (suc k)))) }))
-    (beyond k))
+    (λ k. let n : ℕ = suc (suc (suc (suc k))) in
+    ap (λ b. action_of os (if b then plain (59 + n) else record { op = 54; operand = symbolic.Local n })) (beyond k))
 
 store_reference : (os : List Outline) (k : ℕ) → action_of os (astore k) ≡ Some (Store Reference k)
 store_reference os = first_four (λ k. action_of os (astore k) ≡ Some (Store Reference k)) refl refl refl refl
-    (λ k. ap (λ b. action_of os (if b then plain (75 + suc (suc (suc (suc k)))) else record { op = 58; operand = symbolic.Local (suc (suc (suc (suc k)))) }))
-    (beyond k))
+    (λ k. let n : ℕ = suc (suc (suc (suc k))) in
+    ap (λ b. action_of os (if b then plain (75 + n) else record { op = 58; operand = symbolic.Local n })) (beyond k))
 
 pub store_does : (os : List Outline) (type : CoreType) (k : ℕ) → action_of os (store type k) ≡ Some (Store (sort_of type) k)
 store_does os types.Int k = store_number os k

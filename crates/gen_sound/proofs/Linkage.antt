@@ -289,7 +289,8 @@ module _ (p : Program) (core : IsCore p) (plain : HasPlainNames p) (all : List (
           ∙ slice_get-map field_made (map (declared_field p) k.fields) f (declared_field p d)
           (slice_get-map (declared_field p) k.fields f d of);
       typed = (field_exact (field_descriptor p d.ty) (type_in p d.ty)).1
-          (descriptors.plain (type_plain p core plain all made.classes d.ty (each_at (IsField p) k.fields f (core.classes c k at).fields of).type) refl);
+          (descriptors.plain (type_plain p core plain all made.classes d.ty
+          (each_at (IsField p) k.fields f (core.classes c k at).fields of).type) refl);
     }
 
   stack_is : (q : Place) (m : Method) (inits : List Instr) →

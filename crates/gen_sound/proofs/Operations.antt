@@ -1,12 +1,14 @@
 -- Operators on the values of two expressions, and tests of a value against `null`.
-use Rattle.std.proofs.Common.{◌≡◌, ℕ, ◌+◌, ◌≤◌, Bool, true, false, not, List, [], ◌∷◌, ◌++◌, length, Option, Some, None, refl, sym, ap, ◌∙◌, subst, arith, ℤ, pos, append_assoc, suc}
+use Rattle.std.proofs.Common.{◌≡◌, ℕ, ◌+◌, ◌≤◌, Bool, true, false, not, List, [], ◌∷◌, ◌++◌, length, Option, Some, None, refl, sym, ap, ◌∙◌}
+use Rattle.std.proofs.Common.{subst, arith, ℤ, pos, append_assoc, suc}
 use Rattle.std.specs.Prelude.{if◌then◌else◌, slice_get, int_div, int_rem, int_lt, int_le}
 use Rattle.jv_tree.specs.declared.tree.Op.{Op}
 use Rattle.jv_tree.specs.declared.tree.Op.TheVariants as ops
 use Rattle.jv_values.specs.Values.{Value, Shared, Inputs}
 use Rattle.jv_values.specs.Values as values
 use Rattle.jv_values.specs.Doing.{Run, Outcome, and_then, ◌>>=◌, give, stop, valuing, truth, Gives, Ends, found}
-use Rattle.jv_values.specs.Operators.{applied, Minus, Times, Divide, Remain, Plus, Equal, Unequal, equal_texts, joined_texts, int_same, wrap, operator_of}
+use Rattle.jv_values.specs.Operators.{applied, Minus, Times, Divide, Remain, Plus, Equal, Unequal, equal_texts, joined_texts, int_same}
+use Rattle.jv_values.specs.Operators.{wrap, operator_of}
 use Rattle.jv_core.specs.declared.program.CoreType.{CoreType}
 use Rattle.jv_core.specs.declared.program.CoreType.TheVariants as types
 use Rattle.jv_core.specs.Tree.{Method, Program}

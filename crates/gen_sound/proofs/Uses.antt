@@ -1,5 +1,6 @@
 -- Statements that use the value of an expression, or its test, and those that print or drop one.
-use Rattle.std.proofs.Common.{◌≡◌, ℕ, suc, ◌+◌, ◌≤◌, ◌<◌, Bool, true, false, List, [], ◌∷◌, ◌++◌, length, Option, Some, refl, sym, ap, ◌∙◌, subst, arith}
+use Rattle.std.proofs.Common.{◌≡◌, ℕ, suc, ◌+◌, ◌≤◌, ◌<◌, Bool, true, false, List, [], ◌∷◌, ◌++◌, length, Option, Some, refl, sym, ap, ◌∙◌}
+use Rattle.std.proofs.Common.{subst, arith}
 use Rattle.std.specs.Prelude.{slice_get, slice_set, nat_eq, if◌then◌else◌, unwrap_or}
 use Rattle.std.proofs.lemmas.Option.{slice_get_within}
 use Rattle.jv_values.specs.Values.{Value, Row, Shared, Inputs, Here, Lives, find, put, Wrong}
@@ -40,7 +41,8 @@ use Rattle.gen_sound.proofs.Forms.{Does as DoesForms, Unless_at, When_at, next_p
 use Rattle.gen_sound.proofs.Slots.{as_long, laid_at}
 use Rattle.gen_sound.proofs.Rows.{fits_sort, laid_more, laid_put, PutAt}
 use Rattle.gen_sound.proofs.Expressions.{expression_does, takes_room, shown_room}
-use Rattle.gen_sound.proofs.Completing.{Stand, Complete, Placed, DoesHere, goes_on, value_then, test_then, uncovers, stored, row_set, completes_closed}
+use Rattle.gen_sound.proofs.Completing.{Stand, Complete, Placed, DoesHere, goes_on, value_then, test_then, uncovers, stored, row_set}
+use Rattle.gen_sound.proofs.Completing.{completes_closed}
 use Rattle.gen_sound.proofs.Control.{UnlessStand, WhenStand}
 use Rattle.mg_text.specs.declared.event.Event.TheVariants as seen
 use Rattle.jv_values.specs.Operators.{shown, print}

@@ -56,67 +56,31 @@ low_of c k e l = let same = eqb-true c k e in omega (arith, same, l)
 plain_of : (c : ℕ) → eqb c 10 ≡ false → eqb c 13 ≡ false → eqb c 34 ≡ false → eqb c 92 ≡ false → is_plain c ≡ true
 plain_of c a b d e = rw (a, b, d, e) refl
 
+-- a character that is written by an escape
+escape : (c k e : ℕ) (bytes : List ℕ) → eqb c k ≡ true → k < 128 → IsCharacter (escaped e) → meant (escaped e) ≡ k →
+    spelled (escaped e ∷ []) ≡ bytes → IsUtf8 bytes → Writes c (escaped e) bytes
+escape c k e bytes is low right means spells utf8 =
+    record { right = right; means = means ∙ sym (eqb-true c k is); spells = spells; low = inr (low_of c k is low, utf8) }
+
 written_as : (c : ℕ) → Writes c (write c) (character c)
 written_as c = go (eqb c 8) (eqb c 9) (eqb c 10) (eqb c 12) (eqb c 13) (eqb c 34) (eqb c 92) refl refl refl refl refl refl refl
   where
     go : (a b d e f g h : Bool) → eqb c 8 ≡ a → eqb c 9 ≡ b → eqb c 10 ≡ d → eqb c 12 ≡ e → eqb c 13 ≡ f → eqb c 34 ≡ g → eqb c 92 ≡ h
         → Writes c (pick a b d e f g h c) (laid a b d e f g h c)
-    go true b d e f g h ea eb ed ee ef eg eh =
-        record {
-          right = refl;
-          means = sym (eqb-true c 8 ea);
-          spells = refl;
-          low = inr
-              (low_of c 8 ea (omega arith), low_utf8 (codes "\\b") refl);
-        }
-    go false true d e f g h ea eb ed ee ef eg eh =
-        record {
-          right = refl;
-          means = sym (eqb-true c 9 eb);
-          spells = refl;
-          low = inr
-              (low_of c 9 eb (omega arith), low_utf8 (codes "\\t") refl);
-        }
-    go false false true e f g h ea eb ed ee ef eg eh =
-        record {
-          right = refl;
-          means = sym (eqb-true c 10 ed);
-          spells = refl;
-          low = inr
-              (low_of c 10 ed (omega arith), low_utf8 (codes "\\n") refl);
-        }
-    go false false false true f g h ea eb ed ee ef eg eh =
-        record {
-          right = refl;
-          means = sym (eqb-true c 12 ee);
-          spells = refl;
-          low = inr
-              (low_of c 12 ee (omega arith), low_utf8 (codes "\\f") refl);
-        }
-    go false false false false true g h ea eb ed ee ef eg eh =
-        record {
-          right = refl;
-          means = sym (eqb-true c 13 ef);
-          spells = refl;
-          low = inr
-              (low_of c 13 ef (omega arith), low_utf8 (codes "\\r") refl);
-        }
-    go false false false false false true h ea eb ed ee ef eg eh =
-        record {
-          right = refl;
-          means = sym (eqb-true c 34 eg);
-          spells = refl;
-          low = inr
-              (low_of c 34 eg (omega arith), low_utf8 (codes "\\\"") refl);
-        }
-    go false false false false false false true ea eb ed ee ef eg eh =
-        record {
-          right = refl;
-          means = sym (eqb-true c 92 eh);
-          spells = refl;
-          low = inr
-              (low_of c 92 eh (omega arith), low_utf8 (codes "\\\\") refl);
-        }
+    go true b d e f g h ea eb ed ee ef eg eh = escape c 8 98 (codes "\\b") ea (omega arith)
+        refl refl refl (low_utf8 (codes "\\b") refl)
+    go false true d e f g h ea eb ed ee ef eg eh = escape c 9 116 (codes "\\t") eb (omega arith)
+        refl refl refl (low_utf8 (codes "\\t") refl)
+    go false false true e f g h ea eb ed ee ef eg eh = escape c 10 110 (codes "\\n") ed (omega arith)
+        refl refl refl (low_utf8 (codes "\\n") refl)
+    go false false false true f g h ea eb ed ee ef eg eh = escape c 12 102 (codes "\\f") ee (omega arith)
+        refl refl refl (low_utf8 (codes "\\f") refl)
+    go false false false false true g h ea eb ed ee ef eg eh = escape c 13 114 (codes "\\r") ef (omega arith)
+        refl refl refl (low_utf8 (codes "\\r") refl)
+    go false false false false false true h ea eb ed ee ef eg eh = escape c 34 34 (codes "\\\"") eg (omega arith)
+        refl refl refl (low_utf8 (codes "\\\"") refl)
+    go false false false false false false true ea eb ed ee ef eg eh = escape c 92 92 (codes "\\\\") eh (omega arith)
+        refl refl refl (low_utf8 (codes "\\\\") refl)
     go false false false false false false false ea eb ed ee ef eg eh =
         record { right = plain_of c ed ef eg eh; means = refl; spells = refl; low = inl refl }
 

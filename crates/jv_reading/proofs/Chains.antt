@@ -216,7 +216,8 @@ module _ (k : ℕ) (part : ℕ → Reads) (P : Language) (exact : (d : ℕ) → 
       rw place (fits_again d (Binary (place_of l) o l r) rest le) in
       let reads : step l (tail ++ rest) ≡ Some (Binary p o l r, rest) =
       rw (comes, (exact (d - 1)).complete r ws rest fine (right, omega arith)) whole in
-      subst (λ (z : List Token). Begun (Binary p o l r) z rest) (sym parts) (begins.begun_more (is_op k) step P (Ends k) d l (Binary p o l r) vs tail rest before goes reads
+      subst (λ (z : List Token). Begun (Binary p o l r) z rest) (sym parts)
+      (begins.begun_more (is_op k) step P (Ends k) d l (Binary p o l r) vs tail rest before goes reads
       (omega arith))
   begun (Call p n args) us rest fine h le = begun_alone (Call p n args) us rest fine h le
   begun (MethodCall p e n args) us rest fine h le = begun_alone (MethodCall p e n args) us rest fine h le

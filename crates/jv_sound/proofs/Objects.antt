@@ -12,15 +12,14 @@ use Rattle.jv_values.specs.Objects.{object_of, read_field, write_field, make, re
 use Rattle.mg_text.specs.declared.event.Event.TheVariants as seen
 use Rattle.jv_core.specs.declared.program.CoreType.{CoreType}
 use Rattle.jv_core.specs.declared.program.CoreType.TheVariants as types
-use Rattle.jv_core.specs.Tree.{Expr, Int, Truth, Text, Null, Variable, Constant, Neg, Not, Binary, Protocol, Helper, Static, Equals, Concat}
-use Rattle.jv_core.specs.Tree.{Session, New}
+use Rattle.jv_core.specs.Tree.{Expr, Int, Truth, Text, Null, Constant}
 use Rattle.jv_core.specs.Tree.{Program, Class, Field}
 use Rattle.jv_core.specs.Lookup.{text_at, enum_text}
 use Rattle.jv_core.specs.Members.{IsUsable, MayBeginWith, IsField}
 use Rattle.jv_core.specs.Conditions.{IsCore}
 use Rattle.jv_core.specs.Meaning.{begins_with, new_fields}
 use Rattle.jv_sound.proofs.Lists.{some_is, same_name}
-use Rattle.jv_sound.proofs.Worlds.{World, Extends, stays, same_world, Runs, runs_give, runs_then, runs_stop, runs_found, runs_at}
+use Rattle.jv_sound.proofs.Worlds.{World, Extends, stays, Runs, runs_give, runs_then, runs_stop, runs_found, runs_at}
 use Rattle.jv_sound.proofs.Worlds.{runs_later, good_give, Good, Fits, fits_more, GivesA, gives_more, FieldsFit, fields_more, finds_field}
 use Rattle.jv_sound.proofs.Worlds.{puts_field}
 use Rattle.jv_sound.proofs.Worlds as worlds
@@ -42,74 +41,13 @@ begins p types.Text None u m = absurd m
 begins p (types.Object c) None u m = record { value = _; is = refl; fits = λ w. worlds.null }
 begins p (types.Enum e) None u m = absurd m
 begins p types.Int (Some (Int q z)) u m = record { value = _; is = refl; fits = λ w. worlds.int }
-begins p types.Int (Some (Truth q b)) u m = absurd m
-begins p types.Int (Some (Text q s)) u m = absurd m
-begins p types.Int (Some (Null q)) u m = absurd m
-begins p types.Int (Some (Variable q x)) u m = absurd m
-begins p types.Int (Some (Constant q of n)) u m = absurd m
-begins p types.Int (Some (Neg q a)) u m = absurd m
-begins p types.Int (Some (Not q a)) u m = absurd m
-begins p types.Int (Some (Binary q o a b)) u m = absurd m
-begins p types.Int (Some (Protocol q x n args)) u m = absurd m
-begins p types.Int (Some (Helper q n args)) u m = absurd m
-begins p types.Int (Some (Static q n args)) u m = absurd m
-begins p types.Int (Some (Equals q a b)) u m = absurd m
-begins p types.Int (Some (Concat q a b)) u m = absurd m
-begins p types.Int (Some (Session q c args)) u m = absurd m
-begins p types.Int (Some (New q c)) u m = absurd m
-begins p types.Boolean (Some (Int q z)) u m = absurd m
+begins p types.Int (Some _) u m = absurd m
 begins p types.Boolean (Some (Truth q b)) u m = record { value = _; is = refl; fits = λ w. worlds.truth }
-begins p types.Boolean (Some (Text q s)) u m = absurd m
-begins p types.Boolean (Some (Null q)) u m = absurd m
-begins p types.Boolean (Some (Variable q x)) u m = absurd m
-begins p types.Boolean (Some (Constant q of n)) u m = absurd m
-begins p types.Boolean (Some (Neg q a)) u m = absurd m
-begins p types.Boolean (Some (Not q a)) u m = absurd m
-begins p types.Boolean (Some (Binary q o a b)) u m = absurd m
-begins p types.Boolean (Some (Protocol q x n args)) u m = absurd m
-begins p types.Boolean (Some (Helper q n args)) u m = absurd m
-begins p types.Boolean (Some (Static q n args)) u m = absurd m
-begins p types.Boolean (Some (Equals q a b)) u m = absurd m
-begins p types.Boolean (Some (Concat q a b)) u m = absurd m
-begins p types.Boolean (Some (Session q c args)) u m = absurd m
-begins p types.Boolean (Some (New q c)) u m = absurd m
-begins p types.Text (Some (Int q z)) u m = absurd m
-begins p types.Text (Some (Truth q b)) u m = absurd m
+begins p types.Boolean (Some _) u m = absurd m
 begins p types.Text (Some (Text q s)) u m = record { value = _; is = refl; fits = λ w. worlds.text }
-begins p types.Text (Some (Null q)) u m = absurd m
-begins p types.Text (Some (Variable q x)) u m = absurd m
-begins p types.Text (Some (Constant q of n)) u m = absurd m
-begins p types.Text (Some (Neg q a)) u m = absurd m
-begins p types.Text (Some (Not q a)) u m = absurd m
-begins p types.Text (Some (Binary q o a b)) u m = absurd m
-begins p types.Text (Some (Protocol q x n args)) u m = absurd m
-begins p types.Text (Some (Helper q n args)) u m = absurd m
-begins p types.Text (Some (Static q n args)) u m = absurd m
-begins p types.Text (Some (Equals q a b)) u m = absurd m
-begins p types.Text (Some (Concat q a b)) u m = absurd m
-begins p types.Text (Some (Session q c args)) u m = absurd m
-begins p types.Text (Some (New q c)) u m = absurd m
-begins p (types.Object i) (Some (Int q z)) u m = absurd m
-begins p (types.Object i) (Some (Truth q b)) u m = absurd m
-begins p (types.Object i) (Some (Text q s)) u m = absurd m
+begins p types.Text (Some _) u m = absurd m
 begins p (types.Object i) (Some (Null q)) u m = record { value = _; is = refl; fits = λ w. worlds.null }
-begins p (types.Object i) (Some (Variable q x)) u m = absurd m
-begins p (types.Object i) (Some (Constant q of n)) u m = absurd m
-begins p (types.Object i) (Some (Neg q a)) u m = absurd m
-begins p (types.Object i) (Some (Not q a)) u m = absurd m
-begins p (types.Object i) (Some (Binary q o a b)) u m = absurd m
-begins p (types.Object i) (Some (Protocol q x n args)) u m = absurd m
-begins p (types.Object i) (Some (Helper q n args)) u m = absurd m
-begins p (types.Object i) (Some (Static q n args)) u m = absurd m
-begins p (types.Object i) (Some (Equals q a b)) u m = absurd m
-begins p (types.Object i) (Some (Concat q a b)) u m = absurd m
-begins p (types.Object i) (Some (Session q c args)) u m = absurd m
-begins p (types.Object i) (Some (New q c)) u m = absurd m
-begins p (types.Enum i) (Some (Int q z)) u m = absurd m
-begins p (types.Enum i) (Some (Truth q b)) u m = absurd m
-begins p (types.Enum i) (Some (Text q s)) u m = absurd m
-begins p (types.Enum i) (Some (Null q)) u m = absurd m
-begins p (types.Enum i) (Some (Variable q x)) u m = absurd m
+begins p (types.Object i) (Some _) u m = absurd m
 begins p (types.Enum i) (Some (Constant q of n)) u m =
     let named : enum_text p of ≡ Some (text_at p m.1.name) = ap (λ k. enum_text p k) m.0 ∙ ap (option_map (λ d. text_at p d.name)) m.2 in
     record {
@@ -117,16 +55,7 @@ begins p (types.Enum i) (Some (Constant q of n)) u m =
       is = ap (option_map (λ name. values.Constant name n)) named;
       fits = λ w. worlds.constant (ap (option_map (λ d. text_at p d.name)) m.2);
     }
-begins p (types.Enum i) (Some (Neg q a)) u m = absurd m
-begins p (types.Enum i) (Some (Not q a)) u m = absurd m
-begins p (types.Enum i) (Some (Binary q o a b)) u m = absurd m
-begins p (types.Enum i) (Some (Protocol q x n args)) u m = absurd m
-begins p (types.Enum i) (Some (Helper q n args)) u m = absurd m
-begins p (types.Enum i) (Some (Static q n args)) u m = absurd m
-begins p (types.Enum i) (Some (Equals q a b)) u m = absurd m
-begins p (types.Enum i) (Some (Concat q a b)) u m = absurd m
-begins p (types.Enum i) (Some (Session q c args)) u m = absurd m
-begins p (types.Enum i) (Some (New q c)) u m = absurd m
+begins p (types.Enum i) (Some _) u m = absurd m
 
 pub record Begun (p : Program) (fs : List Field) (o : Option (Row Name)) : Type 0 where
   pub row : Row Name

@@ -143,15 +143,7 @@ module _ (p : Program) (St : World → Shared → Type 0) where
   arithmetic_runs ops.Rem w v u i f g = computed_runs (λ x y. nonzero y >>= λ d. give (int_rem x d)) w v u
       (λ x a b. runs_then St Anything Anything x (nonzero b) (λ d. give (int_rem a d)) (nonzero_runs x b)
       (λ y d q t. runs_give St Anything y (int_rem a d) (λ y q. tt))) f g
-  arithmetic_runs ops.Or w v u i f g = absurd i
-  arithmetic_runs ops.And w v u i f g = absurd i
-  arithmetic_runs ops.Eq w v u i f g = absurd i
-  arithmetic_runs ops.Ne w v u i f g = absurd i
-  arithmetic_runs ops.Lt w v u i f g = absurd i
-  arithmetic_runs ops.Le w v u i f g = absurd i
-  arithmetic_runs ops.Gt w v u i f g = absurd i
-  arithmetic_runs ops.Ge w v u i f g = absurd i
-  arithmetic_runs ops.Add w v u i f g = absurd i
+  arithmetic_runs _ w v u i f g = absurd i
 
   order_runs : (o : Op) (w : World) (v u : Value) → IsOrder o → Fits p w v types.Int → Fits p w u types.Int →
       Runs St (OfType types.Boolean) w (applied (operator_of o) v u)
@@ -159,15 +151,7 @@ module _ (p : Program) (St : World → Shared → Type 0) where
   order_runs ops.Le w v u i f g = compared_runs _ w v u f g
   order_runs ops.Gt w v u i f g = compared_runs _ w v u f g
   order_runs ops.Ge w v u i f g = compared_runs _ w v u f g
-  order_runs ops.Or w v u i f g = absurd i
-  order_runs ops.And w v u i f g = absurd i
-  order_runs ops.Eq w v u i f g = absurd i
-  order_runs ops.Ne w v u i f g = absurd i
-  order_runs ops.Add w v u i f g = absurd i
-  order_runs ops.Sub w v u i f g = absurd i
-  order_runs ops.Mul w v u i f g = absurd i
-  order_runs ops.Div w v u i f g = absurd i
-  order_runs ops.Rem w v u i f g = absurd i
+  order_runs _ w v u i f g = absurd i
 
   -- Comparisons for equality.
 
@@ -199,17 +183,7 @@ module _ (p : Program) (St : World → Shared → Type 0) where
       (λ x b q t. runs_give St (OfType types.Boolean) x _ (λ y q. worlds.truth))
   equality_runs ops.Ne w v u i r = runs_then St Anything (OfType types.Boolean) w (same v u) _ r
       (λ x b q t. runs_give St (OfType types.Boolean) x _ (λ y q. worlds.truth))
-  equality_runs ops.Lt w v u i r = absurd i
-  equality_runs ops.Le w v u i r = absurd i
-  equality_runs ops.Gt w v u i r = absurd i
-  equality_runs ops.Ge w v u i r = absurd i
-  equality_runs ops.Or w v u i r = absurd i
-  equality_runs ops.And w v u i r = absurd i
-  equality_runs ops.Add w v u i r = absurd i
-  equality_runs ops.Sub w v u i r = absurd i
-  equality_runs ops.Mul w v u i r = absurd i
-  equality_runs ops.Div w v u i r = absurd i
-  equality_runs ops.Rem w v u i r = absurd i
+  equality_runs _ w v u i r = absurd i
 
   -- Both operands, from left to right.
 
@@ -246,62 +220,22 @@ module _ (p : Program) (St : World → Shared → Type 0) where
   takes_both : (o : Op) (a b : Run Shared Value) → (IsLogic o → ⊥) → binary (operator_of o) a b ≡ both (applied (operator_of o)) a b
   takes_both ops.Or a b n = absurd (n tt)
   takes_both ops.And a b n = absurd (n tt)
-  takes_both ops.Eq a b n = refl
-  takes_both ops.Ne a b n = refl
-  takes_both ops.Lt a b n = refl
-  takes_both ops.Le a b n = refl
-  takes_both ops.Gt a b n = refl
-  takes_both ops.Ge a b n = refl
-  takes_both ops.Add a b n = refl
-  takes_both ops.Sub a b n = refl
-  takes_both ops.Mul a b n = refl
-  takes_both ops.Div a b n = refl
-  takes_both ops.Rem a b n = refl
+  takes_both _ a b n = refl
+
+  -- a kind of operators that has neither `&&` nor `||`
+  no_logic : (Is : Op → Type 0) → (Is ops.And → ⊥) → (Is ops.Or → ⊥) → (o : Op) → Is o → IsLogic o → ⊥
+  no_logic Is a r ops.And i l = a i
+  no_logic Is a r ops.Or i l = r i
+  no_logic Is a r _ i l = l
 
   arithmetic_is_no_logic : (o : Op) → IsArithmetic o → IsLogic o → ⊥
-  arithmetic_is_no_logic ops.Or i l = absurd i
-  arithmetic_is_no_logic ops.And i l = absurd i
-  arithmetic_is_no_logic ops.Eq i l = absurd i
-  arithmetic_is_no_logic ops.Ne i l = absurd i
-  arithmetic_is_no_logic ops.Lt i l = absurd i
-  arithmetic_is_no_logic ops.Le i l = absurd i
-  arithmetic_is_no_logic ops.Gt i l = absurd i
-  arithmetic_is_no_logic ops.Ge i l = absurd i
-  arithmetic_is_no_logic ops.Add i l = absurd i
-  arithmetic_is_no_logic ops.Sub i l = l
-  arithmetic_is_no_logic ops.Mul i l = l
-  arithmetic_is_no_logic ops.Div i l = l
-  arithmetic_is_no_logic ops.Rem i l = l
+  arithmetic_is_no_logic = no_logic IsArithmetic (λ i. i) (λ i. i)
 
   order_is_no_logic : (o : Op) → IsOrder o → IsLogic o → ⊥
-  order_is_no_logic ops.Or i l = absurd i
-  order_is_no_logic ops.And i l = absurd i
-  order_is_no_logic ops.Eq i l = absurd i
-  order_is_no_logic ops.Ne i l = absurd i
-  order_is_no_logic ops.Lt i l = l
-  order_is_no_logic ops.Le i l = l
-  order_is_no_logic ops.Gt i l = l
-  order_is_no_logic ops.Ge i l = l
-  order_is_no_logic ops.Add i l = absurd i
-  order_is_no_logic ops.Sub i l = absurd i
-  order_is_no_logic ops.Mul i l = absurd i
-  order_is_no_logic ops.Div i l = absurd i
-  order_is_no_logic ops.Rem i l = absurd i
+  order_is_no_logic = no_logic IsOrder (λ i. i) (λ i. i)
 
   equality_is_no_logic : (o : Op) → IsEquality o → IsLogic o → ⊥
-  equality_is_no_logic ops.Or i l = absurd i
-  equality_is_no_logic ops.And i l = absurd i
-  equality_is_no_logic ops.Eq i l = l
-  equality_is_no_logic ops.Ne i l = l
-  equality_is_no_logic ops.Lt i l = absurd i
-  equality_is_no_logic ops.Le i l = absurd i
-  equality_is_no_logic ops.Gt i l = absurd i
-  equality_is_no_logic ops.Ge i l = absurd i
-  equality_is_no_logic ops.Add i l = absurd i
-  equality_is_no_logic ops.Sub i l = absurd i
-  equality_is_no_logic ops.Mul i l = absurd i
-  equality_is_no_logic ops.Div i l = absurd i
-  equality_is_no_logic ops.Rem i l = absurd i
+  equality_is_no_logic = no_logic IsEquality (λ i. i) (λ i. i)
 
   pub arithmetic_of : (o : Op) (w : World) (a b : Run Shared Value) → IsArithmetic o → Runs St (OfType types.Int) w a →
       Runs St (OfType types.Int) w b → Runs St (OfType types.Int) w (binary (operator_of o) a b)
@@ -335,14 +269,4 @@ module _ (p : Program) (St : World → Shared → Type 0) where
       Runs St (OfType types.Boolean) w b → Runs St (OfType types.Boolean) w (binary (operator_of o) a b)
   logic_of ops.And w a b i ra rb = unless_runs true w a b ra rb
   logic_of ops.Or w a b i ra rb = unless_runs false w a b ra rb
-  logic_of ops.Eq w a b i ra rb = absurd i
-  logic_of ops.Ne w a b i ra rb = absurd i
-  logic_of ops.Lt w a b i ra rb = absurd i
-  logic_of ops.Le w a b i ra rb = absurd i
-  logic_of ops.Gt w a b i ra rb = absurd i
-  logic_of ops.Ge w a b i ra rb = absurd i
-  logic_of ops.Add w a b i ra rb = absurd i
-  logic_of ops.Sub w a b i ra rb = absurd i
-  logic_of ops.Mul w a b i ra rb = absurd i
-  logic_of ops.Div w a b i ra rb = absurd i
-  logic_of ops.Rem w a b i ra rb = absurd i
+  logic_of _ w a b i ra rb = absurd i

@@ -13,7 +13,8 @@ use Rattle.mg_sources.specs.Files.{Source, Kind, Scribble, Typestates, Java, suf
 use Rattle.mg_refusal.specs.Refusals.{Refusal, AreAlike}
 use Rattle.mg_refusal.specs.Order.{InFile}
 use Rattle.mg_refusal.proofs.Orders.{same_in, syntax_in}
-use Rattle.mg_sources.specs.Reading.{Part, Protocol, States, Classes, Reads, Refuses, IsIn, IsSaidOfProtocol, IsSaidOfTypestate, IsSaidOfJava}
+use Rattle.mg_sources.specs.Reading.{Part, Protocol, States, Classes, Reads, Refuses, IsIn, IsSaidOfProtocol, IsSaidOfTypestate}
+use Rattle.mg_sources.specs.Reading.{IsSaidOfJava}
 use Rattle.mg_sources.specs.Reading as reading
 
 -- the last of a text

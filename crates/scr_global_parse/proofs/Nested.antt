@@ -21,7 +21,8 @@ use Rattle.scr_global_parse.specs.inner.View.{joined}
 use Rattle.scr_global_parse.specs.inner.Reading.{ends_at, message_at, says_at, a_choice, a_rec, a_continue, statement_with, statement_at}
 use Rattle.scr_parse.proofs.Steps.{Anything, after, mark_is, name_is}
 use Rattle.mg_read.proofs.Turns.{shorter}
-use Rattle.scr_parse.proofs.Blocks.{NotOr, takes_as, BlockOf, OtherOf, BranchesOf, IsChoice, IsRec, IsContinue, other_nonempty, block_complete, block_exact, other_exact}
+use Rattle.scr_parse.proofs.Blocks.{NotOr, takes_as, BlockOf, OtherOf, BranchesOf, IsChoice, IsRec, IsContinue, other_nonempty}
+use Rattle.scr_parse.proofs.Blocks.{block_complete, block_exact, other_exact}
 use Rattle.scr_parse.proofs.Blocks.{branches_complete, choice_sound, rec_sound, continue_sound}
 use Rattle.scr_parse.proofs.Nested.{payload_sound, payload_complete}
 
@@ -205,7 +206,8 @@ module _ (declared : List Declaration) where
   abbrev Others : ℕ → Branches → List Tok → Type 0
   Others d bs us = (cs : List Carries) × AreOthers declared bs cs us × (depth_in bs ≤ d)
 
-  deep_others : (d : ℕ) (xs : List (List Statements)) (us : List Tok) → Each (OtherOf (Deep d)) xs us → Others d (branches_of (map joined xs)) us
+  deep_others : (d : ℕ) (xs : List (List Statements)) (us : List Tok) → Each (OtherOf (Deep d)) xs us →
+      Others d (branches_of (map joined xs)) us
   deep_others d [] us h = ([], (refl, h), omega arith)
   deep_others d (x ∷ xs) us (ps, qs, parts, (a, vs, starts, block), more) =
       let one = block_row d x vs block in
@@ -221,7 +223,8 @@ module _ (declared : List Declaration) where
   abbrev Choices : ℕ → Branches → List Tok → Type 0
   Choices d bs us = (cs : List Carries) × AreBranches declared bs cs us × (depth_in bs ≤ d)
 
-  deep_branches : (d : ℕ) (xs : List (List Statements)) (us : List Tok) → BranchesOf (Deep d) xs us → Choices d (branches_of (map joined xs)) us
+  deep_branches : (d : ℕ) (xs : List (List Statements)) (us : List Tok) → BranchesOf (Deep d) xs us →
+      Choices d (branches_of (map joined xs)) us
   deep_branches d [] us h = absurd h
   deep_branches d (x ∷ xs) us (ps, qs, parts, block, more) =
       let one = block_row d x ps block in
@@ -308,7 +311,8 @@ module _ (declared : List Declaration) where
         let at_rest = rw parts at whole in
         rw (parts, at_rest, none) refl
     statement_complete (Choice place at branches behind) ts rest fine (none, a, b, cs, us, parts, h, le) =
-        let inner = branches_complete (Deep d) f exact (deep_starts d) (lists_of branches) us rest fine (branches_deep d branches cs us h (omega arith)) in
+        let inner = branches_complete (Deep d) f exact (deep_starts d) (lists_of branches) us rest fine
+        (branches_deep d branches cs us h (omega arith)) in
         rw (parts, inner, branches-lists_of branches, none) refl
     statement_complete (Rec place name body behind) ts rest fine (none, a, cs, us, parts, h, le) =
         let inner = block_complete (Deep d) f exact (deep_starts d) (list_of body) us rest tt (row_block d body cs us h (omega arith)) in

@@ -91,7 +91,8 @@ body_sound declared ts x e =
     last : (xs : List Statements) (rest : List Tok) (ys : List Statements) → Takes (BlockOf (Deep declared 200) xs) ts rest
         → if_last (xs, rest) ≡ Some ys → IsBody declared (joined ys) (carries_in ts) ts
     last xs [] ys t h =
-        let whole : BlockOf (Deep declared 200) xs ts = subst (BlockOf (Deep declared 200) xs) (sym (t.parts ∙ append-nil t.front)) t.holds in
+        let whole : BlockOf (Deep declared 200) xs ts =
+        subst (BlockOf (Deep declared 200) xs) (sym (t.parts ∙ append-nil t.front)) t.holds in
         let r = block_row declared 200 xs ts whole in
         let same : xs ≡ ys = some_is xs ys h in
         subst (λ (zs : List Statements). IsBody declared (joined zs) (carries_in ts) ts) same

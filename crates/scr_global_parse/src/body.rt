@@ -8,9 +8,11 @@ ghost use Rattle.scr_tree.specs.declared.token.Mark.TheVariants as marks;
 ghost use Rattle.scr_global_tree.specs.View.{told};
 ghost use Rattle.scr_parse.specs.Answer.{Gives};
 ghost use Rattle.scr_parse.specs.inner.Kinds.{IsTable};
-ghost use Rattle.scr_parse.specs.inner.Reading.{is_at, not_closed, block_with, other_with, branches_with, choice_with, rec_with, continue_with};
+ghost use Rattle.scr_parse.specs.inner.Reading.{is_at, not_closed, block_with, other_with, branches_with, choice_with, rec_with};
+ghost use Rattle.scr_parse.specs.inner.Reading.{continue_with};
 ghost use Rattle.scr_global_parse.specs.inner.View.{alone, all_alone, blocks_alone};
-ghost use Rattle.scr_global_parse.specs.inner.Reading.{ends_at, message_at, says_at, a_choice, a_rec, a_continue, statement_with, statement_at};
+ghost use Rattle.scr_global_parse.specs.inner.Reading.{ends_at, message_at, says_at, a_choice, a_rec, a_continue, statement_with};
+ghost use Rattle.scr_global_parse.specs.inner.Reading.{statement_at};
 
 use mg_text::{List, Place, Text};
 use scr_global_tree::GStatement;

@@ -1,5 +1,5 @@
 -- Reading the bytes of a file gives one answer at most.
-use Rattle.std.proofs.Common.{◌≡◌, ℕ, List, take, refl, sym, ap, ◌∙◌}
+use Rattle.std.proofs.Common.{◌≡◌, ℕ, List, take, refl}
 use Rattle.mg_text.specs.Places.{start_of, place_after}
 use Rattle.scr_global_tree.specs.declared.condition.GlobalCondition.{GlobalCondition}
 use Rattle.scr_global_tree.specs.Written.{WrittenTree, global_of}
@@ -11,7 +11,8 @@ use Rattle.scr_read.proofs.Once as once
 use Rattle.scr_read.proofs.Once.{Got, Large, Bad, Word, NoTree, Fault, Tree, Spelled, Comes}
 use Rattle.scr_global_read.specs.Unsupported.{IsUnsupported, unsupported_word}
 use Rattle.scr_global_read.specs.Spelling.{Spells}
-use Rattle.scr_global_read.specs.Outcome.{Answer, Protocol, TooLarge, BadByte, Unsupported, Syntax, Refused, told, Outcome, too_large, bad_byte}
+use Rattle.scr_global_read.specs.Outcome.{Answer, Protocol, TooLarge, BadByte, Unsupported, Syntax, Refused, told, Outcome, too_large}
+use Rattle.scr_global_read.specs.Outcome.{bad_byte}
 use Rattle.scr_global_read.specs.Outcome.{unsupported, syntax, refused, found}
 use Rattle.scr_read.proofs.Sought.{single}
 
@@ -25,14 +26,13 @@ answer_at file bytes (Fault condition place name) = Refused condition place (tol
 answer_at file bytes (Tree w) = Protocol (global_of w)
 
 module _ (file : ℕ) (bytes : List ℕ) where
-  abbrev Gets : Got WrittenTree GlobalCondition → Type 0
-  Gets = Comes (λ w. w.file) IsUnsupported IsSpelled IsFault file bytes
-
   spelled_of : (w : WrittenTree) → Spells file bytes w → Spelled (λ w. w.file) IsUnsupported IsSpelled IsFault file bytes w
   spelled_of w s =
       record { same_file = s.same_file; tokens = s.tokens; separates = s.separates; supported = s.supported; spelled = s.spelled }
 
-  comes_to : (a : Answer) → Outcome file bytes a → (g : Got WrittenTree GlobalCondition) × Gets g × (answer_at file bytes g ≡ a)
+  comes_to : (a : Answer) → Outcome file bytes a →
+      (g : Got WrittenTree GlobalCondition) × Comes (λ w. w.file) IsUnsupported IsSpelled IsFault file bytes g
+      × (answer_at file bytes g ≡ a)
   comes_to a (too_large h) = (Large, once.too_large h, refl)
   comes_to a (bad_byte k le h) = (Bad k, once.bad_byte k le h, refl)
   comes_to a (unsupported {place = p} {word = w} s h) = (Word p w, once.unsupported s h, refl)
@@ -42,13 +42,9 @@ module _ (file : ℕ) (bytes : List ℕ) where
 
   pub one_file : (w v : WrittenTree) → Spells file bytes w → Spells file bytes v → w ≡ v
   one_file w v a b =
-      once.one_file (λ w. w.file) IsUnsupported IsSpelled IsFault file bytes (single unsupported_word) same_tree one_fault w v (spelled_of w a) (spelled_of v b)
+      once.one_file (λ w. w.file) IsUnsupported IsSpelled IsFault file bytes (single unsupported_word) same_tree one_fault w v
+      (spelled_of w a) (spelled_of v b)
 
   pub one_outcome : (a b : Answer) → Outcome file bytes a → Outcome file bytes b → a ≡ b
-  one_outcome a b h g =
-      let x = comes_to a h in
-      let y = comes_to b g in
-      sym x.2
-      ∙ ap (answer_at file bytes) (once.one_come (λ w. w.file) IsUnsupported IsSpelled IsFault file bytes (single unsupported_word) same_tree one_fault
-      x.0 y.0 x.1 y.1)
-      ∙ y.2
+  one_outcome = once.one_by (λ w. w.file) IsUnsupported IsSpelled IsFault file bytes (single unsupported_word) same_tree one_fault
+      (answer_at file bytes) (Outcome file bytes) comes_to

@@ -35,10 +35,12 @@ module _ {K : Type 0} (Of : K → Option Culprit → Type 0) (ks : List K) (i : 
     }
 
 -- an arm: the condition is known, and its culprit is given a name
-pub arm : {K : Type 0} (Of : K → Option Culprit → Type 0) (k j : K) (o : Option Culprit) (r : Result (Option Named) Memory) → k ≡ j → Of j o →
+pub arm : {K : Type 0} (Of : K → Option Culprit → Type 0) (k j : K) (o : Option Culprit) (r : Result (Option Named) Memory) → k ≡ j →
+    Of j o →
     IfOk r (λ n. named_of n ≡ o) → IfOk r (λ n. Of k (named_of n))
 arm Of k j o r e a h = IfOk-weaker r _ _ (λ n same. subst (λ x. Of x (named_of n)) (sym e) (subst (Of j) (sym same) a)) h
 
-pub arm_named : {K : Type 0} (Of : K → Option Culprit → Type 0) (k j : K) (r : Result (Option Named) Memory) → k ≡ j → IfOk r (λ n. Of j (named_of n)) →
+pub arm_named : {K : Type 0} (Of : K → Option Culprit → Type 0) (k j : K) (r : Result (Option Named) Memory) → k ≡ j →
+    IfOk r (λ n. Of j (named_of n)) →
     IfOk r (λ n. Of k (named_of n))
 arm_named Of k j r e h = IfOk-weaker r _ _ (λ n o. subst (λ x. Of x (named_of n)) (sym e) o) h

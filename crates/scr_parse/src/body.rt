@@ -9,7 +9,8 @@ ghost use Rattle.scr_parse.specs.Answer.{Gives};
 ghost use Rattle.scr_parse.specs.inner.Kinds.{IsTable};
 ghost use Rattle.scr_parse.specs.inner.View.{alone, all_alone, blocks_alone};
 ghost use Rattle.scr_parse.specs.inner.Reading.{is_at, direction_at, payload_at, message_at, do_at, says_at, not_closed};
-ghost use Rattle.scr_parse.specs.inner.Reading.{block_with, other_with, branches_with, choice_with, rec_with, continue_with, a_choice, a_rec};
+ghost use Rattle.scr_parse.specs.inner.Reading.{block_with, other_with, branches_with, choice_with, rec_with, continue_with, a_choice};
+ghost use Rattle.scr_parse.specs.inner.Reading.{a_rec};
 ghost use Rattle.scr_parse.specs.inner.Reading.{a_continue, statement_with, statement_at};
 
 use crate::fault::ParseFault;

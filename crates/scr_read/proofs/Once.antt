@@ -69,8 +69,8 @@ module _ {W C : Type 0} (file_in : W → ℕ) (IsUnsupported : Tok → Culprit �
     cut_or_bad : (k : ℕ) (ts : List Tok) → IsBadAt k bytes → Separates file bytes ts → ⊥
     cut_or_bad k ts bad s = tokens_or_bad scribble apart tok_said file ts k bytes s.cut bad
 
-    supported_or_not : (ts us : List Tok) (c : Culprit) → Separates file bytes ts → Separates file bytes us → Judged IsUnsupported ts (Some c)
-        → Judged IsUnsupported us None → ⊥
+    supported_or_not : (ts us : List Tok) (c : Culprit) → Separates file bytes ts → Separates file bytes us →
+        Judged IsUnsupported ts (Some c) → Judged IsUnsupported us None → ⊥
     supported_or_not ts us c a b h g =
         let same = one_answer single (subst (λ (xs : List Tok). Judged IsUnsupported xs (Some c)) (tokens_once ts us a b) h) g in
         let e : ◌≡◌ {A = Option Culprit} (Some c) None = same in cc
@@ -165,3 +165,11 @@ module _ {W C : Type 0} (file_in : W → ℕ) (IsUnsupported : Tok → Culprit �
     one_come a b (found {w = v} r g) (refused {w = w} {condition = k} {place = p} {name = n} s h) = absurd
         (fault_or_not w v (k, culprit p n) s r h g)
     one_come a b (found {w = w} s h) (found {w = v} r g) = ap Tree (one_file w v s r)
+
+    -- what comes to it in one way is one, of whatever answers say it
+    pub one_by : {A : Type 0} (answer : Got W C → A) (Outcome : A → Type 0) →
+        ((a : A) → Outcome a → (g : Got W C) × Comes g × (answer g ≡ a)) → (a b : A) → Outcome a → Outcome b → a ≡ b
+    one_by answer Outcome comes a b h g =
+        let x = comes a h in
+        let y = comes b g in
+        sym x.2 ∙ ap answer (one_come x.0 y.0 x.1 y.1) ∙ y.2

@@ -66,7 +66,8 @@ by_label-sound (b ∷ bs) label to h =
       | inr f ↦ behind b.to (map (λ b. b.to) bs) to (by_label-sound bs label to f.1)
     ]
 
-pub by_label-complete : (bs : List Branch) (b : Branch) → AreDistinct (map (λ b. b.label) bs) → Contains bs b → by_label bs b.label ≡ Some b.to
+pub by_label-complete : (bs : List Branch) (b : Branch) → AreDistinct (map (λ b. b.label) bs) → Contains bs b →
+    by_label bs b.label ≡ Some b.to
 by_label-complete [] b apart (k, lt, e) = absurd (omega (arith, lt))
 by_label-complete (x ∷ bs) b apart h =
     elim (first_or_behind x bs b h) [

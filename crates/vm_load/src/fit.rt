@@ -1,9 +1,10 @@
 //! Whether an instruction has the arguments of its opcode (JVMS chapter 6).
 //! Its jumps lead to instructions of its code.
 
-ghost use Rattle.std.specs.Prelude.{◌≡◌, nat_lt};
+ghost use Rattle.std.specs.Prelude.{◌≡◌, is_some, nat_lt};
 ghost use Rattle.std.specs.List.{list_all};
 ghost use Rattle.vm_model.specs.View.{args_of};
+ghost use Rattle.vm_model.specs.Actions.{action};
 ghost use Rattle.vm_model.specs.Linked.{fits_code, leads_within};
 
 use vm_actions::action_of;
@@ -43,9 +44,19 @@ fn leads_within(count: usize, args: &LinkedArgs) -> bool
     }
 }
 
+/// Whether an instruction has the arguments of its opcode.
+fn is_form(instr: &LinkedInstr) -> bool
+    ensures { result ≡ is_some (action instr.now.op (args_of instr.now.args)) }
+{
+    match action_of(instr) {
+        Some(_action) => true,
+        None => false,
+    }
+}
+
 /// Whether an instruction has the arguments of its opcode, in a code of so many instructions.
 pub(crate) fn fits_code(count: usize, instr: &LinkedInstr) -> bool
     ensures { result ≡ fits_code count instr.now.op (args_of instr.now.args) }
 {
-    action_of(instr).is_some() && leads_within(count, &instr.args)
+    is_form(instr) && leads_within(count, &instr.args)
 }

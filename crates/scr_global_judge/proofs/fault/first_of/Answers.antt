@@ -8,13 +8,15 @@ use Rattle.scr_global_judge.proofs.fault.first_of.Goals as goal
 
 pub returns-in-Some : goal.returns-in-Some
 returns-in-Some c =
-    rest_here (Of (written_of c.args.file c.args.written.now)) c.args.conditions.now c.loop-condition.condition-index c.loop-condition.invariant
+    rest_here (Of (written_of c.args.file c.args.written.now)) c.args.conditions.now c.loop-condition.condition-index
+    c.loop-condition.invariant
     c.loop-condition-test.true conditions.DuplicateName _ c.in_ok-named.field-0
     c.in_ok-named.ensures (ap named_of c.in-Some.is)
 
 pub loop-condition-preserved : goal.loop-condition-preserved
 loop-condition-preserved c =
-    rest_later (Of (written_of c.args.file c.args.written.now)) c.args.conditions.now c.loop-condition.condition-index c.loop-condition.invariant
+    rest_later (Of (written_of c.args.file c.args.written.now)) c.args.conditions.now c.loop-condition.condition-index
+    c.loop-condition.invariant
     c.loop-condition-test.true conditions.DuplicateName c.in_ok-named.field-0
     c.in_ok-named.ensures (ap named_of c.in_default.is)
 

@@ -32,7 +32,8 @@ use Rattle.scr_global_judge.proofs.fault.judge.Goals as goal
 
 pub returns-in_ok-culprit-in-DuplicateName : goal.returns-in_ok-culprit-in-DuplicateName
 returns-in_ok-culprit-in-DuplicateName c =
-    arm (Of (written_of c.args.file c.args.written.now)) c.args.condition conditions.DuplicateName _ c.with_name.result c.in-DuplicateName.is
+    arm (Of (written_of c.args.file c.args.written.now)) c.args.condition conditions.DuplicateName _ c.with_name.result
+    c.in-DuplicateName.is
     (subst (λ (rs : List Role). Judged DuplicateName (with_earlier (map declares c.args.written.now.types.items ++ map lists rs))
     (culprit_of c.in_ok-culprit-in-DuplicateName.culprit)) c.as_slice-roles.ensures.items
     (subst (λ (ds : List Declaration). Judged DuplicateName (with_earlier (map declares ds ++ map lists c.as_slice-roles.result.now))

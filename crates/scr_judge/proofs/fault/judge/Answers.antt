@@ -77,7 +77,8 @@ returns-in-ReservedLabel c =
 
 pub returns-in_ok-culprit-in-DuplicateName : goal.returns-in_ok-culprit-in-DuplicateName
 returns-in_ok-culprit-in-DuplicateName c =
-    arm (Of (written_of c.args.file c.args.written.now)) c.args.condition conditions.DuplicateName _ c.with_name.result c.in-DuplicateName.is
+    arm (Of (written_of c.args.file c.args.written.now)) c.args.condition conditions.DuplicateName _ c.with_name.result
+    c.in-DuplicateName.is
     c.in_ok-culprit-in-DuplicateName.ensures c.with_name.ensures
 
 pub returns-in_ok-culprit-in-UnknownType : goal.returns-in_ok-culprit-in-UnknownType
@@ -100,7 +101,8 @@ returns-in_ok-culprit-in-UnknownProtocol c =
 
 pub returns-in_ok-culprit-in-DuplicateProtocol : goal.returns-in_ok-culprit-in-DuplicateProtocol
 returns-in_ok-culprit-in-DuplicateProtocol c =
-    arm (Of (written_of c.args.file c.args.written.now)) c.args.condition conditions.DuplicateProtocol _ c.with_name-in-DuplicateProtocol.result
+    arm (Of (written_of c.args.file c.args.written.now)) c.args.condition conditions.DuplicateProtocol _
+    c.with_name-in-DuplicateProtocol.result
     c.in-DuplicateProtocol.is
     c.in_ok-culprit-in-DuplicateProtocol.ensures c.with_name-in-DuplicateProtocol.ensures
 
@@ -135,5 +137,6 @@ returns-in-StartsWithDo c =
 
 pub returns-in-NameClash : goal.returns-in-NameClash
 returns-in-NameClash c =
-    arm_named (Of (written_of c.args.file c.args.written.now)) c.args.condition conditions.NameClash c.find_name_clash.result c.in-NameClash.is
+    arm_named (Of (written_of c.args.file c.args.written.now)) c.args.condition conditions.NameClash c.find_name_clash.result
+    c.in-NameClash.is
     c.find_name_clash.ensures
