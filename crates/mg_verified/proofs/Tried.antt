@@ -3,7 +3,6 @@ use Rattle.std.proofs.Common.{◌≡◌, ℕ, ◌+◌, ◌<◌, ◌≤◌, List,
 use Rattle.std.proofs.lemmas.List.{drop_more, drop_all, length-map}
 use Rattle.std.proofs.lemmas.List.Sums.{sum-map, sum_by-cons}
 use Rattle.vm_model.specs.declared.linked.LinkedClass.{LinkedClass}
-use Rattle.vm_model.specs.declared.program.Linked.{Linked}
 use Rattle.vm_model.specs.View.{method_of, class_of, classes_of}
 use Rattle.cls_search.specs.declared.fault.VerifyFault.{VerifyFault}
 use Rattle.cls_search.specs.declared.fault.VerifyFault.TheVariants as faults

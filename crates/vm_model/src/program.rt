@@ -1,8 +1,8 @@
 //! A whole linked program, which contracts see as its classes.
 //! What its instructions name is there.
 
-ghost use Rattle.std.specs.Prelude.{◌≡◌, map};
-ghost use Rattle.vm_model.specs.View.{class_of, classes_of};
+ghost use Rattle.std.specs.Prelude.{◌≡◌};
+ghost use Rattle.vm_model.specs.View.{classes_of};
 ghost use Rattle.vm_model.specs.Linked.{IsLinked};
 
 use crate::LinkedClass;
