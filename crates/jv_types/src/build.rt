@@ -168,14 +168,7 @@ fn class_entries<'a>(
     let mut entries = Vec::new(alloc);
     let mut methods: u32 = 0;
     for decl in decls {
-        add_class(
-            alloc,
-            names,
-            typestates,
-            &mut entries,
-            &mut methods,
-            decl,
-        )?;
+        add_class(alloc, names, typestates, &mut entries, &mut methods, decl)?;
     }
     Ok(entries)
 }
