@@ -181,12 +181,10 @@ module _ (p : Program) (first : World) (order : List ℕ) (limit : ℕ) where
     -- they are as they were behind a turn of the role
     others_stay : (ahead : List ℕ) (k : ℕ) → get_or ahead role 0 ≡ suc k → Others ahead → Others (set ahead role k)
     others_stay ahead k is others t lt =
-        let o = others t lt in (
-          get_or-set_other ahead role (later t) k 0
-              (λ same. let e : get_or ahead (later t) 0 ≡ get_or ahead role 0 = ap (λ r. get_or ahead r 0) same in omega (arith, e, o.0, is))
-              ∙ o.0,
-          o.1,
-        )
+        let o = others t lt in
+        let apart : later t ≡ role → ⊥ =
+        λ same. let e : get_or ahead (later t) 0 ≡ get_or ahead role 0 = ap (λ r. get_or ahead r 0) same in omega (arith, e, o.0, is) in
+        (get_or-set_other ahead role (later t) k 0 apart ∙ o.0, o.1)
 
     one_down : (ahead : List ℕ) (left idle k : ℕ) → Several p first order limit now ahead left idle next → idle < length order →
         get_or ahead role 0 ≡ suc k → 0 < left →

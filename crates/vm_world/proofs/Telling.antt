@@ -1,6 +1,6 @@
 -- A turn that tells of no message moves none, so the roles beside it stand as they stood.
-use Rattle.std.proofs.Common.{◌≡◌, ◌≢◌, ◌-◌, ℕ, suc, Bool, true, false, List, [], ◌∷◌, ◌++◌, length, map, Option, Some, None, slice_get, slice_set}
-use Rattle.std.proofs.Common.{refl, sym, ap, ◌∙◌, subst, arith, length-append}
+use Rattle.std.proofs.Common.{◌≡◌, ◌≢◌, ◌-◌, ℕ, suc, Bool, true, false, List, [], ◌∷◌, ◌++◌, length, map, Option, Some, None, slice_get}
+use Rattle.std.proofs.Common.{slice_set, refl, sym, ap, ◌∙◌, subst, arith, length-append}
 use Rattle.std.specs.Bool.{OnFalse}
 use Rattle.mg_text.specs.declared.event.Event.{Event}
 use Rattle.vm_model.specs.Program.{Program}

@@ -8,8 +8,8 @@
 //! they are counted, and nothing is left to do: all at once where every other role is still. A role that
 //! was found still isn't asked again before a turn that may have moved a message.
 
-ghost use Rattle.std.specs.Prelude.{◌≡◌, ◌⊎◌, ◌<◌, ◌≤◌, ◌^◌, ◌-◌, ◌+◌, ◌*◌, ◌%◌, ◌≢◌, ℕ, false, Contains, length, replicate, slice_get, IfOk};
-ghost use Rattle.std.specs.Prelude.{IfSome};
+ghost use Rattle.std.specs.Prelude.{◌≡◌, ◌⊎◌, ◌<◌, ◌≤◌, ◌^◌, ◌-◌, ◌+◌, ◌*◌, ◌%◌, ◌≢◌, ℕ, Contains, length, replicate, slice_get, IfOk};
+ghost use Rattle.std.specs.Prelude.{false, IfSome};
 ghost use Rattle.vm_world_law.specs.Turns.{counted, Advances, IsRun};
 ghost use Rattle.vm_world.specs.Alone.{Counts};
 
