@@ -7,6 +7,7 @@ use Rattle.mg_words.proofs.WordsLemmas.{kinds_of, kinds_of_classes, kinds_of_run
 use Rattle.mg_words.proofs.RefineLemmas.{two_files, kinds_of_two}
 use Rattle.mg_words.proofs.ProjectLemmas.{one_file}
 use Rattle.mg_words.proofs.LoadLemmas.{workload_of}
+use Rattle.mg_top.specs.inner.Preparing.{IsCarried}
 use Rattle.mg_top.proofs.ConformLemmas.{conform_carried, two_contents, two_conformed}
 use Rattle.mg_top.proofs.top.carried_out.Goals as goal
 
@@ -22,9 +23,10 @@ returns-in-Conform c =
     let is = subst (λ (z : Command). IsCommand (command_of z) known.0) c.in-Conform.is known.1 in
     let two = sym (subst (λ (z : Command). length (files_of (command_of z)) ≡ length c.args.contents.now) c.in-Conform.is c.requires.same)
     ∙ two_conformed known.0 c.in-Conform.files.now is in
-    conform_carried known.0 c.in-Conform.files.now c.args.contents.now _ _ c.conform.result is
-    (two_contents c.args.contents.now _ _ _ _ two c.index-contents-0.is c.index-contents-1.is c.as_slice.ensures c.as_slice-2.ensures)
-    c.conform.ensures
+    subst (λ (z : Command). IsCarried (command_of z) c.args.contents.now c.conform.result) (sym c.in-Conform.is)
+    (conform_carried known.0 c.in-Conform.files.now c.args.contents.now _ _ c.conform.result is
+    (two_contents c.args.contents.now _ _ _ _ two c.index-contents-0.is c.index-contents-1.is c.as_slice.ensures
+    c.as_slice-in-Conform.ensures) c.conform.ensures)
 
 pub check-requires-clause-kinds : goal.check-requires-clause-kinds
 check-requires-clause-kinds c =
@@ -81,19 +83,22 @@ project-requires c =
 pub returns-in-Project : goal.returns-in-Project
 returns-in-Project c =
     let known = c.requires.known in
-    c.project.ensures c.in-Project.files.now
+    subst (λ (z : Command). IsCarried (command_of z) c.args.contents.now c.project.result) (sym c.in-Project.is)
+    (c.project.ensures c.in-Project.files.now
     (one_file known.0 (option_map (λ w. w.now) c.in-Project.folder) c.in-Project.files.now
-    (subst (λ (z : Command). IsCommand (command_of z) known.0) c.in-Project.is known.1))
+    (subst (λ (z : Command). IsCommand (command_of z) known.0) c.in-Project.is known.1)))
 
 pub returns-in-Exec : goal.returns-in-Exec
 returns-in-Exec c =
-    c.exec.ensures c.in-Exec.files.now
-    (subst (λ (z : Command). length (files_of (command_of z)) ≡ length c.args.contents.now) c.in-Exec.is c.requires.same)
+    subst (λ (z : Command). IsCarried (command_of z) c.args.contents.now c.exec.result) (sym c.in-Exec.is)
+    (c.exec.ensures c.in-Exec.files.now
+    (subst (λ (z : Command). length (files_of (command_of z)) ≡ length c.args.contents.now) c.in-Exec.is c.requires.same))
 
 pub returns-in-Verify : goal.returns-in-Verify
 returns-in-Verify c =
-    c.verify.ensures c.in-Verify.files.now
-    (subst (λ (z : Command). length (files_of (command_of z)) ≡ length c.args.contents.now) c.in-Verify.is c.requires.same)
+    subst (λ (z : Command). IsCarried (command_of z) c.args.contents.now c.verify.result) (sym c.in-Verify.is)
+    (c.verify.ensures c.in-Verify.files.now
+    (subst (λ (z : Command). length (files_of (command_of z)) ≡ length c.args.contents.now) c.in-Verify.is c.requires.same))
 
 pub load-requires-clause-some : goal.load-requires-clause-some
 load-requires-clause-some c =
@@ -107,3 +112,7 @@ load-requires-clause-most c =
     let known = c.requires.known in
     (workload_of known.0 c.in-Load.branches c.in-Load.seed
     (subst (λ (z : Command). IsCommand (command_of z) known.0) c.in-Load.is known.1)).most
+
+pub returns-in-Load : goal.returns-in-Load
+returns-in-Load c =
+    subst (λ (z : Command). IsCarried (command_of z) c.args.contents.now c.load.result) (sym c.in-Load.is) (c.load.ensures c.args.contents.now)
