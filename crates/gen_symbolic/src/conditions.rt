@@ -11,7 +11,10 @@ ghost use Rattle.gen_symbolic.specs.inner.Drafting.{compare_op, with_null, compa
 use crate::coder::{Coder, Draft};
 use crate::locals::Locals;
 use crate::typed::is_null;
-use cls_tree::opcodes::{GOTO, IF_ICMPEQ, IF_ICMPGE, IF_ICMPGT, IF_ICMPLE, IF_ICMPLT, IF_ICMPNE, IFEQ, IFNE, IFNONNULL, IFNULL};
+use cls_tree::opcodes::{
+    GOTO, IF_ICMPEQ, IF_ICMPGE, IF_ICMPGT, IF_ICMPLE, IF_ICMPLT, IF_ICMPNE, IFEQ, IFNE, IFNONNULL,
+    IFNULL,
+};
 use jv_core::{CoreExpr, CoreExprKind, CoreOp};
 use mg_text::Memory;
 

@@ -10,7 +10,10 @@ ghost use Rattle.gen_symbolic.specs.inner.Drafting.{emit, variable, store_in, te
 use crate::coder::{Coder, Draft};
 use crate::locals::Locals;
 use crate::symbolic::Operand;
-use cls_tree::opcodes::{ALOAD, ALOAD_0, ARETURN, ASTORE, ASTORE_0, BIPUSH, GETFIELD, ICONST_0, ILOAD, ILOAD_0, INVOKESTATIC, IRETURN, ISTORE, ISTORE_0, LDC, POP, SIPUSH};
+use cls_tree::opcodes::{
+    ALOAD, ALOAD_0, ARETURN, ASTORE, ASTORE_0, BIPUSH, GETFIELD, ICONST_0, ILOAD, ILOAD_0,
+    INVOKESTATIC, IRETURN, ISTORE, ISTORE_0, LDC, POP, SIPUSH,
+};
 use jv_core::{CoreType, Var};
 use mg_text::{Memory, Text};
 use vm_model::Built;

@@ -12,7 +12,10 @@ use crate::coder::{Coder, Draft};
 use crate::locals::Locals;
 use crate::symbolic::{Operand, session_member};
 use crate::typed::joins;
-use cls_tree::opcodes::{ACONST_NULL, DUP, GOTO, IADD, IDIV, IMUL, INEG, INVOKESPECIAL, INVOKESTATIC, INVOKEVIRTUAL, IREM, ISUB, NEW};
+use cls_tree::opcodes::{
+    ACONST_NULL, DUP, GOTO, IADD, IDIV, IMUL, INEG, INVOKESPECIAL, INVOKESTATIC, INVOKEVIRTUAL,
+    IREM, ISUB, NEW,
+};
 use jv_core::{CoreExpr, CoreExprKind, CoreOp, Var};
 use mg_text::Memory;
 use vm_model::Built;
