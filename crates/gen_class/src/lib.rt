@@ -4,7 +4,6 @@
 
 ghost use Rattle.std.specs.Prelude.{◌≡◌, [], None, map, IfOk, OnOk, IfErr};
 ghost use Rattle.cls_tree.specs.View.{class_of as file_of, code_of};
-ghost use Rattle.jv_core.specs.Core.{tree_of};
 ghost use Rattle.jv_core.specs.View.{class_of, method_of};
 ghost use Rattle.gen_rules.specs.Classes.{AreClasses, Emits, class_file};
 ghost use Rattle.gen_rules.specs.Limits.{IsFirstExcess, parts_in, first_in_parts};
@@ -27,11 +26,11 @@ use std::alloc::Global;
 /// The class file of a class, which has this number in the program.
 fn file_of(alloc: Global, core: &Core, number: usize, class: &CoreClass) -> Result<Class, GenFault>
     ensures made { IfOk result (λ f. file_of f
-        ≡ class_file (tree_of core.now) (class_of class.now) (generated_class (tree_of core.now) number (class_of class.now))) }
-    ensures fine { OnOk result (first_in_parts (tree_of core.now) (class_of class.now)
-        (parts_in (class_of class.now) (generated_class (tree_of core.now) number (class_of class.now))) [] ≡ None) }
-    ensures fault { IfErr result (λ e. Tells (first_in_parts (tree_of core.now) (class_of class.now)
-        (parts_in (class_of class.now) (generated_class (tree_of core.now) number (class_of class.now))) []) e) }
+        ≡ class_file core.now (class_of class.now) (generated_class core.now number (class_of class.now))) }
+    ensures fine { OnOk result (first_in_parts core.now (class_of class.now)
+        (parts_in (class_of class.now) (generated_class core.now number (class_of class.now))) [] ≡ None) }
+    ensures fault { IfErr result (λ e. Tells (first_in_parts core.now (class_of class.now)
+        (parts_in (class_of class.now) (generated_class core.now number (class_of class.now))) []) e) }
 {
     let makings = makings(alloc, core, number, class)?;
     class_file(alloc, core, class, makings.as_slice())
@@ -42,9 +41,9 @@ fn file_of(alloc: Global, core: &Core, number: usize, class: &CoreClass) -> Resu
 /// The first size that is too large, with the place and the name of the method, or of the class
 /// where it isn't a written method's; and want of memory.
 pub fn gen_classes(alloc: Global, core: &Core) -> Result<List<Class>, GenFault>
-    ensures made { IfOk result (λ files. AreClasses (tree_of core.now) (map file_of files.items)) }
-    ensures fine { OnOk result (IsFirstExcess (tree_of core.now) None) }
-    ensures fault { IfErr result (TellsFirst (tree_of core.now)) }
+    ensures made { IfOk result (λ files. AreClasses core.now (map file_of files.items)) }
+    ensures fine { OnOk result (IsFirstExcess core.now None) }
+    ensures fault { IfErr result (TellsFirst core.now) }
 {
     let mut files = List::new(alloc);
     let classes = core.classes();
@@ -65,9 +64,9 @@ pub fn code_of_method(
     method: &CoreMethod,
     pool: &mut Pool,
 ) -> Result<Code, GenFault>
-    ensures emitted { IfOk result (λ c. Emits (tree_of core.now) (method_of method.now) pool.old (code_of c) pool.new) }
-    ensures fine { OnOk result (IsExcessOfCode (tree_of core.now) (method_of method.now) pool.old None) }
-    ensures fault { IfErr result (TellsCode (tree_of core.now) (method_of method.now) pool.old) }
+    ensures emitted { IfOk result (λ c. Emits core.now (method_of method.now) pool.old (code_of c) pool.new) }
+    ensures fine { OnOk result (IsExcessOfCode core.now (method_of method.now) pool.old None) }
+    ensures fault { IfErr result (TellsCode core.now (method_of method.now) pool.old) }
     ensures kept { IsFrontOf pool.old pool.new }
 {
     let making = method_making(alloc, core, method)?;

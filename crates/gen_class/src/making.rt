@@ -1,7 +1,6 @@
 //! The methods of a class, with their codes.
 
 ghost use Rattle.std.specs.Prelude.{◌≡◌, [], ◌∷◌, ◌++◌, map, option_map, slice_get, filter_map, IfOk, OnOk};
-ghost use Rattle.jv_core.specs.Core.{tree_of};
 ghost use Rattle.jv_core.specs.View.{class_of, method_of};
 ghost use Rattle.gen_rules.specs.Classes.{access_of, constructor, constructors};
 ghost use Rattle.gen_rules.specs.inner.Files.{generated_method, generated_class};
@@ -36,7 +35,7 @@ pub(crate) fn method_making<'a>(
     core: &'a Core,
     method: &'a CoreMethod,
 ) -> Result<Making<'a>, Memory>
-    ensures { IfOk result (λ m. compiled_of (tree_of core.now) m ≡ generated_method (tree_of core.now) (method_of method.now)) }
+    ensures { IfOk result (λ m. compiled_of core.now m ≡ generated_method core.now (method_of method.now)) }
 {
     let MethodCode {
         instrs,
@@ -63,7 +62,7 @@ fn constructor_making<'a>(
     number: usize,
     class: &'a CoreClass,
 ) -> Result<Making<'a>, Memory>
-    ensures { IfOk result (λ m. compiled_of (tree_of core.now) m ≡ constructor (tree_of core.now) number (class_of class.now)) }
+    ensures { IfOk result (λ m. compiled_of core.now m ≡ constructor core.now number (class_of class.now)) }
 {
     let Ok(number) = u32::try_from(number) else {
         return Err(Memory);
@@ -90,8 +89,8 @@ fn constructors<'a>(
     number: usize,
     class: &'a CoreClass,
 ) -> Result<List<Making<'a>>, Memory>
-    ensures { IfOk result (λ ms. map (compiled_of (tree_of core.now)) ms.items
-        ≡ constructors (tree_of core.now) number (class_of class.now) class.now.typestate) }
+    ensures { IfOk result (λ ms. map (compiled_of core.now) ms.items
+        ≡ constructors core.now number (class_of class.now) class.now.typestate) }
 {
     let mut makings = List::new(alloc);
     match class.typestate {
@@ -106,7 +105,7 @@ fn constructors<'a>(
 /// The method with this number, where there is one.
 #[tactic(auto, using(crate::proofs::Programs::found_here))]
 fn method_at(core: &Core, number: u32) -> Option<&CoreMethod>
-    ensures { option_map (λ m. method_of m.now) result ≡ slice_get (tree_of core.now).methods number }
+    ensures { option_map (λ m. method_of m.now) result ≡ slice_get core.now.methods number }
 {
     core.methods().get(number as usize)
 }
@@ -118,8 +117,8 @@ fn push_method<'a>(
     number: u32,
     makings: &mut List<Making<'a>>,
 ) -> Result<(), Memory>
-    ensures { OnOk result (map (compiled_of (tree_of core.now)) makings.new.items ≡ map (compiled_of (tree_of core.now)) makings.old.items
-        ++ map (generated_method (tree_of core.now)) (filter_map (slice_get (tree_of core.now).methods) (number ∷ []))) }
+    ensures { OnOk result (map (compiled_of core.now) makings.new.items ≡ map (compiled_of core.now) makings.old.items
+        ++ map (generated_method core.now) (filter_map (slice_get core.now.methods) (number ∷ []))) }
 {
     let Some(method) = method_at(core, number) else {
         return Ok(());
@@ -135,8 +134,8 @@ fn push_methods<'a>(
     numbers: &[u32],
     makings: &mut List<Making<'a>>,
 ) -> Result<(), Memory>
-    ensures { OnOk result (map (compiled_of (tree_of core.now)) makings.new.items ≡ map (compiled_of (tree_of core.now)) makings.old.items
-        ++ map (generated_method (tree_of core.now)) (filter_map (slice_get (tree_of core.now).methods) numbers.now)) }
+    ensures { OnOk result (map (compiled_of core.now) makings.new.items ≡ map (compiled_of core.now) makings.old.items
+        ++ map (generated_method core.now) (filter_map (slice_get core.now.methods) numbers.now)) }
 {
     for number in numbers {
         push_method(alloc, core, *number, makings)?;
@@ -152,7 +151,7 @@ pub(crate) fn makings<'a>(
     number: usize,
     class: &'a CoreClass,
 ) -> Result<List<Making<'a>>, Memory>
-    ensures { IfOk result (λ ms. map (compiled_of (tree_of core.now)) ms.items ≡ generated_class (tree_of core.now) number
+    ensures { IfOk result (λ ms. map (compiled_of core.now) ms.items ≡ generated_class core.now number
         (class_of class.now)) }
 {
     let mut makings = constructors(alloc, core, number, class)?;

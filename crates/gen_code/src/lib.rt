@@ -4,7 +4,6 @@
 
 ghost use Rattle.std.specs.Prelude.{◌≡◌, ◌<◌, None, Some, length, slice_get, IfOk, OnOk, IfErr, OnErr};
 ghost use Rattle.cls_tree.specs.View.{code_of};
-ghost use Rattle.jv_core.specs.Core.{tree_of};
 ghost use Rattle.jv_core.specs.Tree.{Method};
 ghost use Rattle.gen_rules.specs.Classes.{Emits};
 ghost use Rattle.gen_class.specs.First.{IsExcessOfCode, TellsCode};
@@ -30,13 +29,13 @@ pub fn gen_method(
     method: u32,
     pool: &mut Pool,
 ) -> Result<Code, GenFault>
-    requires number { method < length (tree_of core.now).methods }
-    ensures emitted { (m : Method) → slice_get (tree_of core.now).methods method ≡ Some m
-        → IfOk result (λ c. Emits (tree_of core.now) m pool.old (code_of c) pool.new) }
-    ensures fine { (m : Method) → slice_get (tree_of core.now).methods method ≡ Some m
-        → OnOk result (IsExcessOfCode (tree_of core.now) m pool.old None) }
-    ensures fault { (m : Method) → slice_get (tree_of core.now).methods method ≡ Some m
-        → IfErr result (TellsCode (tree_of core.now) m pool.old) }
+    requires number { method < length core.now.methods }
+    ensures emitted { (m : Method) → slice_get core.now.methods method ≡ Some m
+        → IfOk result (λ c. Emits core.now m pool.old (code_of c) pool.new) }
+    ensures fine { (m : Method) → slice_get core.now.methods method ≡ Some m
+        → OnOk result (IsExcessOfCode core.now m pool.old None) }
+    ensures fault { (m : Method) → slice_get core.now.methods method ≡ Some m
+        → IfErr result (TellsCode core.now m pool.old) }
     ensures unchanged { OnErr result (pool.new ≡ pool.old) }
 {
     let methods = core.methods();

@@ -3,7 +3,6 @@
 ghost use Rattle.std.specs.Prelude.{◌≡◌, [], ◌⊎◌, None, IfOk, OnOk, IfErr, OnErr, IsErrOf};
 ghost use Rattle.cls_tree.specs.Emitted.{number_of};
 ghost use Rattle.cls_tree.specs.View.{code_of};
-ghost use Rattle.jv_core.specs.Core.{tree_of};
 ghost use Rattle.jv_core.specs.View.{method_of};
 ghost use Rattle.gen_rules.specs.Classes.{Emits};
 ghost use Rattle.gen_pool.specs.Made.{IsMade, IsFull};
@@ -76,9 +75,9 @@ impl Pool {
         core: &Core,
         method: &CoreMethod,
     ) -> Result<Code, GenFault>
-        ensures emitted { IfOk result (λ c. Emits (tree_of core.now) (method_of method.now) self.old (code_of c) self.new) }
-        ensures fine { OnOk result (IsExcessOfCode (tree_of core.now) (method_of method.now) self.old None) }
-        ensures fault { IfErr result (TellsCode (tree_of core.now) (method_of method.now) self.old) }
+        ensures emitted { IfOk result (λ c. Emits core.now (method_of method.now) self.old (code_of c) self.new) }
+        ensures fine { OnOk result (IsExcessOfCode core.now (method_of method.now) self.old None) }
+        ensures fault { IfErr result (TellsCode core.now (method_of method.now) self.old) }
         ensures unchanged { OnErr result (self.new ≡ self.old) }
     {
         let old = self.entries.len();

@@ -2,7 +2,6 @@
 
 ghost use Rattle.std.specs.Prelude.{◌≡◌, [], None, map, IfOk, OnOk, IfErr};
 ghost use Rattle.cls_tree.specs.View.{member_of, class_of as file_of};
-ghost use Rattle.jv_core.specs.Core.{tree_of};
 ghost use Rattle.jv_core.specs.Tree.{Class as CoreClassOf};
 ghost use Rattle.jv_core.specs.View.{class_of};
 ghost use Rattle.gen_rules.specs.Classes.{method_in_file, each, class_file};
@@ -30,11 +29,11 @@ fn methods(
     pool: &mut Pool,
 ) -> Result<List<Member>, GenFault>
     ensures made { IfOk result (λ ms. IsMade (map member_of ms.items) pool.new
-        (each method_in_file (map (compiled_of (tree_of core.now)) makings.now) pool.old)) }
+        (each method_in_file (map (compiled_of core.now) makings.now) pool.old)) }
     ensures fine { OnOk result ((k : CoreClassOf) →
-        AreFine (tree_of core.now) k (map OfMethod (map (compiled_of (tree_of core.now)) makings.now)) pool.old pool.new) }
+        AreFine core.now k (map OfMethod (map (compiled_of core.now) makings.now)) pool.old pool.new) }
     ensures fault { IfErr result (λ e. (k : CoreClassOf) →
-        FirstTold (tree_of core.now) k (map OfMethod (map (compiled_of (tree_of core.now)) makings.now)) pool.old e) }
+        FirstTold core.now k (map OfMethod (map (compiled_of core.now) makings.now)) pool.old e) }
 {
     let mut members = List::new(alloc);
     for making in makings {
@@ -51,12 +50,12 @@ pub fn class_file(
     class: &CoreClass,
     makings: &[Making<'_>],
 ) -> Result<Class, GenFault>
-    ensures made { IfOk result (λ f. file_of f ≡ class_file (tree_of core.now) (class_of class.now)
-        (map (compiled_of (tree_of core.now)) makings.now)) }
-    ensures fine { OnOk result (first_in_parts (tree_of core.now) (class_of class.now)
-        (parts_in (class_of class.now) (map (compiled_of (tree_of core.now)) makings.now)) [] ≡ None) }
-    ensures fault { IfErr result (λ e. Tells (first_in_parts (tree_of core.now) (class_of class.now)
-        (parts_in (class_of class.now) (map (compiled_of (tree_of core.now)) makings.now)) []) e) }
+    ensures made { IfOk result (λ f. file_of f ≡ class_file core.now (class_of class.now)
+        (map (compiled_of core.now) makings.now)) }
+    ensures fine { OnOk result (first_in_parts core.now (class_of class.now)
+        (parts_in (class_of class.now) (map (compiled_of core.now) makings.now)) [] ≡ None) }
+    ensures fault { IfErr result (λ e. Tells (first_in_parts core.now (class_of class.now)
+        (parts_in (class_of class.now) (map (compiled_of core.now) makings.now)) []) e) }
 {
     let mut pool = Pool::new(alloc);
     let (this_class, super_class) = header(alloc, core, class, &mut pool)?;

@@ -1,7 +1,6 @@
 //! The number of the constant with which an instruction works.
 
 ghost use Rattle.std.specs.Prelude.{◌≡◌, IfOk, map, slice_get, option_map, option_and_then};
-ghost use Rattle.jv_core.specs.Core.{tree_of};
 ghost use Rattle.jv_core.specs.View.{field_of};
 ghost use Rattle.gen_rules.specs.Members.{field_reference, method_reference};
 ghost use Rattle.gen_symbolic.specs.View.{operand_of, built_in_of};
@@ -22,7 +21,7 @@ use vm_model::Built;
 #[tactic(auto, using(crate::proofs::Found::found))]
 fn field_at(core: &Core, class: u32, field: u32) -> Option<&CoreField>
     ensures { option_map (λ f. field_of f.now) result
-        ≡ option_and_then (λ k. slice_get k.fields field) (slice_get (tree_of core.now).classes class) }
+        ≡ option_and_then (λ k. slice_get k.fields field) (slice_get core.now.classes class) }
 {
     let class = core.classes().get(class as usize)?;
     class.fields.as_slice().get(field as usize)
@@ -37,7 +36,7 @@ fn field_constant(
     field: u32,
     pool: &mut Pool,
 ) -> Result<usize, Memory>
-    ensures made { IfOk result (λ n. IsMade n pool.new (field_of_reference (field_reference (tree_of core.now) class field) pool.old)) }
+    ensures made { IfOk result (λ n. IsMade n pool.new (field_of_reference (field_reference core.now class field) pool.old)) }
     ensures kept { IsFrontOf pool.old pool.new }
 {
     let class_name = class_name(core, class);
@@ -61,7 +60,7 @@ fn method_constant(
     number: u32,
     pool: &mut Pool,
 ) -> Result<usize, Memory>
-    ensures made { IfOk result (λ n. IsMade n pool.new (method_of_reference (method_reference (tree_of core.now) number) pool.old)) }
+    ensures made { IfOk result (λ n. IsMade n pool.new (method_of_reference (method_reference core.now number) pool.old)) }
     ensures kept { IsFrontOf pool.old pool.new }
 {
     let Some(method) = core.methods().get(number as usize) else {
@@ -98,7 +97,7 @@ pub(crate) fn constant(
     operand: &Operand<'_>,
     pool: &mut Pool,
 ) -> Result<usize, Memory>
-    ensures made { IfOk result (λ n. IsMade n pool.new (constant_of (operand_of (tree_of core.now) operand.now) pool.old)) }
+    ensures made { IfOk result (λ n. IsMade n pool.new (constant_of (operand_of core.now operand.now) pool.old)) }
     ensures kept { IsFrontOf pool.old pool.new }
 {
     match operand {

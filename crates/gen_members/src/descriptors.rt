@@ -3,7 +3,6 @@
 ghost use Rattle.std.specs.Prelude.{◌≡◌, ◌++◌, IfOk, OnOk, string_bytes, map, take};
 ghost use Rattle.std.specs.List.{flat_map};
 ghost use Rattle.vm_model.specs.Types.{type_text, result_text};
-ghost use Rattle.jv_core.specs.Core.{tree_of};
 ghost use Rattle.jv_core.specs.View.{method_of, slot_of};
 ghost use Rattle.jv_core.specs.Lookup.{is_main};
 ghost use Rattle.gen_rules.specs.Members.{type_in, result_in, field_descriptor, method_descriptor};
@@ -16,7 +15,7 @@ use std::alloc::Global;
 
 /// Appends the type of a field or a parameter. The constants of an enum are ints.
 fn put_type(out: &mut String, core: &Core, ty: CoreType) -> Result<(), Memory>
-    ensures { OnOk result (string_bytes out.new ≡ string_bytes out.old ++ type_text (type_in (tree_of core.now) ty)) }
+    ensures { OnOk result (string_bytes out.new ≡ string_bytes out.old ++ type_text (type_in core.now ty)) }
 {
     match ty {
         CoreType::Boolean => out.push_str("Z")?,
@@ -33,7 +32,7 @@ fn put_type(out: &mut String, core: &Core, ty: CoreType) -> Result<(), Memory>
 
 /// Appends the type of a result.
 fn put_result(out: &mut String, core: &Core, ty: CoreType) -> Result<(), Memory>
-    ensures { OnOk result (string_bytes out.new ≡ string_bytes out.old ++ result_text (result_in (tree_of core.now) ty)) }
+    ensures { OnOk result (string_bytes out.new ≡ string_bytes out.old ++ result_text (result_in core.now ty)) }
 {
     if ty == CoreType::Void {
         out.push_str("V")?;
@@ -44,7 +43,7 @@ fn put_result(out: &mut String, core: &Core, ty: CoreType) -> Result<(), Memory>
 
 /// Appends the types of parameters.
 fn put_params(out: &mut String, core: &Core, params: &[CoreSlot]) -> Result<(), Memory>
-    ensures { OnOk result (string_bytes out.new ≡ string_bytes out.old ++ slots_text (tree_of core.now) (map slot_of params.now)) }
+    ensures { OnOk result (string_bytes out.new ≡ string_bytes out.old ++ slots_text core.now (map slot_of params.now)) }
 {
     for param in params {
         put_type(out, core, param.ty)?;
@@ -54,7 +53,7 @@ fn put_params(out: &mut String, core: &Core, params: &[CoreSlot]) -> Result<(), 
 
 /// The descriptor of a field of this type.
 pub(crate) fn field_descriptor(alloc: Global, core: &Core, ty: CoreType) -> Result<String, Memory>
-    ensures { IfOk result (λ s. string_bytes s ≡ field_descriptor (tree_of core.now) ty) }
+    ensures { IfOk result (λ s. string_bytes s ≡ field_descriptor core.now ty) }
 {
     let mut out = String::new(alloc);
     put_type(&mut out, core, ty)?;
@@ -86,7 +85,7 @@ fn is_main(kind: MethodKind) -> bool
 
 /// The descriptor of a method. That of `main` has its array of texts.
 pub fn method_descriptor(alloc: Global, core: &Core, method: &CoreMethod) -> Result<String, Memory>
-    ensures { IfOk result (λ s. string_bytes s ≡ method_descriptor (tree_of core.now) (method_of method.now)) }
+    ensures { IfOk result (λ s. string_bytes s ≡ method_descriptor core.now (method_of method.now)) }
 {
     if is_main(method.kind) {
         return Ok(String::from_str(alloc, "([Ljava/lang/String;)V")?);

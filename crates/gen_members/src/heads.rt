@@ -2,7 +2,6 @@
 
 ghost use Rattle.std.specs.Prelude.{◌≡◌, None, map, IfOk, OnOk, IfErr};
 ghost use Rattle.cls_tree.specs.View.{member_of};
-ghost use Rattle.jv_core.specs.Core.{tree_of};
 ghost use Rattle.jv_core.specs.View.{class_of, field_of};
 ghost use Rattle.jv_core.specs.Lookup.{text_at};
 ghost use Rattle.gen_rules.specs.Classes.{Header, header, field_in_file, each};
@@ -25,7 +24,7 @@ const PRIVATE: u16 = 2;
 /// Where it is told that a part of a class is too large that isn't a written method.
 pub(crate) fn told_at<'a>(core: &'a Core, class: &CoreClass) -> Telling<'a>
     ensures place { result.place ≡ class.now.place }
-    ensures name { result.name.now ≡ text_at (tree_of core.now) class.now.name.0 }
+    ensures name { result.name.now ≡ text_at core.now class.now.name.0 }
 {
     Telling {
         place: class.place,
@@ -41,9 +40,9 @@ pub(crate) fn header(
     pool: &mut Pool,
 ) -> Result<(u16, u16), GenFault>
     ensures made { IfOk result (λ h. IsMade (record { this_class = h.0; super_class = h.1 }) pool.new
-        (header (tree_of core.now) (class_of class.now) pool.old)) }
-    ensures fine { OnOk result (exceeded_by (tree_of core.now) (class_of class.now) Names pool.old ≡ None) }
-    ensures fault { IfErr result (λ e. Tells (part_excess (tree_of core.now) (class_of class.now) Names pool.old) e) }
+        (header core.now (class_of class.now) pool.old)) }
+    ensures fine { OnOk result (exceeded_by core.now (class_of class.now) Names pool.old ≡ None) }
+    ensures fault { IfErr result (λ e. Tells (part_excess core.now (class_of class.now) Names pool.old) e) }
 {
     let old = pool.len();
     let this_class = class_const(pool, name_text(core, class.name))?;
@@ -60,9 +59,9 @@ fn field_in_file(
     field: &CoreField,
     pool: &mut Pool,
 ) -> Result<Member, GenFault>
-    ensures made { IfOk result (λ m. IsMade (member_of m) pool.new (field_in_file (tree_of core.now) (field_of field.now) pool.old)) }
-    ensures fine { OnOk result (exceeded_by (tree_of core.now) (class_of class.now) (OfField (field_of field.now)) pool.old ≡ None) }
-    ensures fault { IfErr result (λ e. Tells (part_excess (tree_of core.now) (class_of class.now) (OfField (field_of field.now)) pool.old)
+    ensures made { IfOk result (λ m. IsMade (member_of m) pool.new (field_in_file core.now (field_of field.now) pool.old)) }
+    ensures fine { OnOk result (exceeded_by core.now (class_of class.now) (OfField (field_of field.now)) pool.old ≡ None) }
+    ensures fault { IfErr result (λ e. Tells (part_excess core.now (class_of class.now) (OfField (field_of field.now)) pool.old)
         e) }
 {
     let old = pool.len();
@@ -86,10 +85,10 @@ pub(crate) fn fields(
     pool: &mut Pool,
 ) -> Result<List<Member>, GenFault>
     ensures made { IfOk result (λ ms. IsMade (map member_of ms.items) pool.new
-        (each (field_in_file (tree_of core.now)) (class_of class.now).fields pool.old)) }
-    ensures fine { OnOk result (AreFine (tree_of core.now) (class_of class.now) (map OfField (class_of class.now).fields) pool.old
+        (each (field_in_file core.now) (class_of class.now).fields pool.old)) }
+    ensures fine { OnOk result (AreFine core.now (class_of class.now) (map OfField (class_of class.now).fields) pool.old
         pool.new) }
-    ensures fault { IfErr result (FirstTold (tree_of core.now) (class_of class.now) (map OfField (class_of class.now).fields) pool.old) }
+    ensures fault { IfErr result (FirstTold core.now (class_of class.now) (map OfField (class_of class.now).fields) pool.old) }
 {
     let mut members = List::new(alloc);
     for field in class.fields.as_slice() {

@@ -1,7 +1,6 @@
 //! The numbers of a code's constants, and the places of its instructions.
 
 ghost use Rattle.std.specs.Prelude.{◌≡◌, IfOk, OnOk};
-ghost use Rattle.jv_core.specs.Core.{tree_of};
 ghost use Rattle.gen_symbolic.specs.View.{instrs_of};
 ghost use Rattle.gen_pool.specs.Made.{IsMade, IsFrontOf};
 ghost use Rattle.gen_members.specs.Laid.{laid};
@@ -52,7 +51,7 @@ pub(crate) fn lay_out(
     instrs: &[Symbolic<'_>],
     pool: &mut Pool,
 ) -> Result<Laid, Memory>
-    ensures made { IfOk result (λ l. IsMade (laid_of l) pool.new (laid 0 (instrs_of (tree_of core.now) instrs.now) pool.old)) }
+    ensures made { IfOk result (λ l. IsMade (laid_of l) pool.new (laid 0 (instrs_of core.now instrs.now) pool.old)) }
     ensures kept { IsFrontOf pool.old pool.new }
 {
     let mut laid = Laid {

@@ -3,7 +3,6 @@
 ghost use Rattle.std.specs.Prelude.{◌≡◌, None, [], ◌∷◌, IfOk, OnOk, IfErr, length};
 ghost use Rattle.cls_tree.specs.View.{code_of, member_of};
 ghost use Rattle.cls_tree.specs.Tree as file;
-ghost use Rattle.jv_core.specs.Core.{tree_of};
 ghost use Rattle.jv_core.specs.Tree.{Program, Class as CoreClass};
 ghost use Rattle.gen_symbolic.specs.View.{instrs_of};
 ghost use Rattle.gen_rules.specs.Classes.{code_in_file, method_in_file};
@@ -104,10 +103,10 @@ pub fn code(
     making: &Making<'_>,
     pool: &mut Pool,
 ) -> Result<Code, GenFault>
-    ensures made { IfOk result (λ c. IsMade (code_of c) pool.new (code_in_file (compiled_of (tree_of core.now) making.now) pool.old)) }
-    ensures fine { OnOk result (exceeded_by_code (compiled_of (tree_of core.now) making.now) pool.old ≡ None) }
+    ensures made { IfOk result (λ c. IsMade (code_of c) pool.new (code_in_file (compiled_of core.now making.now) pool.old)) }
+    ensures fine { OnOk result (exceeded_by_code (compiled_of core.now making.now) pool.old ≡ None) }
     ensures fault { IfErr result (λ e. Tells (excess_at making.now.place making.now.told_as.now
-        (exceeded_by_code (compiled_of (tree_of core.now) making.now) pool.old)) e) }
+        (exceeded_by_code (compiled_of core.now making.now) pool.old)) e) }
     ensures kept { IsFrontOf pool.old pool.new }
 {
     let instrs = making.instrs.as_slice();
@@ -129,11 +128,11 @@ pub(crate) fn method(
     making: &Making<'_>,
     pool: &mut Pool,
 ) -> Result<Member, GenFault>
-    ensures made { IfOk result (λ m. IsMade (member_of m) pool.new (method_in_file (compiled_of (tree_of core.now) making.now) pool.old)) }
-    ensures fine { OnOk result ((k : CoreClass) → exceeded_by (tree_of core.now) k (OfMethod (compiled_of (tree_of core.now) making.now))
+    ensures made { IfOk result (λ m. IsMade (member_of m) pool.new (method_in_file (compiled_of core.now making.now) pool.old)) }
+    ensures fine { OnOk result ((k : CoreClass) → exceeded_by core.now k (OfMethod (compiled_of core.now making.now))
         pool.old ≡ None) }
     ensures fault { IfErr result (λ e. (k : CoreClass) →
-        Tells (part_excess (tree_of core.now) k (OfMethod (compiled_of (tree_of core.now) making.now)) pool.old) e) }
+        Tells (part_excess core.now k (OfMethod (compiled_of core.now making.now)) pool.old) e) }
 {
     let text = making.descriptor.as_str();
     let instrs = making.instrs.as_slice();

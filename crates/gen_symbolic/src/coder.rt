@@ -4,7 +4,7 @@ ghost use Rattle.std.specs.Prelude.{◌≡◌, [], IfOk, OnOk};
 ghost use Rattle.jv_core.specs.Lookup.{slot_type, field_type, variable_type};
 ghost use Rattle.gen_rules.specs.Symbolic.{jump as jump_to, plain};
 ghost use Rattle.gen_symbolic.specs.View.{operand_of};
-ghost use Rattle.gen_symbolic.specs.inner.Held.{draft_in, program_in, method_in};
+ghost use Rattle.gen_symbolic.specs.inner.Held.{draft_in, method_in};
 ghost use Rattle.gen_symbolic.specs.inner.Drafting.{emit, with_label, with_label_here, with_labels, next_label, placed, variable_type_of};
 ghost use Rattle.gen_symbolic.specs.inner.Drafting.{variable};
 ghost use Rattle.jv_core.specs.declared.tree.Var.TheVariants as vars;
@@ -63,7 +63,7 @@ impl<'a> Coder<'a> {
         operand: Operand<'a>,
     ) -> Result<(), Memory>
         ensures { OnOk result (draft_in self.now draft.new
-            ≡ emit (record { op = op; operand = operand_of (program_in self.now) operand.entry }) (draft_in self.now draft.old)) }
+            ≡ emit (record { op = op; operand = operand_of self.now.core.now operand.entry }) (draft_in self.now draft.old)) }
     {
         draft.instrs.push(Symbolic { op, operand })?;
         Ok(())
@@ -145,7 +145,7 @@ impl<'a> Coder<'a> {
     // The type of an own field.
     #[tactic(auto, using(crate::proofs::Seen::found))]
     fn field_type(&self, field: u32) -> Option<CoreType>
-        ensures { result ≡ field_type (program_in self.now) (method_in self.now).class field }
+        ensures { result ≡ field_type self.now.core.now (method_in self.now).class field }
     {
         let class = self.core.classes().get(self.method.class as usize)?;
         match class.fields.as_slice().get(field as usize) {
@@ -156,7 +156,7 @@ impl<'a> Coder<'a> {
 
     /// The type of a variable.
     pub(crate) fn variable_type(&self, variable: Var) -> Option<CoreType>
-        ensures { result ≡ variable_type (program_in self.now) (method_in self.now) variable }
+        ensures { result ≡ variable_type self.now.core.now (method_in self.now) variable }
     {
         match variable {
             Var::Slot(slot) => self.slot_type(slot),
@@ -166,7 +166,7 @@ impl<'a> Coder<'a> {
 
     /// The type of a slot; each has one.
     pub(crate) fn type_of_slot(&self, slot: u32) -> CoreType
-        ensures { result ≡ variable_type_of (program_in self.now) (method_in self.now) (vars.Slot slot) }
+        ensures { result ≡ variable_type_of self.now.core.now (method_in self.now) (vars.Slot slot) }
     {
         match self.slot_type(slot) {
             Some(ty) => ty,

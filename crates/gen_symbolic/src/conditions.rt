@@ -4,7 +4,7 @@
 ghost use Rattle.std.specs.Prelude.{◌≡◌, OnOk, not};
 ghost use Rattle.jv_core.specs.View.{expr_of};
 ghost use Rattle.gen_rules.specs.Templates.{compared};
-ghost use Rattle.gen_symbolic.specs.inner.Held.{draft_in, program_in, method_in};
+ghost use Rattle.gen_symbolic.specs.inner.Held.{draft_in, method_in};
 ghost use Rattle.gen_symbolic.specs.inner.Drafting.{emit, value, tested_binary, binary_forms, forms, jump, literal_jump, test, null_op};
 ghost use Rattle.gen_symbolic.specs.inner.Drafting.{compare_op, with_null, comparison, past};
 
@@ -87,7 +87,7 @@ impl<'a> Coder<'a> {
         holds: bool,
         label: u32,
     ) -> Result<(), Memory>
-        ensures { OnOk result (draft_in self.now draft.new ≡ jump (program_in self.now) (method_in self.now) locals.now
+        ensures { OnOk result (draft_in self.now draft.new ≡ jump self.now.core.now (method_in self.now) locals.now
             (expr_of expr.now) holds label (draft_in self.now draft.old)) }
     {
         match &expr.kind {
@@ -149,7 +149,7 @@ impl<'a> Coder<'a> {
         label: u32,
     ) -> Result<(), Memory>
         ensures { OnOk result (draft_in self.now draft.new ≡ emit (test holds label)
-            (value (program_in self.now) (method_in self.now) locals.now (expr_of expr.now) (draft_in self.now draft.old))) }
+            (value self.now.core.now (method_in self.now) locals.now (expr_of expr.now) (draft_in self.now draft.old))) }
     {
         self.value(draft, locals, expr)?;
         self.put_test(draft, holds, label)
@@ -168,7 +168,7 @@ impl<'a> Coder<'a> {
         label: u32,
     ) -> Result<(), Memory>
         ensures { OnOk result (draft_in self.now draft.new
-            ≡ (binary_forms (program_in self.now) (method_in self.now) locals.now op (expr_of left.now) (expr_of right.now)).jump holds
+            ≡ (binary_forms self.now.core.now (method_in self.now) locals.now op (expr_of left.now) (expr_of right.now)).jump holds
             label (draft_in self.now draft.old)) }
     {
         match op {
@@ -197,7 +197,7 @@ impl<'a> Coder<'a> {
         holds: bool,
         label: u32,
     ) -> Result<(), Memory>
-        ensures { OnOk result (draft_in self.now draft.new ≡ tested_binary (program_in self.now) (method_in self.now) locals.now op
+        ensures { OnOk result (draft_in self.now draft.new ≡ tested_binary self.now.core.now (method_in self.now) locals.now op
             (expr_of left.now) (expr_of right.now) holds label (draft_in self.now draft.old)) }
     {
         match op {
@@ -233,8 +233,8 @@ impl<'a> Coder<'a> {
         holds: bool,
         label: u32,
     ) -> Result<(), Memory>
-        ensures { OnOk result (draft_in self.now draft.new ≡ jump (program_in self.now) (method_in self.now) locals.now
-            (expr_of right.now) holds label (jump (program_in self.now) (method_in self.now) locals.now (expr_of left.now) holds label
+        ensures { OnOk result (draft_in self.now draft.new ≡ jump self.now.core.now (method_in self.now) locals.now
+            (expr_of right.now) holds label (jump self.now.core.now (method_in self.now) locals.now (expr_of left.now) holds label
             (draft_in self.now draft.old))) }
     {
         self.jump(draft, locals, left, holds, label)?;
@@ -253,8 +253,8 @@ impl<'a> Coder<'a> {
         label: u32,
     ) -> Result<(), Memory>
         ensures { OnOk result (draft_in self.now draft.new
-            ≡ past (jump (program_in self.now) (method_in self.now) locals.now (expr_of left.now) (not holds))
-            (jump (program_in self.now) (method_in self.now) locals.now (expr_of right.now) holds label) (draft_in self.now draft.old)) }
+            ≡ past (jump self.now.core.now (method_in self.now) locals.now (expr_of left.now) (not holds))
+            (jump self.now.core.now (method_in self.now) locals.now (expr_of right.now) holds label) (draft_in self.now draft.old)) }
     {
         let end = self.open(draft)?;
         self.jump(draft, locals, left, !holds, end)?;
@@ -275,8 +275,8 @@ impl<'a> Coder<'a> {
         label: u32,
     ) -> Result<(), Memory>
         ensures { OnOk result (draft_in self.now draft.new ≡ comparison op (compared (expr_of left.now) (expr_of right.now))
-            (forms (program_in self.now) (method_in self.now) locals.now (expr_of left.now))
-            (forms (program_in self.now) (method_in self.now) locals.now (expr_of right.now)) holds label (draft_in self.now draft.old)) }
+            (forms self.now.core.now (method_in self.now) locals.now (expr_of left.now))
+            (forms self.now.core.now (method_in self.now) locals.now (expr_of right.now)) holds label (draft_in self.now draft.old)) }
     {
         if is_null(right) {
             return self.compare_null(draft, locals, op, left, holds, label);
@@ -300,7 +300,7 @@ impl<'a> Coder<'a> {
         label: u32,
     ) -> Result<(), Memory>
         ensures { OnOk result (draft_in self.now draft.new
-            ≡ with_null op (value (program_in self.now) (method_in self.now) locals.now (expr_of expr.now)) holds label
+            ≡ with_null op (value self.now.core.now (method_in self.now) locals.now (expr_of expr.now)) holds label
             (draft_in self.now draft.old)) }
     {
         self.value(draft, locals, expr)?;

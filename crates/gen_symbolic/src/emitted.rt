@@ -4,7 +4,7 @@ ghost use Rattle.std.specs.Prelude.{◌≡◌, ◌≤◌, OnOk, pos};
 ghost use Rattle.gen_rules.specs.Symbolic.{push, push_truth, push_text, load, store, aload, is_reference, return_value, with_local};
 ghost use Rattle.gen_rules.specs.Symbolic.{Nothing, Field, Method};
 ghost use Rattle.gen_rules.specs.Members.{field_reference, method_reference};
-ghost use Rattle.gen_symbolic.specs.inner.Held.{draft_in, program_in, method_in};
+ghost use Rattle.gen_symbolic.specs.inner.Held.{draft_in, method_in};
 ghost use Rattle.gen_symbolic.specs.inner.Drafting.{emit, variable, store_in, text, discard};
 
 use crate::coder::{Coder, Draft};
@@ -139,7 +139,7 @@ impl<'a> Coder<'a> {
         locals: &Locals,
         of: Var,
     ) -> Result<(), Memory>
-        ensures { OnOk result (draft_in self.now draft.new ≡ variable (program_in self.now) (method_in self.now) locals.now of
+        ensures { OnOk result (draft_in self.now draft.new ≡ variable self.now.core.now (method_in self.now) locals.now of
             (draft_in self.now draft.old)) }
     {
         match of {
@@ -157,7 +157,7 @@ impl<'a> Coder<'a> {
     /// An instruction of an own field.
     pub(crate) fn put_field(&self, draft: &mut Draft<'a>, op: u8, field: u32) -> Result<(), Memory>
         ensures { OnOk result (draft_in self.now draft.new
-            ≡ emit (record { op = op; operand = Field (field_reference (program_in self.now) (method_in self.now).class field) })
+            ≡ emit (record { op = op; operand = Field (field_reference self.now.core.now (method_in self.now).class field) })
             (draft_in self.now draft.old)) }
     {
         let class = self.method.class;
@@ -171,7 +171,7 @@ impl<'a> Coder<'a> {
         locals: &Locals,
         slot: u32,
     ) -> Result<(), Memory>
-        ensures { OnOk result (draft_in self.now draft.new ≡ store_in (program_in self.now) (method_in self.now) locals.now slot
+        ensures { OnOk result (draft_in self.now draft.new ≡ store_in self.now.core.now (method_in self.now) locals.now slot
             (draft_in self.now draft.old)) }
     {
         let local = locals.local_of(self.method.kind, slot)?;
@@ -181,7 +181,7 @@ impl<'a> Coder<'a> {
     /// A call of a method of this number.
     pub(crate) fn put_call(&self, draft: &mut Draft<'a>, op: u8, method: u32) -> Result<(), Memory>
         ensures { OnOk result (draft_in self.now draft.new
-            ≡ emit (record { op = op; operand = Method (method_reference (program_in self.now) method) }) (draft_in self.now draft.old)) }
+            ≡ emit (record { op = op; operand = Method (method_reference self.now.core.now method) }) (draft_in self.now draft.old)) }
     {
         self.put(draft, op, Operand::Method(method))
     }
@@ -192,7 +192,7 @@ impl<'a> Coder<'a> {
         draft: &mut Draft<'a>,
         ty: Option<CoreType>,
     ) -> Result<(), Memory>
-        ensures { OnOk result (draft_in self.now draft.new ≡ text (program_in self.now) (method_in self.now) ty
+        ensures { OnOk result (draft_in self.now draft.new ≡ text self.now.core.now (method_in self.now) ty
             (draft_in self.now draft.old)) }
     {
         let Some(ty) = ty else {
@@ -216,7 +216,7 @@ impl<'a> Coder<'a> {
         draft: &mut Draft<'a>,
         ty: Option<CoreType>,
     ) -> Result<(), Memory>
-        ensures { OnOk result (draft_in self.now draft.new ≡ discard (program_in self.now) (method_in self.now) ty
+        ensures { OnOk result (draft_in self.now draft.new ≡ discard self.now.core.now (method_in self.now) ty
             (draft_in self.now draft.old)) }
     {
         let Some(ty) = ty else {

@@ -4,7 +4,7 @@ ghost use Rattle.std.specs.Prelude.{◌≡◌, OnOk, map, not};
 ghost use Rattle.jv_core.specs.View.{expr_of, exprs_of};
 ghost use Rattle.gen_rules.specs.Symbolic.{plain};
 ghost use Rattle.gen_symbolic.specs.View.{operand_of, built_in_of};
-ghost use Rattle.gen_symbolic.specs.inner.Held.{draft_in, program_in, method_in};
+ghost use Rattle.gen_symbolic.specs.inner.Held.{draft_in, method_in};
 ghost use Rattle.gen_symbolic.specs.inner.Drafting.{emit, value, arguments, truth_at, truth_of, tested_binary, binary_forms, summed};
 ghost use Rattle.gen_symbolic.specs.inner.Drafting.{called_on, called_own, created, two_values, forms, jump};
 
@@ -33,7 +33,7 @@ impl<'a> Coder<'a> {
         locals: &Locals,
         expr: &'a CoreExpr,
     ) -> Result<(), Memory>
-        ensures { OnOk result (draft_in self.now draft.new ≡ value (program_in self.now) (method_in self.now) locals.now (expr_of expr.now)
+        ensures { OnOk result (draft_in self.now draft.new ≡ value self.now.core.now (method_in self.now) locals.now (expr_of expr.now)
             (draft_in self.now draft.old)) }
     {
         match &expr.kind {
@@ -75,7 +75,7 @@ impl<'a> Coder<'a> {
 
     // A new object of a class.
     fn put_new(&self, draft: &mut Draft<'a>, class: u32) -> Result<(), Memory>
-        ensures { OnOk result (draft_in self.now draft.new ≡ created (program_in self.now) (method_in self.now) class
+        ensures { OnOk result (draft_in self.now draft.new ≡ created self.now.core.now (method_in self.now) class
             (draft_in self.now draft.old)) }
     {
         self.put(draft, NEW, Operand::Class(class))?;
@@ -93,7 +93,7 @@ impl<'a> Coder<'a> {
         op: u8,
     ) -> Result<(), Memory>
         ensures { OnOk result (draft_in self.now draft.new ≡ emit (plain op)
-            (value (program_in self.now) (method_in self.now) locals.now (expr_of expr.now) (draft_in self.now draft.old))) }
+            (value self.now.core.now (method_in self.now) locals.now (expr_of expr.now) (draft_in self.now draft.old))) }
     {
         self.value(draft, locals, expr)?;
         self.put_plain(draft, op)
@@ -108,8 +108,8 @@ impl<'a> Coder<'a> {
         left: &'a CoreExpr,
         right: &'a CoreExpr,
     ) -> Result<(), Memory>
-        ensures { OnOk result (draft_in self.now draft.new ≡ value (program_in self.now) (method_in self.now) locals.now (expr_of right.now)
-            (value (program_in self.now) (method_in self.now) locals.now (expr_of left.now) (draft_in self.now draft.old))) }
+        ensures { OnOk result (draft_in self.now draft.new ≡ value self.now.core.now (method_in self.now) locals.now (expr_of right.now)
+            (value self.now.core.now (method_in self.now) locals.now (expr_of left.now) (draft_in self.now draft.old))) }
     {
         self.value(draft, locals, left)?;
         self.value(draft, locals, right)
@@ -126,8 +126,8 @@ impl<'a> Coder<'a> {
         op: u8,
     ) -> Result<(), Memory>
         ensures { OnOk result (draft_in self.now draft.new
-            ≡ two_values (forms (program_in self.now) (method_in self.now) locals.now (expr_of left.now))
-            (forms (program_in self.now) (method_in self.now) locals.now (expr_of right.now)) (plain op) (draft_in self.now draft.old)) }
+            ≡ two_values (forms self.now.core.now (method_in self.now) locals.now (expr_of left.now))
+            (forms self.now.core.now (method_in self.now) locals.now (expr_of right.now)) (plain op) (draft_in self.now draft.old)) }
     {
         self.two_values(draft, locals, left, right)?;
         self.put_plain(draft, op)
@@ -144,8 +144,8 @@ impl<'a> Coder<'a> {
         called: Built,
     ) -> Result<(), Memory>
         ensures { OnOk result (draft_in self.now draft.new
-            ≡ two_values (forms (program_in self.now) (method_in self.now) locals.now (expr_of left.now))
-            (forms (program_in self.now) (method_in self.now) locals.now (expr_of right.now))
+            ≡ two_values (forms self.now.core.now (method_in self.now) locals.now (expr_of left.now))
+            (forms self.now.core.now (method_in self.now) locals.now (expr_of right.now))
             (record { op = INVOKEVIRTUAL; operand = built_in_of called }) (draft_in self.now draft.old)) }
     {
         self.two_values(draft, locals, left, right)?;
@@ -161,7 +161,7 @@ impl<'a> Coder<'a> {
         left: &'a CoreExpr,
         right: &'a CoreExpr,
     ) -> Result<(), Memory>
-        ensures { OnOk result (draft_in self.now draft.new ≡ summed (program_in self.now) (method_in self.now) locals.now (expr_of left.now)
+        ensures { OnOk result (draft_in self.now draft.new ≡ summed self.now.core.now (method_in self.now) locals.now (expr_of left.now)
             (expr_of right.now) (draft_in self.now draft.old)) }
     {
         let left_type = self.type_of(left);
@@ -187,7 +187,7 @@ impl<'a> Coder<'a> {
         right: &'a CoreExpr,
     ) -> Result<(), Memory>
         ensures { OnOk result (draft_in self.now draft.new
-            ≡ (binary_forms (program_in self.now) (method_in self.now) locals.now op (expr_of left.now) (expr_of right.now)).value
+            ≡ (binary_forms self.now.core.now (method_in self.now) locals.now op (expr_of left.now) (expr_of right.now)).value
             (draft_in self.now draft.old)) }
     {
         match op {
@@ -227,7 +227,7 @@ impl<'a> Coder<'a> {
         inner: &'a CoreExpr,
     ) -> Result<(), Memory>
         ensures { OnOk result (draft_in self.now draft.new
-            ≡ truth_of (λ h l. jump (program_in self.now) (method_in self.now) locals.now (expr_of inner.now) (not h) l)
+            ≡ truth_of (λ h l. jump self.now.core.now (method_in self.now) locals.now (expr_of inner.now) (not h) l)
             (draft_in self.now draft.old)) }
     {
         let end = self.open(draft)?;
@@ -247,7 +247,7 @@ impl<'a> Coder<'a> {
         right: &'a CoreExpr,
     ) -> Result<(), Memory>
         ensures { OnOk result (draft_in self.now draft.new
-            ≡ truth_of (tested_binary (program_in self.now) (method_in self.now) locals.now op (expr_of left.now) (expr_of right.now))
+            ≡ truth_of (tested_binary self.now.core.now (method_in self.now) locals.now op (expr_of left.now) (expr_of right.now))
             (draft_in self.now draft.old)) }
     {
         let end = self.open(draft)?;
@@ -265,7 +265,7 @@ impl<'a> Coder<'a> {
         locals: &Locals,
         args: &'a [CoreExpr],
     ) -> Result<(), Memory>
-        ensures { OnOk result (draft_in self.now draft.new ≡ arguments (program_in self.now) (method_in self.now) locals.now
+        ensures { OnOk result (draft_in self.now draft.new ≡ arguments self.now.core.now (method_in self.now) locals.now
             (exprs_of (map expr_of args.now)) (draft_in self.now draft.old)) }
     {
         for arg in args {
@@ -284,8 +284,8 @@ impl<'a> Coder<'a> {
         called: Operand<'a>,
     ) -> Result<(), Memory>
         ensures { OnOk result (draft_in self.now draft.new
-            ≡ emit (record { op = INVOKESTATIC; operand = operand_of (program_in self.now) called.entry })
-            (arguments (program_in self.now) (method_in self.now) locals.now (exprs_of (map expr_of args.now))
+            ≡ emit (record { op = INVOKESTATIC; operand = operand_of self.now.core.now called.entry })
+            (arguments self.now.core.now (method_in self.now) locals.now (exprs_of (map expr_of args.now))
             (draft_in self.now draft.old))) }
     {
         self.arguments(draft, locals, args)?;
@@ -302,7 +302,7 @@ impl<'a> Coder<'a> {
         method: u32,
         args: &'a [CoreExpr],
     ) -> Result<(), Memory>
-        ensures { OnOk result (draft_in self.now draft.new ≡ called_on (program_in self.now) (method_in self.now) locals.now receiver method
+        ensures { OnOk result (draft_in self.now draft.new ≡ called_on self.now.core.now (method_in self.now) locals.now receiver method
             (exprs_of (map expr_of args.now)) (draft_in self.now draft.old)) }
     {
         self.put_variable(draft, locals, receiver)?;
@@ -319,7 +319,7 @@ impl<'a> Coder<'a> {
         method: u32,
         args: &'a [CoreExpr],
     ) -> Result<(), Memory>
-        ensures { OnOk result (draft_in self.now draft.new ≡ called_own (program_in self.now) (method_in self.now) locals.now method
+        ensures { OnOk result (draft_in self.now draft.new ≡ called_own self.now.core.now (method_in self.now) locals.now method
             (exprs_of (map expr_of args.now)) (draft_in self.now draft.old)) }
     {
         self.put_own(draft)?;

@@ -6,7 +6,7 @@ ghost use Rattle.gen_rules.specs.Templates.{compared};
 ghost use Rattle.gen_rules.specs.Frames.{binary_depths, depths, depth_of_arguments, depth_of_assignment, depth_of, depth_of_all};
 ghost use Rattle.gen_rules.specs.Frames.{depth_of_groups, left_by, max_stack, depths_by_value, depths_by_jumps, two_depths};
 ghost use Rattle.gen_rules.specs.Frames.{comparison_depths};
-ghost use Rattle.gen_symbolic.specs.inner.Held.{program_in, method_in, depths_of};
+ghost use Rattle.gen_symbolic.specs.inner.Held.{method_in, depths_of};
 ghost use Rattle.gen_symbolic.specs.inner.Drafting.{value, jump, groups};
 
 use crate::coder::Coder;
@@ -75,7 +75,7 @@ fn left_by(ty: Option<CoreType>) -> u32
 impl<'a> Coder<'a> {
     // Where a variable is assigned whose value has this depth.
     fn assigned(&self, target: Var, value: u32) -> Result<u32, Memory>
-        ensures { IfOk result (λ n. n ≡ depth_of_assignment (program_in self.now) (method_in self.now) target value) }
+        ensures { IfOk result (λ n. n ≡ depth_of_assignment self.now.core.now (method_in self.now) target value) }
     {
         match target {
             Var::Slot(_) => Ok(value),
@@ -86,7 +86,7 @@ impl<'a> Coder<'a> {
     #[tactic(auto, using(crate::proofs::Seen::seen))]
     #[cycle(depths)]
     fn depths(&self, expr: &CoreExpr) -> Result<Depths, Memory>
-        ensures { IfOk result (λ d. depths_of d ≡ depths (program_in self.now) (method_in self.now) (expr_of expr.now)) }
+        ensures { IfOk result (λ d. depths_of d ≡ depths self.now.core.now (method_in self.now) (expr_of expr.now)) }
     {
         match &expr.kind {
             CoreExprKind::Truth(_) => Ok(Depths { value: 1, jump: 0 }),
@@ -120,7 +120,7 @@ impl<'a> Coder<'a> {
     #[cycle(depths)]
     fn depths_on(&self, args: &[CoreExpr]) -> Result<Depths, Memory>
         ensures { IfOk result (λ d. depths_of d ≡ depths_by_value
-            (suc (depth_of_arguments (program_in self.now) (method_in self.now) (exprs_of (map expr_of args.now))))) }
+            (suc (depth_of_arguments self.now.core.now (method_in self.now) (exprs_of (map expr_of args.now))))) }
     {
         let depth = self.arguments_depth(args)?;
         let depth = deeper(depth)?;
@@ -131,7 +131,7 @@ impl<'a> Coder<'a> {
     #[cycle(depths)]
     fn depths_with(&self, left: u32, args: &[CoreExpr]) -> Result<Depths, Memory>
         ensures { IfOk result (λ d. depths_of d ≡ depths_by_value
-            (max (depth_of_arguments (program_in self.now) (method_in self.now) (exprs_of (map expr_of args.now))) left)) }
+            (max (depth_of_arguments self.now.core.now (method_in self.now) (exprs_of (map expr_of args.now))) left)) }
     {
         let depth = self.arguments_depth(args)?;
         Ok(Depths::by_value(depth.max(left)))
@@ -141,8 +141,8 @@ impl<'a> Coder<'a> {
     #[cycle(depths)]
     fn depths_of_two(&self, left: &CoreExpr, right: &CoreExpr) -> Result<Depths, Memory>
         ensures { IfOk result (λ d. depths_of d ≡ depths_by_value
-            (two_depths (depths (program_in self.now) (method_in self.now) (expr_of left.now))
-            (depths (program_in self.now) (method_in self.now) (expr_of right.now)))) }
+            (two_depths (depths self.now.core.now (method_in self.now) (expr_of left.now))
+            (depths self.now.core.now (method_in self.now) (expr_of right.now)))) }
     {
         let left = self.depths(left)?;
         let right = self.depths(right)?;
@@ -153,8 +153,8 @@ impl<'a> Coder<'a> {
     #[cycle(depths)]
     fn binary_depths(&self, op: CoreOp, left: &CoreExpr, right: &CoreExpr) -> Result<Depths, Memory>
         ensures { IfOk result (λ d. depths_of d ≡ binary_depths op (compared (expr_of left.now) (expr_of right.now))
-            (depths (program_in self.now) (method_in self.now) (expr_of left.now))
-            (depths (program_in self.now) (method_in self.now) (expr_of right.now))) }
+            (depths self.now.core.now (method_in self.now) (expr_of left.now))
+            (depths self.now.core.now (method_in self.now) (expr_of right.now))) }
     {
         match op {
             CoreOp::Or | CoreOp::And => {
@@ -175,8 +175,8 @@ impl<'a> Coder<'a> {
     #[cycle(depths)]
     fn comparison_depths(&self, left: &CoreExpr, right: &CoreExpr) -> Result<Depths, Memory>
         ensures { IfOk result (λ d. depths_of d ≡ comparison_depths (compared (expr_of left.now) (expr_of right.now))
-            (depths (program_in self.now) (method_in self.now) (expr_of left.now))
-            (depths (program_in self.now) (method_in self.now) (expr_of right.now))) }
+            (depths self.now.core.now (method_in self.now) (expr_of left.now))
+            (depths self.now.core.now (method_in self.now) (expr_of right.now))) }
     {
         if is_null(right) {
             let left = self.depths(left)?;
@@ -196,7 +196,7 @@ impl<'a> Coder<'a> {
     #[tactic(auto, using(crate::proofs::Framing::argument_depths))]
     #[cycle(depths)]
     fn arguments_depth(&self, args: &[CoreExpr]) -> Result<u32, Memory>
-        ensures { IfOk result (λ n. n ≡ depth_of_arguments (program_in self.now) (method_in self.now) (exprs_of (map expr_of args.now))) }
+        ensures { IfOk result (λ n. n ≡ depth_of_arguments self.now.core.now (method_in self.now) (exprs_of (map expr_of args.now))) }
     {
         let mut depth = 0;
         let mut left = args.len();
@@ -211,7 +211,7 @@ impl<'a> Coder<'a> {
     #[tactic(auto, using(crate::proofs::Seen::seen))]
     #[cycle(statement_depths)]
     fn depth_of(&self, stmt: &CoreStmt) -> Result<u32, Memory>
-        ensures { IfOk result (λ n. n ≡ depth_of (program_in self.now) (method_in self.now) (stmt_of stmt.now)) }
+        ensures { IfOk result (λ n. n ≡ depth_of self.now.core.now (method_in self.now) (stmt_of stmt.now)) }
     {
         match &stmt.kind {
             CoreStmtKind::Block(body, _) => self.depth_of_all(body.as_slice()),
@@ -253,7 +253,7 @@ impl<'a> Coder<'a> {
 
     // The value of an expression.
     fn value_depth(&self, expr: &CoreExpr) -> Result<u32, Memory>
-        ensures { IfOk result (λ n. n ≡ (depths (program_in self.now) (method_in self.now) (expr_of expr.now)).value) }
+        ensures { IfOk result (λ n. n ≡ (depths self.now.core.now (method_in self.now) (expr_of expr.now)).value) }
     {
         let depths = self.depths(expr)?;
         Ok(depths.value)
@@ -262,8 +262,8 @@ impl<'a> Coder<'a> {
     // A condition and a statement.
     #[cycle(statement_depths)]
     fn guarded_depth(&self, condition: &CoreExpr, inner: &CoreStmt) -> Result<u32, Memory>
-        ensures { IfOk result (λ n. n ≡ max (depths (program_in self.now) (method_in self.now) (expr_of condition.now)).jump
-            (depth_of (program_in self.now) (method_in self.now) (stmt_of inner.now))) }
+        ensures { IfOk result (λ n. n ≡ max (depths self.now.core.now (method_in self.now) (expr_of condition.now)).jump
+            (depth_of self.now.core.now (method_in self.now) (stmt_of inner.now))) }
     {
         let condition = self.depths(condition)?;
         let inner = self.depth_of(inner)?;
@@ -273,7 +273,7 @@ impl<'a> Coder<'a> {
     #[tactic(auto, using(crate::proofs::Framing::statement_depths))]
     #[cycle(statement_depths)]
     fn depth_of_all(&self, stmts: &[CoreStmt]) -> Result<u32, Memory>
-        ensures { IfOk result (λ n. n ≡ depth_of_all (program_in self.now) (method_in self.now) (stmts_of (map stmt_of stmts.now))) }
+        ensures { IfOk result (λ n. n ≡ depth_of_all self.now.core.now (method_in self.now) (stmts_of (map stmt_of stmts.now))) }
     {
         let mut depth = 0;
         for stmt in stmts {
@@ -286,7 +286,7 @@ impl<'a> Coder<'a> {
     #[tactic(auto, using(crate::proofs::Framing::statement_depths))]
     #[cycle(statement_depths)]
     fn depth_of_groups(&self, groups: &[CoreGroup]) -> Result<u32, Memory>
-        ensures { IfOk result (λ n. n ≡ depth_of_groups (program_in self.now) (method_in self.now) (groups_of (map group_of groups.now))) }
+        ensures { IfOk result (λ n. n ≡ depth_of_groups self.now.core.now (method_in self.now) (groups_of (map group_of groups.now))) }
     {
         let mut depth = 0;
         for group in groups {
@@ -298,7 +298,7 @@ impl<'a> Coder<'a> {
 
     /// How many operands stand on the stack at most.
     pub(crate) fn max_stack(&self) -> Result<u32, Memory>
-        ensures { IfOk result (λ n. n ≡ max_stack (program_in self.now) (method_in self.now)) }
+        ensures { IfOk result (λ n. n ≡ max_stack self.now.core.now (method_in self.now)) }
     {
         let body = self.depth_of_all(self.method.body.as_slice())?;
         let end = match self.method.result {

@@ -1,12 +1,11 @@
 //! The whole code of a method, and its frame.
 
 ghost use Rattle.std.specs.Prelude.{◌≡◌, IfOk, OnOk};
-ghost use Rattle.jv_core.specs.Core.{tree_of};
 ghost use Rattle.jv_core.specs.View.{method_of};
 ghost use Rattle.gen_rules.specs.Templates.{IsCode};
 ghost use Rattle.gen_rules.specs.Frames.{max_stack, max_locals};
 ghost use Rattle.gen_symbolic.specs.View.{instrs_of};
-ghost use Rattle.gen_symbolic.specs.inner.Held.{draft_in, program_in, method_in};
+ghost use Rattle.gen_symbolic.specs.inner.Held.{draft_in, method_in};
 ghost use Rattle.gen_symbolic.specs.inner.Drafting.{end_of_method, drafted};
 
 use crate::aimed::aim;
@@ -32,7 +31,7 @@ pub struct MethodCode<'a> {
 impl<'a> Coder<'a> {
     // The end of the method, whether it is reached or not.
     fn put_end(&self, draft: &mut Draft<'a>) -> Result<(), Memory>
-        ensures { OnOk result (draft_in self.now draft.new ≡ end_of_method (program_in self.now) (method_in self.now)
+        ensures { OnOk result (draft_in self.now draft.new ≡ end_of_method self.now.core.now (method_in self.now)
             (method_in self.now).result (draft_in self.now draft.old)) }
     {
         let result = self.method.result;
@@ -47,7 +46,7 @@ impl<'a> Coder<'a> {
     // The whole method.
     #[tactic(auto, using(crate::proofs::Written::begins))]
     fn draft(&self) -> Result<Draft<'a>, Memory>
-        ensures { IfOk result (λ d. draft_in self.now d ≡ drafted (program_in self.now) (method_in self.now)) }
+        ensures { IfOk result (λ d. draft_in self.now d ≡ drafted self.now.core.now (method_in self.now)) }
     {
         let mut draft = Draft::new(self.alloc);
         // Label 0 is the beginning.
@@ -69,8 +68,8 @@ pub fn method_code<'a>(
     core: &'a Core,
     method: &'a CoreMethod,
 ) -> Result<MethodCode<'a>, Memory>
-    ensures code { IfOk result (λ c. IsCode (tree_of core.now) (method_of method.now) (instrs_of (tree_of core.now) c.instrs.items)) }
-    ensures stack { IfOk result (λ c. c.max_stack ≡ max_stack (tree_of core.now) (method_of method.now)) }
+    ensures code { IfOk result (λ c. IsCode core.now (method_of method.now) (instrs_of core.now c.instrs.items)) }
+    ensures stack { IfOk result (λ c. c.max_stack ≡ max_stack core.now (method_of method.now)) }
     ensures locals { IfOk result (λ c. c.max_locals ≡ max_locals (method_of method.now)) }
 {
     let coder = Coder {

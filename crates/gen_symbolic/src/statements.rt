@@ -3,7 +3,7 @@
 
 ghost use Rattle.std.specs.Prelude.{◌≡◌, OnOk, map};
 ghost use Rattle.jv_core.specs.View.{expr_of, stmt_of, stmts_of, group_of, groups_of};
-ghost use Rattle.gen_symbolic.specs.inner.Held.{draft_in, program_in, method_in, around_of, behind};
+ghost use Rattle.gen_symbolic.specs.inner.Held.{draft_in, method_in, around_of, behind};
 ghost use Rattle.gen_symbolic.specs.inner.Drafting.{value, assign, statement, statements, groups, alone, returned, printed, evaluated};
 ghost use Rattle.gen_symbolic.specs.inner.Drafting.{if_true, if_else, while_true, do_while, switch};
 
@@ -56,7 +56,7 @@ impl<'a> Coder<'a> {
         around: &Around<'_>,
         stmt: &'a CoreStmt,
     ) -> Result<(), Memory>
-        ensures draft { OnOk result (draft_in self.now draft.new ≡ statement (program_in self.now) (method_in self.now) locals.old
+        ensures draft { OnOk result (draft_in self.now draft.new ≡ statement self.now.core.now (method_in self.now) locals.old
             (around_of around.now) (stmt_of stmt.now) (draft_in self.now draft.old)) }
         ensures kept { OnOk result (locals.new ≡ locals.old) }
     {
@@ -103,7 +103,7 @@ impl<'a> Coder<'a> {
         around: &Around<'_>,
         stmts: &'a [CoreStmt],
     ) -> Result<(), Memory>
-        ensures draft { OnOk result (draft_in self.now draft.new ≡ statements (program_in self.now) (method_in self.now) locals.old
+        ensures draft { OnOk result (draft_in self.now draft.new ≡ statements self.now.core.now (method_in self.now) locals.old
             (around_of around.now) (stmts_of (map stmt_of stmts.now)) (draft_in self.now draft.old)) }
         ensures kept { OnOk result (locals.new ≡ locals.old) }
     {
@@ -124,7 +124,7 @@ impl<'a> Coder<'a> {
         slot: u32,
         value: &'a CoreExpr,
     ) -> Result<(), Memory>
-        ensures { OnOk result (draft_in self.now draft.new ≡ alone (program_in self.now) (method_in self.now) locals.now slot
+        ensures { OnOk result (draft_in self.now draft.new ≡ alone self.now.core.now (method_in self.now) locals.now slot
             (expr_of value.now) (draft_in self.now draft.old)) }
     {
         self.value(draft, locals, value)?;
@@ -140,8 +140,8 @@ impl<'a> Coder<'a> {
         target: Var,
         source: &'a CoreExpr,
     ) -> Result<(), Memory>
-        ensures { OnOk result (draft_in self.now draft.new ≡ assign (program_in self.now) (method_in self.now) locals.now target
-            (value (program_in self.now) (method_in self.now) locals.now (expr_of source.now)) (draft_in self.now draft.old)) }
+        ensures { OnOk result (draft_in self.now draft.new ≡ assign self.now.core.now (method_in self.now) locals.now target
+            (value self.now.core.now (method_in self.now) locals.now (expr_of source.now)) (draft_in self.now draft.old)) }
     {
         match target {
             Var::Slot(slot) => {
@@ -163,7 +163,7 @@ impl<'a> Coder<'a> {
         locals: &Locals,
         value: &'a CoreExpr,
     ) -> Result<(), Memory>
-        ensures { OnOk result (draft_in self.now draft.new ≡ returned (program_in self.now) (method_in self.now) locals.now
+        ensures { OnOk result (draft_in self.now draft.new ≡ returned self.now.core.now (method_in self.now) locals.now
             (expr_of value.now) (draft_in self.now draft.old)) }
     {
         self.value(draft, locals, value)?;
@@ -177,7 +177,7 @@ impl<'a> Coder<'a> {
         locals: &Locals,
         value: &'a CoreExpr,
     ) -> Result<(), Memory>
-        ensures { OnOk result (draft_in self.now draft.new ≡ printed (program_in self.now) (method_in self.now) locals.now
+        ensures { OnOk result (draft_in self.now draft.new ≡ printed self.now.core.now (method_in self.now) locals.now
             (expr_of value.now) (draft_in self.now draft.old)) }
     {
         self.put(draft, GETSTATIC, Operand::BuiltIn(Built::Out))?;
@@ -193,7 +193,7 @@ impl<'a> Coder<'a> {
         locals: &Locals,
         value: &'a CoreExpr,
     ) -> Result<(), Memory>
-        ensures { OnOk result (draft_in self.now draft.new ≡ evaluated (program_in self.now) (method_in self.now) locals.now
+        ensures { OnOk result (draft_in self.now draft.new ≡ evaluated self.now.core.now (method_in self.now) locals.now
             (expr_of value.now) (draft_in self.now draft.old)) }
     {
         self.value(draft, locals, value)?;
@@ -210,7 +210,7 @@ impl<'a> Coder<'a> {
         condition: &'a CoreExpr,
         inner: &'a CoreStmt,
     ) -> Result<(), Memory>
-        ensures draft { OnOk result (draft_in self.now draft.new ≡ if_true (program_in self.now) (method_in self.now) locals.old
+        ensures draft { OnOk result (draft_in self.now draft.new ≡ if_true self.now.core.now (method_in self.now) locals.old
             (around_of around.now) (expr_of condition.now) (stmt_of inner.now) (draft_in self.now draft.old)) }
         ensures kept { OnOk result (locals.new ≡ locals.old) }
     {
@@ -231,7 +231,7 @@ impl<'a> Coder<'a> {
         inner: &'a CoreStmt,
         otherwise: &'a CoreStmt,
     ) -> Result<(), Memory>
-        ensures draft { OnOk result (draft_in self.now draft.new ≡ if_else (program_in self.now) (method_in self.now) locals.old
+        ensures draft { OnOk result (draft_in self.now draft.new ≡ if_else self.now.core.now (method_in self.now) locals.old
             (around_of around.now) (expr_of condition.now) (stmt_of inner.now) (stmt_of otherwise.now) (draft_in self.now draft.old)) }
         ensures kept { OnOk result (locals.new ≡ locals.old) }
     {
@@ -256,7 +256,7 @@ impl<'a> Coder<'a> {
         condition: &'a CoreExpr,
         inner: &'a CoreStmt,
     ) -> Result<(), Memory>
-        ensures draft { OnOk result (draft_in self.now draft.new ≡ while_true (program_in self.now) (method_in self.now) locals.old
+        ensures draft { OnOk result (draft_in self.now draft.new ≡ while_true self.now.core.now (method_in self.now) locals.old
             (around_of around.now) number (expr_of condition.now) (stmt_of inner.now) (draft_in self.now draft.old)) }
         ensures kept { OnOk result (locals.new ≡ locals.old) }
     {
@@ -280,7 +280,7 @@ impl<'a> Coder<'a> {
         inner: &'a CoreStmt,
         condition: &'a CoreExpr,
     ) -> Result<(), Memory>
-        ensures draft { OnOk result (draft_in self.now draft.new ≡ do_while (program_in self.now) (method_in self.now) locals.old
+        ensures draft { OnOk result (draft_in self.now draft.new ≡ do_while self.now.core.now (method_in self.now) locals.old
             (around_of around.now) number (stmt_of inner.now) (expr_of condition.now) (draft_in self.now draft.old)) }
         ensures kept { OnOk result (locals.new ≡ locals.old) }
     {
@@ -305,7 +305,7 @@ impl<'a> Coder<'a> {
         groups: &'a [CoreGroup],
         value: &'a CoreExpr,
     ) -> Result<(), Memory>
-        ensures draft { OnOk result (draft_in self.now draft.new ≡ switch (program_in self.now) (method_in self.now) locals.old
+        ensures draft { OnOk result (draft_in self.now draft.new ≡ switch self.now.core.now (method_in self.now) locals.old
             (around_of around.now) (expr_of value.now) (groups_of (map group_of groups.now)) (draft_in self.now draft.old)) }
         ensures kept { OnOk result (locals.new ≡ locals.old) }
     {
@@ -329,7 +329,7 @@ impl<'a> Coder<'a> {
         list: &'a [CoreGroup],
         first: u32,
     ) -> Result<(), Memory>
-        ensures draft { OnOk result (draft_in self.now draft.new ≡ groups (program_in self.now) (method_in self.now) locals.old
+        ensures draft { OnOk result (draft_in self.now draft.new ≡ groups self.now.core.now (method_in self.now) locals.old
             (around_of around.now) (groups_of (map group_of list.now)) first (draft_in self.now draft.old)) }
         ensures kept { OnOk result (locals.new ≡ locals.old) }
     {

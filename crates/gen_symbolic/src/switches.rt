@@ -5,7 +5,7 @@ ghost use Rattle.jv_values.specs.Statements.{any_label};
 ghost use Rattle.jv_core.specs.View.{group_of, groups_of};
 ghost use Rattle.jv_core.specs.Numbering.{numbers_from};
 ghost use Rattle.gen_rules.specs.Cases.{group_at};
-ghost use Rattle.gen_symbolic.specs.inner.Held.{draft_in, program_in, method_in};
+ghost use Rattle.gen_symbolic.specs.inner.Held.{draft_in, method_in};
 ghost use Rattle.gen_symbolic.specs.inner.Drafting.{groups, table, wanted, target_by};
 
 use crate::coder::{Coder, Draft};
@@ -93,7 +93,7 @@ impl<'a> Coder<'a> {
         end: u32,
         constants: usize,
     ) -> Result<(), Memory>
-        ensures { OnOk result (draft_in self.now draft.new ≡ table (program_in self.now) (method_in self.now)
+        ensures { OnOk result (draft_in self.now draft.new ≡ table self.now.core.now (method_in self.now)
             (groups_of (map group_of groups.now)) first (length groups.now) end (numbers_from 0 constants) (draft_in self.now draft.old)) }
     {
         let default = self.label_at(groups, first, None, end)?;

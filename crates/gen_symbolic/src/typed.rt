@@ -6,7 +6,7 @@ ghost use Rattle.jv_core.specs.Types.{session_result};
 ghost use Rattle.jv_core.specs.Meaning.{result_of};
 ghost use Rattle.gen_rules.specs.Typed.{is_text, joins, type_of, operator_type};
 ghost use Rattle.gen_rules.specs.Cases.{constants_of};
-ghost use Rattle.gen_symbolic.specs.inner.Held.{program_in, method_in, is_null};
+ghost use Rattle.gen_symbolic.specs.inner.Held.{method_in, is_null};
 ghost use Rattle.jv_tree.specs.declared.tree.Op.TheVariants as ops;
 
 use crate::coder::Coder;
@@ -67,7 +67,7 @@ impl<'a> Coder<'a> {
     // What a method gives.
     #[tactic(auto, using(crate::proofs::Seen::found))]
     fn result_of(&self, method: u32) -> Option<CoreType>
-        ensures { result ≡ result_of (program_in self.now) method }
+        ensures { result ≡ result_of self.now.core.now method }
     {
         match self.core.methods().get(method as usize) {
             Some(method) => Some(method.result),
@@ -79,7 +79,7 @@ impl<'a> Coder<'a> {
     #[tactic(auto, using(crate::proofs::Seen::seen))]
     #[cycle(types)]
     pub(crate) fn type_of(&self, expr: &CoreExpr) -> Option<CoreType>
-        ensures { result ≡ type_of (program_in self.now) (method_in self.now) (expr_of expr.now) }
+        ensures { result ≡ type_of self.now.core.now (method_in self.now) (expr_of expr.now) }
     {
         match &expr.kind {
             CoreExprKind::Int(_) => Some(CoreType::Int),
@@ -104,8 +104,8 @@ impl<'a> Coder<'a> {
     // The type of an expression with two operands. Only `+` looks at theirs.
     #[cycle(types)]
     fn binary_type(&self, op: CoreOp, left: &CoreExpr, right: &CoreExpr) -> CoreType
-        ensures { result ≡ operator_type op (joins op (type_of (program_in self.now) (method_in self.now) (expr_of left.now))
-            (type_of (program_in self.now) (method_in self.now) (expr_of right.now))) }
+        ensures { result ≡ operator_type op (joins op (type_of self.now.core.now (method_in self.now) (expr_of left.now))
+            (type_of self.now.core.now (method_in self.now) (expr_of right.now))) }
     {
         match op {
             CoreOp::Add => {
@@ -122,8 +122,8 @@ impl<'a> Coder<'a> {
 
     /// How many constants a switch over an expression tells apart: one at least.
     pub(crate) fn constants(&self, expr: &CoreExpr) -> usize
-        ensures { result ≡ max 1 (constants_of (program_in self.now)
-            (type_of (program_in self.now) (method_in self.now) (expr_of expr.now))) }
+        ensures { result ≡ max 1 (constants_of self.now.core.now
+            (type_of self.now.core.now (method_in self.now) (expr_of expr.now))) }
     {
         let Some(ty) = self.type_of(expr) else {
             return 1;

@@ -1,5 +1,6 @@
 pub mod Tree
 pub mod View
+pub mod Stored
 pub mod Lookup
 pub mod Types
 pub mod Completes
@@ -7,6 +8,5 @@ pub mod Statements
 pub mod Numbering
 pub mod Members
 pub mod Conditions
-pub mod Core
 pub mod Meaning
 pub mod Calls

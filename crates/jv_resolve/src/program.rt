@@ -5,7 +5,6 @@ ghost use Rattle.std.specs.Prelude.{◌≡◌, ◌≢◌, Some, None, IfOk, OnOk
 ghost use Rattle.jv_rules.specs.Faults.{IsWellTyped};
 ghost use Rattle.jv_rules.specs.Program.{Program};
 ghost use Rattle.jv_rules.specs.Shape.{IsShaped};
-ghost use Rattle.jv_core.specs.Core.{tree_of};
 ghost use Rattle.jv_names.specs.Resolves.{AreBounded, Resolves};
 ghost use Rattle.jv_types.specs.Tables.{program_in};
 ghost use Rattle.jv_resolve_law.specs.Members.{resolving};
@@ -118,8 +117,8 @@ pub fn resolve(alloc: Global, table: &Table<'_>) -> Result<Core, Memory>
     requires well_typed { IsWellTyped (program_in table.now) }
     requires shaped { IsShaped (program_in table.now) }
     requires assigns { OnlyVariablesAreAssigned (program_in table.now) }
-    ensures stands { IfOk result (λ c. Resolves (program_in table.now) (tree_of c)) }
-    ensures resolved { IfOk result (λ c. resolving (program_in table.now) ≡ Some (tree_of c)) }
+    ensures stands { IfOk result (Resolves (program_in table.now)) }
+    ensures resolved { IfOk result (λ c. resolving (program_in table.now) ≡ Some c) }
 {
     resolving_is_total();
     resolving_is_right();

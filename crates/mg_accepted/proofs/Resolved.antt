@@ -3,7 +3,6 @@ use Rattle.std.proofs.Common.{◌≡◌, ℕ, List, length, Option, Some, None, 
 use Rattle.std.specs.Prelude.{OnOk}
 use Rattle.ts_tree.specs.Typestate.{Typestate}
 use Rattle.jv_tree.specs.declared.tree.File.{File as KeptFile}
-use Rattle.jv_core.specs.Core.{tree_of}
 use Rattle.jv_core.specs.Tree as CoreTree
 use Rattle.jv_core.specs.declared.resolved.Core.{Core}
 use Rattle.jv_names.specs.Resolves.{Resolves}
@@ -92,12 +91,12 @@ module _ (s : KeptSources) {p : Program} (same : p ≡ (sourced_of s).program) (
             fine.methods;
       })
 
-  pub resolved : HasNoFault (sourced_of s) → (core : Core) → Resolves p (tree_of core) → resolving p ≡ Some (tree_of core) →
-      HaveCore files (tree_of core)
+  pub resolved : HasNoFault (sourced_of s) → (core : Core) → Resolves p core → resolving p ≡ Some core →
+      HaveCore files core
   resolved fine core h r = record {
     program = (sourced_of s).program;
     are = record { sourced = sourced_of s; is = refl; are = program; declarations = fine.declarations; methods = fine.methods };
-    stands = subst (λ (z : Program). Resolves z (tree_of core)) same h;
+    stands = subst (λ (z : Program). Resolves z core) same h;
     resolved = sym (ap resolving same) ∙ r;
   }
 
@@ -109,26 +108,26 @@ files_numbered s program = numbered program.spell
 
 module _ (files : List Source) (stop : Stop) (answer : Result Core Stop) (is : answer ≡ Err stop) where
   pub read_failed : Answers (λ (k : KeptSources). AreProgram files (sourced_of k)) (reading.FirstRefusal files) (Err stop) →
-      Answers (λ core. HaveCore files (tree_of core)) (FirstRefusal files) answer
+      Answers (HaveCore files) (FirstRefusal files) answer
   read_failed h =
-      refused_by (λ (k : KeptSources). AreProgram files (sourced_of k)) (reading.FirstRefusal files) (λ core. HaveCore files (tree_of core))
+      refused_by (λ (k : KeptSources). AreProgram files (sourced_of k)) (reading.FirstRefusal files) (HaveCore files)
       (FirstRefusal files) (λ r first. at_first first) stop h answer is
 
   pub judge_failed : {A : Type 0} → (sourced : Sourced) → AreProgram files sourced →
       Answers (λ (done : A). HasNoFault sourced) (TypeRefusal sourced) (Err stop) →
-      Answers (λ core. HaveCore files (tree_of core)) (FirstRefusal files) answer
+      Answers (HaveCore files) (FirstRefusal files) answer
   judge_failed {A} sourced are h =
-      refused_by (λ (done : A). HasNoFault sourced) (TypeRefusal sourced) (λ core. HaveCore files (tree_of core))
+      refused_by (λ (done : A). HasNoFault sourced) (TypeRefusal sourced) (HaveCore files)
       (FirstRefusal files) (λ r found. at_next sourced are found) stop h answer is
 
-module _ (files : List Source) (answer : Result Core Stop) (h : Answers (λ core. HaveCore files (tree_of core)) (FirstRefusal files) answer) where
+module _ (files : List Source) (answer : Result Core Stop) (h : Answers (HaveCore files) (FirstRefusal files) answer) where
   -- the core that files have is answered
-  pub core_answered : (core : CoreTree.Program) → HaveCore files core → AnswersOnly (λ c. tree_of c ≡ core) answer
+  pub core_answered : (core : CoreTree.Program) → HaveCore files core → AnswersOnly (λ c. c ≡ core) answer
   core_answered core k =
-      unless_refused (λ c. HaveCore files (tree_of c)) (FirstRefusal files) (λ c. tree_of c ≡ core) answer h
-      (λ c have. one_core files (tree_of c) core have k) (λ r first. no_refusal files k.program r k.are first)
+      unless_refused (HaveCore files) (FirstRefusal files) (λ c. c ≡ core) answer h
+      (λ c have. one_core files c core have k) (λ r first. no_refusal files k.program r k.are first)
 
   -- files that are refused have no core
   pub refused_no_core : (r : Refusal) → FirstRefusal files r → OnOk answer ⊥
   refused_no_core r first =
-      never_ok (λ core. HaveCore files (tree_of core)) (FirstRefusal files) answer h (λ c have. no_refusal files have.program r have.are first)
+      never_ok (HaveCore files) (FirstRefusal files) answer h (λ c have. no_refusal files have.program r have.are first)

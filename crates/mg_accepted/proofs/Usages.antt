@@ -1,7 +1,6 @@
 -- What judging the usages of a program answers.
 use Rattle.std.proofs.Common.{◌≡◌, List, Option, Some, None, Result, Ok, Err, subst, sym}
 use Rattle.std.specs.Prelude.{OnOk}
-use Rattle.jv_core.specs.Core.{tree_of}
 use Rattle.jv_core.specs.Tree as Core
 use Rattle.jv_core.specs.declared.resolved.Core.{Core as KeptCore}
 use Rattle.use_flow.specs.View.{tables_of, reached_of}
@@ -73,22 +72,22 @@ core_judged files core (Err stops.Memory) h j = tt
 
 -- files that are no well typed program are refused
 pub ill_typed_judged : (files : List Source) (stop : Stop) (answer : Result AcceptedProgram Stop) → answer ≡ Err stop →
-    Answers (λ (core : KeptCore). HaveCore files (tree_of core)) (program.FirstRefusal files) (Err stop) →
+    Answers (λ (core : KeptCore). HaveCore files core) (program.FirstRefusal files) (Err stop) →
     Answers (IsProgramOf files) (FirstRefusal files) answer
 ill_typed_judged files stop answer is h =
-    refused_by (λ (core : KeptCore). HaveCore files (tree_of core)) (program.FirstRefusal files) (IsProgramOf files) (FirstRefusal files)
+    refused_by (λ (core : KeptCore). HaveCore files core) (program.FirstRefusal files) (IsProgramOf files) (FirstRefusal files)
     (λ r first. at_first first) stop h answer is
 
 -- ---- there is one answer
 
 module _ (files : List Source) (answer : Result AcceptedProgram Stop) (h : Answers (IsProgramOf files) (FirstRefusal files) answer) where
   -- accepted files are answered by their core
-  pub accepted_answered : (core : Core.Program) → AreAccepted files core → AnswersOnly (λ a. tree_of a.core ≡ core) answer
+  pub accepted_answered : (core : Core.Program) → AreAccepted files core → AnswersOnly (λ a. a.core ≡ core) answer
   accepted_answered core k =
-      unless_refused (IsProgramOf files) (FirstRefusal files) (λ a. tree_of a.core ≡ core) answer h
-      (λ a is. one_core files (tree_of a.core) core is.files_are.have k.have) (λ r first. not_refused files core r k first)
+      unless_refused (IsProgramOf files) (FirstRefusal files) (λ a. a.core ≡ core) answer h
+      (λ a is. one_core files a.core core is.files_are.have k.have) (λ r first. not_refused files core r k first)
 
   -- files that are refused aren't accepted
   pub refused_no_program : (r : Refusal) → FirstRefusal files r → OnOk answer ⊥
   refused_no_program r first =
-      never_ok (IsProgramOf files) (FirstRefusal files) answer h (λ a is. not_refused files (tree_of a.core) r is.files_are first)
+      never_ok (IsProgramOf files) (FirstRefusal files) answer h (λ a is. not_refused files a.core r is.files_are first)

@@ -1,7 +1,6 @@
 //! From the files of a command to its accepted program.
 
 ghost use Rattle.std.specs.Prelude.{◌≡◌, ◌<◌, ◌^◌, length, OnOk};
-ghost use Rattle.jv_core.specs.Core.{tree_of};
 ghost use Rattle.jv_core.specs.Tree as CoreTree;
 ghost use Rattle.mg_sources.specs.Files.{HaveKinds, sources};
 ghost use Rattle.use_check.specs.Verdict.{FailsFirst};
@@ -43,7 +42,7 @@ pub fn accept(alloc: Global, names: &[Text], contents: &[Bytes]) -> Result<Accep
     ensures answered { Answers (IsProgramOf (sources names.now contents.now)) (FirstRefusal (sources names.now contents.now)) result }
     // Accepted files are answered by their core, unless memory runs out.
     ensures only { (core : CoreTree.Program) → AreAccepted (sources names.now contents.now) core →
-        AnswersOnly (λ a. tree_of a.core ≡ core) result }
+        AnswersOnly (λ a. a.core ≡ core) result }
     // Files that are refused aren't accepted.
     ensures refused { (r : Refusal) → FirstRefusal (sources names.now contents.now) r → OnOk result ⊥ }
 {
@@ -63,7 +62,7 @@ fn verdict(alloc: Global, names: &[Text], contents: &[Bytes]) -> Result<Accepted
 
 // The same of a core.
 fn judge(alloc: Global, core: Core) -> Result<AcceptedProgram, Stop>
-    ensures { Answers (IsSolved (tree_of core)) (Finds (FailsFirst (tree_of core)) (demand_refusal (tree_of core))) result }
+    ensures { Answers (IsSolved core) (Finds (FailsFirst core) (demand_refusal core)) result }
 {
     match check(alloc, &core) {
         Ok(accepted) => Ok(AcceptedProgram { core, accepted }),

@@ -3,7 +3,6 @@
 ghost use Rattle.std.specs.Prelude.{◌≡◌, ◌<◌, ◌^◌, length, OnOk};
 ghost use Rattle.mg_sources.specs.Files.{HaveKinds, sources};
 ghost use Rattle.jv_core.specs.Tree as CoreTree;
-ghost use Rattle.jv_core.specs.Core.{tree_of};
 ghost use Rattle.mg_refusal.specs.Refusals.{Refusal};
 ghost use Rattle.mg_refusal.specs.Order.{Answers, AnswersOnly};
 ghost use Rattle.mg_accepted.specs.Program.{HaveCore, FirstRefusal};
@@ -30,11 +29,11 @@ pub fn resolve_program(alloc: Global, names: &[Text], contents: &[Bytes]) -> Res
     requires count { length contents.now < 2 ^ 32 }
     requires kinds { HaveKinds names.now }
     // What is answered stands for the program that the files are, or is their first refusal.
-    ensures answered { Answers (λ core. HaveCore (sources names.now contents.now) (tree_of core))
+    ensures answered { Answers (HaveCore (sources names.now contents.now))
         (FirstRefusal (sources names.now contents.now)) result }
     // Files that have a core are answered by it, unless memory runs out.
     ensures only { (core : CoreTree.Program) → HaveCore (sources names.now contents.now) core →
-        AnswersOnly (λ c. tree_of c ≡ core) result }
+        AnswersOnly (λ c. c ≡ core) result }
     // Files that are refused have no core.
     ensures refused { (r : Refusal) → FirstRefusal (sources names.now contents.now) r → OnOk result ⊥ }
 {
@@ -46,7 +45,7 @@ fn core_of(alloc: Global, names: &[Text], contents: &[Bytes]) -> Result<Core, St
     requires same { length names.now ≡ length contents.now }
     requires count { length contents.now < 2 ^ 32 }
     requires kinds { HaveKinds names.now }
-    ensures { Answers (λ core. HaveCore (sources names.now contents.now) (tree_of core))
+    ensures { Answers (HaveCore (sources names.now contents.now))
         (FirstRefusal (sources names.now contents.now)) result }
 {
     spelled_is_shaped();

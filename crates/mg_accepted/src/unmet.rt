@@ -1,7 +1,6 @@
 //! Demands that fail, as refusals.
 
 ghost use Rattle.std.specs.Prelude.{◌≡◌, IfOk, option_map, string_bytes};
-ghost use Rattle.jv_core.specs.Core.{tree_of};
 ghost use Rattle.use_flow.specs.inner.Followed.{typestate_or_end};
 ghost use Rattle.use_check.specs.Report.{state_text, element_text};
 ghost use Rattle.mg_refusal.specs.Order.{IsStopBy};
@@ -18,7 +17,7 @@ use use_flow::{Demand, DemandKind, Element, typestate_of};
 
 /// The refusal by the demand of a fault, or want of memory.
 pub(crate) fn stop_of(alloc: Global, core: &Core, fault: &CheckFault) -> Stop
-    ensures { IsStopBy (λ d r. r ≡ demand_refusal (tree_of core.now) d) (demand_of fault.now) result }
+    ensures { IsStopBy (λ d r. r ≡ demand_refusal core.now d) (demand_of fault.now) result }
 {
     let Some(demand) = demand_of(fault) else {
         return Stop::Memory;
@@ -31,7 +30,7 @@ pub(crate) fn stop_of(alloc: Global, core: &Core, fault: &CheckFault) -> Stop
 
 // A demand that fails, as a refusal.
 fn refusal_of(alloc: Global, core: &Core, demand: &Demand) -> Result<Refusal, Memory>
-    ensures { IfOk result (λ r. r ≡ demand_refusal (tree_of core.now) demand.now) }
+    ensures { IfOk result (λ r. r ≡ demand_refusal core.now demand.now) }
 {
     let name = Text::from_string(name_of(alloc, core, demand)?);
     Ok(Refusal::named(word_of(demand.kind), demand.place, name))
@@ -82,7 +81,7 @@ fn tells_element(kind: DemandKind) -> bool
 
 // What is named of a demand: the variable, and behind a blank the element, where it is told.
 fn name_of(alloc: Global, core: &Core, demand: &Demand) -> Result<String, Memory>
-    ensures { IfOk result (λ s. string_bytes s ≡ demand_name (tree_of core.now) demand.now) }
+    ensures { IfOk result (λ s. string_bytes s ≡ demand_name core.now demand.now) }
 {
     let mut name = String::from_str(alloc, demand.slot.as_str())?;
     if !tells_element(demand.kind) {
@@ -95,7 +94,7 @@ fn name_of(alloc: Global, core: &Core, demand: &Demand) -> Result<String, Memory
 
 // The element that fails a demand, by its name.
 fn element_of<'a>(core: &'a Core, demand: &Demand) -> &'a str
-    ensures { result.now ≡ element_of (tree_of core.now) demand.now }
+    ensures { result.now ≡ element_of core.now demand.now }
 {
     element_text(typestate_of(core, demand.class), demand.element)
 }

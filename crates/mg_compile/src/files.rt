@@ -4,7 +4,6 @@ ghost use Rattle.std.specs.Prelude.{◌≡◌, length, map, IfOk};
 ghost use Rattle.std.specs.List.{AllByRecursion};
 ghost use Rattle.cls_tree.specs.View.{class_of as file_of};
 ghost use Rattle.cls_bytes.specs.Spelling.{ClassSpells};
-ghost use Rattle.jv_core.specs.Core.{tree_of};
 ghost use Rattle.jv_core.specs.View.{class_of};
 ghost use Rattle.gen_fits.specs.Spelled.{IsSpelled};
 ghost use Rattle.mg_compile.specs.Files.{AreClassFiles, HoldsClass, HoldClasses};
@@ -37,8 +36,8 @@ pub struct ClassFile {
 /// # Errors
 /// `Refused` with the first size that is too large. `Memory` where memory is wanted.
 pub fn class_files(alloc: Global, core: &Core) -> Result<List<ClassFile>, Stop>
-    requires { IsOfFiles (tree_of core.now) }
-    ensures { Answers (λ written. AreClassFiles (tree_of core.now) written.items) (ExcessRefusal (tree_of core.now)) result }
+    requires { IsOfFiles core.now }
+    ensures { Answers (λ written. AreClassFiles core.now written.items) (ExcessRefusal core.now) result }
 {
     spelled_is_shaped();
     core_is_kept();
@@ -60,7 +59,7 @@ fn write_all(
 ) -> Result<List<ClassFile>, Memory>
     requires spelled { AllByRecursion IsSpelled (map file_of classes.now) }
     requires same { length own.now ≡ length classes.now }
-    ensures { IfOk result (λ l. HoldClasses (tree_of core.now) (map class_of own.now) (map file_of classes.now) l.items) }
+    ensures { IfOk result (λ l. HoldClasses core.now (map class_of own.now) (map file_of classes.now) l.items) }
 {
     let mut files = List::new(alloc);
     for number in 0..classes.len() {
@@ -77,7 +76,7 @@ fn write_one(
     class: &Class,
 ) -> Result<ClassFile, Memory>
     requires { IsSpelled (file_of class.now) }
-    ensures { IfOk result (λ f. HoldsClass (tree_of core.now) (class_of own.now) (file_of class.now) f) }
+    ensures { IfOk result (λ f. HoldsClass core.now (class_of own.now) (file_of class.now) f) }
 {
     let mut name = String::from_str(alloc, name_text(core, own.name))?;
     name.push_str(".class")?;

@@ -2,7 +2,6 @@
 
 ghost use Rattle.std.specs.Prelude.{map, IfOk};
 ghost use Rattle.cls_tree.specs.View.{class_of as file_of};
-ghost use Rattle.jv_core.specs.Core.{tree_of};
 ghost use Rattle.mg_compile.specs.Files.{AreClassFiles};
 ghost use Rattle.mg_compile.specs.View.{IsOfFiles};
 ghost use Rattle.mg_runs.specs.Runs.{AreSpelled, IsLoaded};
@@ -20,8 +19,8 @@ use vm_model::Linked;
 
 /// The linked program of the class files of a core.
 pub(crate) fn load_back(alloc: Global, core: &Core, files: &[ClassFile]) -> Result<Linked, Memory>
-    requires files { IsOfFiles (tree_of core.now) }
-    requires made { AreClassFiles (tree_of core.now) files.now }
+    requires files { IsOfFiles core.now }
+    requires made { AreClassFiles core.now files.now }
     ensures { IfOk result (IsLoaded (map (λ f. f.bytes) files.now)) }
 {
     written_classes_link();

@@ -3,7 +3,6 @@
 ghost use Rattle.std.specs.Prelude.{◌≡◌, ◌≢◌, ◌↔◌, ◌&&◌, IsTrue, None, nat_eq};
 ghost use Rattle.std.specs.List.{position, list_any};
 ghost use Rattle.std.specs.Str.{bytes_eq};
-ghost use Rattle.jv_core.specs.Core.{tree_of};
 ghost use Rattle.jv_core.specs.Lookup.{class_numbered, is_main, text_at};
 ghost use Rattle.jv_core.specs.Meaning.{main_in, main_of};
 ghost use Rattle.jv_core.specs.View.{class_of, method_of};
@@ -14,7 +13,7 @@ use vm_world::RoleMain;
 
 /// The number of the first role whose class has no `main`.
 pub(crate) fn first_without(core: &Core, mains: &[RoleMain]) -> Option<usize>
-    ensures { IsFirstWithout (tree_of core.now) mains.now result }
+    ensures { IsFirstWithout core.now mains.now result }
 {
     for number in 0..mains.len() {
         if !has_main(core, mains[number].class.as_str()) {
@@ -26,7 +25,7 @@ pub(crate) fn first_without(core: &Core, mains: &[RoleMain]) -> Option<usize>
 
 // Whether the class of this name has a `main`.
 fn has_main(core: &Core, class: &str) -> bool
-    ensures { IsTrue result ↔ (main_of (tree_of core.now) class.now ≢ None) }
+    ensures { IsTrue result ↔ (main_of core.now class.now ≢ None) }
 {
     match class_named(core, class) {
         Some(number) => has_main_in(core, number),
@@ -36,14 +35,14 @@ fn has_main(core: &Core, class: &str) -> bool
 
 // The number of the first class of this name.
 fn class_named(core: &Core, name: &str) -> Option<usize>
-    ensures { result ≡ class_numbered (tree_of core.now) name.now }
+    ensures { result ≡ class_numbered core.now name.now }
 {
     class_place(core, core.classes(), name)
 }
 
 // The place of the first class of this name.
 fn class_place(core: &Core, classes: &[CoreClass], name: &str) -> Option<usize>
-    ensures { result ≡ position (λ c. bytes_eq (text_at (tree_of core.now) (class_of c).name) name.now) classes.now }
+    ensures { result ≡ position (λ c. bytes_eq (text_at core.now (class_of c).name) name.now) classes.now }
 {
     classes
         .iter()
@@ -52,7 +51,7 @@ fn class_place(core: &Core, classes: &[CoreClass], name: &str) -> Option<usize>
 
 // Whether the class of this number has a `main`.
 fn has_main_in(core: &Core, class: usize) -> bool
-    ensures { IsTrue result ↔ (main_in (tree_of core.now) class 0 (tree_of core.now).methods ≢ None) }
+    ensures { IsTrue result ↔ (main_in core.now class 0 core.now.methods ≢ None) }
 {
     some_main(core.methods(), class)
 }

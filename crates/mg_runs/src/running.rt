@@ -3,7 +3,6 @@
 ghost use Rattle.std.specs.Prelude.{◌≡◌, ◌<◌, ◌^◌, ℕ, IfOk, OnOk, Contains, length, map, slice_get, Some};
 ghost use Rattle.std.specs.List.{IsDistinct};
 ghost use Rattle.std.specs.Str.{bytes_eq};
-ghost use Rattle.jv_core.specs.Core.{tree_of};
 ghost use Rattle.mg_sources.specs.Files.{HaveKinds, sources};
 ghost use Rattle.mg_refusal.specs.Refusals.{Refusal};
 ghost use Rattle.mg_refusal.specs.Order.{Answers, AnswersOnly};
@@ -121,12 +120,12 @@ fn run_files(
     named: bool,
     traced: bool,
 ) -> Result<Ran, Memory>
-    requires files { IsOfFiles (tree_of core.now) }
-    requires made { AreClassFiles (tree_of core.now) files.items }
-    requires mains { HaveMains (tree_of core.now) mains.now }
+    requires files { IsOfFiles core.now }
+    requires made { AreClassFiles core.now files.items }
+    requires mains { HaveMains core.now mains.now }
     requires roles { IsDistinct bytes_eq (map (λ m. m.role) mains.now) }
     requires order { IsOrder order.now mains.now }
-    ensures { IfOk result (IsRunOf (tree_of core.now) files.items mains.now order.now limit named traced) }
+    ensures { IfOk result (IsRunOf core.now files.items mains.now order.now limit named traced) }
 {
     runs_are_meant();
     let linked = load_back(alloc, core, files.as_slice())?;
@@ -157,7 +156,7 @@ fn told(
     events: &[RoleEvent],
     traced: bool,
 ) -> Result<Text, Memory>
-    ensures { IfOk result (λ t. t ≡ told (tree_of core.now) names.now events.now traced) }
+    ensures { IfOk result (λ t. t ≡ told core.now names.now events.now traced) }
 {
     if traced {
         trace(alloc, core, names, events)

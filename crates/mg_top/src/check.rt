@@ -1,7 +1,6 @@
 //! The command `check`: what the least tables of a program have, or its first refusal.
 
 ghost use Rattle.std.specs.Prelude.{◌≡◌, ◌<◌, ◌^◌, length, IfOk};
-ghost use Rattle.jv_core.specs.Core.{tree_of};
 ghost use Rattle.use_check.specs.Verdict.{AreAnswer};
 ghost use Rattle.mg_sources.specs.Files.{HaveKinds};
 ghost use Rattle.mg_words.specs.Words.{Check};
@@ -29,8 +28,8 @@ pub fn check(alloc: Global, names: &[Text], contents: &[Bytes]) -> Result<Delive
 
 // The report of an accepted program on standard output.
 fn show(alloc: Global, program: &AcceptedProgram) -> Result<Delivery, Memory>
-    requires { AreAnswer (tree_of program.now.core) program.now.accepted.tables }
-    ensures { IfOk result (λ d. IsReported (tree_of program.now.core) d.actions.items d.status) }
+    requires { AreAnswer program.now.core program.now.accepted.tables }
+    ensures { IfOk result (λ d. IsReported program.now.core d.actions.items d.status) }
 {
     let text = report(alloc, &program.core, &program.accepted)?;
     print(alloc, text.as_str())

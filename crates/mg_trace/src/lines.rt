@@ -2,7 +2,6 @@
 
 ghost use Rattle.std.specs.Prelude.{◌≡◌, ◌++◌, ◌∷◌, [], ℕ, List as Seq, Some, OnOk, string_bytes, codes};
 ghost use Rattle.mg_text.specs.declared.event.Event.{Event as Seen};
-ghost use Rattle.jv_core.specs.Core.{tree_of};
 ghost use Rattle.mg_trace.specs.Trace.{line_of, event_words, object_of, object_words, told_answer, answer_words, number_words};
 ghost use Rattle.mg_trace.specs.Trace.{carried_words, label_text};
 ghost use Rattle.vm_model.specs.Step.{truth_text};
@@ -193,7 +192,7 @@ fn push_answer(
     answer: Option<i32>,
     lines: &mut String,
 ) -> Result<(), Memory>
-    ensures { OnOk result (string_bytes lines.new ≡ string_bytes lines.old ++ answer_words (tree_of core.now) kind answer) }
+    ensures { OnOk result (string_bytes lines.new ≡ string_bytes lines.old ++ answer_words core.now kind answer) }
 {
     let Some(answer) = answer else {
         return Ok(());
@@ -215,7 +214,7 @@ fn push_answer(
 
 // The constant of an enum at a position.
 fn label(core: &Core, of: u32, position: i32) -> &str
-    ensures { result.now ≡ label_text (tree_of core.now) of position }
+    ensures { result.now ≡ label_text core.now of position }
 {
     let Some(own) = core.enums().get(of as usize) else {
         return "";

@@ -3,7 +3,6 @@
 ghost use Rattle.std.specs.Prelude.{◌≡◌, ◌++◌, ◌∷◌, [], ℕ, List as Seq, IfOk, OnOk};
 ghost use Rattle.std.specs.HashMap.{get_by_text};
 ghost use Rattle.mg_text.specs.Call.{Name};
-ghost use Rattle.jv_core.specs.Core.{tree_of};
 ghost use Rattle.jv_core.specs.Tree.{Class};
 ghost use Rattle.jv_core.specs.View.{class_of};
 ghost use Rattle.mg_trace.specs.Trace.{methods_of, result_in};
@@ -33,7 +32,7 @@ pub(crate) enum Answers<'a> {
 impl Results {
     /// Those of this program.
     pub(crate) fn of(alloc: Global, core: &Core) -> Result<Results, Memory>
-        ensures { IfOk result (AreResults (tree_of core.now)) }
+        ensures { IfOk result (AreResults core.now) }
     {
         let mut by_class = HashMap::new(alloc);
         for class in core.classes() {
@@ -60,8 +59,8 @@ fn add_class(
     class: &CoreClass,
     by_class: &mut HashMap<String, HashMap<String, CoreType>>,
 ) -> Result<(), Memory>
-    ensures { (before : Seq Class) → AreClasses (tree_of core.now) before by_class.old
-        → OnOk result (AreClasses (tree_of core.now) (before ++ class_of class.now ∷ []) by_class.new) }
+    ensures { (before : Seq Class) → AreClasses core.now before by_class.old
+        → OnOk result (AreClasses core.now (before ++ class_of class.now ∷ []) by_class.new) }
 {
     let name = name_text(core, class.name);
     if by_class.contains_key(name) {
@@ -79,7 +78,7 @@ fn results_of(
     core: &Core,
     class: &CoreClass,
 ) -> Result<HashMap<String, CoreType>, Memory>
-    ensures { IfOk result (AreMethods (tree_of core.now) class.now.methods.items) }
+    ensures { IfOk result (AreMethods core.now class.now.methods.items) }
 {
     let mut own = HashMap::new(alloc);
     for number in class.methods.as_slice() {
@@ -95,8 +94,8 @@ fn add_method(
     number: u32,
     own: &mut HashMap<String, CoreType>,
 ) -> Result<(), Memory>
-    ensures { (before : Seq ℕ) → AreMethods (tree_of core.now) before own.old
-        → OnOk result (AreMethods (tree_of core.now) (before ++ number ∷ []) own.new) }
+    ensures { (before : Seq ℕ) → AreMethods core.now before own.old
+        → OnOk result (AreMethods core.now (before ++ number ∷ []) own.new) }
 {
     let Some(method) = core.methods().get(number as usize) else {
         return Ok(());

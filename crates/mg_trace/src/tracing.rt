@@ -1,7 +1,6 @@
 //! The trace of a run: the lines of its events.
 
 ghost use Rattle.std.specs.Prelude.{◌≡◌, [], IfOk};
-ghost use Rattle.jv_core.specs.Core.{tree_of};
 ghost use Rattle.mg_trace.specs.Trace.{trace, plain_trace, lines_from};
 ghost use Rattle.mg_trace.specs.inner.Tabled.{AreTold, telling_of};
 
@@ -26,7 +25,7 @@ pub fn trace(
     names: &[Text],
     events: &[RoleEvent],
 ) -> Result<Text, Memory>
-    ensures { IfOk result (λ t. t ≡ trace (tree_of core.now) names.now events.now) }
+    ensures { IfOk result (λ t. t ≡ trace core.now names.now events.now) }
 {
     let results = Results::of(alloc, core)?;
     told(alloc, Answers::ByTypes(core, &results), names, events)

@@ -2,7 +2,6 @@
 //! Fields come first, class by class and state by state; then the contexts in their order.
 
 ghost use Rattle.std.specs.Prelude.{◌≡◌, ◌++◌, IfOk, OnOk, string_bytes};
-ghost use Rattle.jv_core.specs.Core.{tree_of};
 ghost use Rattle.jv_core.specs.View.{class_of};
 ghost use Rattle.use_flow.specs.View.{tables_of, reached_of};
 ghost use Rattle.use_check.specs.Report.{state_front, state_lines, class_lines, in_order, report_text, IsReport};
@@ -98,9 +97,9 @@ impl<'a> Reporter<'a> {
 /// # Errors
 /// `Memory` only.
 pub fn report(alloc: Global, core: &Core, accepted: &Accepted) -> Result<Text, Memory>
-    requires { AreAnswer (tree_of core.now) accepted.now.tables }
-    ensures text { IfOk result (λ t. t ≡ report_text (tree_of core.now) (reached_of accepted.now.tables) (tables_of accepted.now.tables)) }
-    ensures report { IfOk result (λ t. IsReport (tree_of core.now) t) }
+    requires { AreAnswer core.now accepted.now.tables }
+    ensures text { IfOk result (λ t. t ≡ report_text core.now (reached_of accepted.now.tables) (tables_of accepted.now.tables)) }
+    ensures report { IfOk result (λ t. IsReport core.now t) }
 {
     let reporter = Reporter {
         core,

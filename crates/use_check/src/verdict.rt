@@ -2,7 +2,6 @@
 //! Otherwise the first demand that fails is named.
 
 ghost use Rattle.std.specs.Prelude.{◌≡◌, IfOk, IfErr, slice_get};
-ghost use Rattle.jv_core.specs.Core.{tree_of};
 ghost use Rattle.use_rules.specs.Tables.{all_failed};
 ghost use Rattle.use_flow.specs.View.{tables_of, reached_of, contexts_of, AreFor};
 ghost use Rattle.use_check.specs.Verdict.{AreAnswer, AnswerOf, IsAccepted};
@@ -75,9 +74,9 @@ fn first_in(
     contexts: &[Context],
     follows: &mut Follows,
 ) -> Result<Option<Demand>, Memory>
-    requires made { AreFor (tree_of core.now) tables.now }
+    requires made { AreFor core.now tables.now }
     requires known { contexts.now ≡ contexts_of tables.now }
-    ensures { IfOk result (λ d. d ≡ slice_get (all_failed (tree_of core.now) (reached_of tables.now) (tables_of tables.now)) 0) }
+    ensures { IfOk result (λ d. d ≡ slice_get (all_failed core.now (reached_of tables.now) (tables_of tables.now)) 0) }
 {
     for context in contexts {
         let met = flow(alloc, core, tables, *context, follows)?;
@@ -94,9 +93,9 @@ fn first_in(
 /// The first demand that fails under the least tables, contexts in the order of the text, by its
 /// kind; or `Memory`.
 pub fn check(alloc: Global, core: &Core) -> Result<Accepted, CheckFault>
-    ensures accepted { IfOk result (λ a. AreAnswer (tree_of core.now) a.tables) }
-    ensures complete { IsAccepted (tree_of core.now) → IfErr result (λ e. e ≡ CheckFault.Memory) }
-    ensures fault { IfErr result (λ e. IsFault (tree_of core.now) e) }
+    ensures accepted { IfOk result (λ a. AreAnswer core.now a.tables) }
+    ensures complete { IsAccepted core.now → IfErr result (λ e. e ≡ CheckFault.Memory) }
+    ensures fault { IfErr result (λ e. IsFault core.now e) }
 {
     let mut follows = Follows::new();
     let tables = infer(alloc, core, &mut follows)?;

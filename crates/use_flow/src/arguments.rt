@@ -2,7 +2,7 @@
 //! Arguments flow into the parameters of a context, and the call gives what the context's result has.
 
 ghost use Rattle.std.specs.Prelude.{◌≡◌, ◌++◌, [], length, map, option_map, slice_get, take, IfOk, OnOk};
-ghost use Rattle.jv_core.specs.Core.{tree_of};
+ghost use Rattle.jv_core.specs.Conditions.{IsCore};
 ghost use Rattle.jv_core.specs.View.{method_of};
 ghost use Rattle.jv_core.specs.Lookup.{param_types};
 ghost use Rattle.use_rules.specs.Keys.{number_of};
@@ -23,7 +23,8 @@ use std::alloc::Global;
 /// The method of this number, if there is one.
 #[tactic(auto, using(crate::proofs::Scenes::scenes))]
 pub fn method_at(core: &Core, method: u32) -> Option<&CoreMethod>
-    ensures { option_map (λ m. method_of m.now) result ≡ slice_get (tree_of core.now).methods method }
+    ensures method { option_map (λ m. method_of m.now) result ≡ slice_get core.now.methods method }
+    ensures core { ∥ IsCore core.now ∥₁ }
 {
     core.methods().get(method as usize)
 }

@@ -3,7 +3,6 @@
 
 ghost use Rattle.std.specs.Prelude.{◌≡◌, ◌++◌, map, option_and_then, IfOk, OnOk};
 ghost use Rattle.ts_tree.specs.View.{state_of};
-ghost use Rattle.jv_core.specs.Core.{tree_of};
 ghost use Rattle.jv_core.specs.Lookup.{slot_type};
 ghost use Rattle.jv_core.specs.View.{class_of, field_of, loop_of, method_of};
 ghost use Rattle.use_rules.specs.Keys.{class_in};
@@ -67,7 +66,7 @@ pub(crate) fn add_fields_of(
     class: u32,
 ) -> Result<(), Memory>
     ensures { OnOk result (entries.new.items ≡ entries.old.items ++ listing.field_entries (key_in table)
-        (listing.fields_of (tree_of core.now) class)) }
+        (listing.fields_of core.now class)) }
 {
     match class_at(core, class) {
         Some(class) => add_fields(entries, table, class.fields.as_slice()),
@@ -101,7 +100,7 @@ fn add_class(
     class_number: u32,
     class: &CoreClass,
 ) -> Result<(), Memory>
-    ensures { OnOk result (entries.new.items ≡ entries.old.items ++ listing.class_entries (tree_of core.now) class_number
+    ensures { OnOk result (entries.new.items ≡ entries.old.items ++ listing.class_entries core.now class_number
         (class_of class.now)) }
 {
     let fields = class.fields.as_slice();
@@ -114,7 +113,7 @@ fn add_class(
 // Appends the tables of all classes.
 #[tactic(auto, using(crate::proofs::Adding::classes))]
 fn add_classes(core: &Core, entries: &mut List<Entry>) -> Result<(), Memory>
-    ensures { OnOk result (entries.new.items ≡ entries.old.items ++ listing.by_classes (tree_of core.now)) }
+    ensures { OnOk result (entries.new.items ≡ entries.old.items ++ listing.by_classes core.now) }
 {
     let classes = core.classes();
     for place in 0..classes.len() {
@@ -132,7 +131,7 @@ fn add_method(
     method_number: u32,
     method: &CoreMethod,
 ) -> Result<(), Memory>
-    ensures { OnOk result (entries.new.items ≡ entries.old.items ++ listing.method_entries (tree_of core.now) method_number
+    ensures { OnOk result (entries.new.items ≡ entries.old.items ++ listing.method_entries core.now method_number
         (method_of method.now)) }
 {
     match method.kind {
@@ -153,7 +152,7 @@ fn add_method(
 // Appends the tables of all methods.
 #[tactic(auto, using(crate::proofs::Adding::methods))]
 fn add_methods(core: &Core, entries: &mut List<Entry>) -> Result<(), Memory>
-    ensures { OnOk result (entries.new.items ≡ entries.old.items ++ listing.by_methods (tree_of core.now)) }
+    ensures { OnOk result (entries.new.items ≡ entries.old.items ++ listing.by_methods core.now) }
 {
     let methods = core.methods();
     for place in 0..methods.len() {
@@ -227,7 +226,7 @@ pub(crate) fn add_head(
     context: u32,
     loop_number: u32,
 ) -> Result<(), Memory>
-    ensures { OnOk result (entries.new.items ≡ entries.old.items ++ listing.head_entries (tree_of core.now) context
+    ensures { OnOk result (entries.new.items ≡ entries.old.items ++ listing.head_entries core.now context
         (method_of method.now) loop_number) }
 {
     match method.kind {
@@ -253,7 +252,7 @@ fn add_loop(
     loop_number: u32,
     head: &CoreLoop,
 ) -> Result<(), Memory>
-    ensures { OnOk result (entries.new.items ≡ entries.old.items ++ listing.loop_entries (tree_of core.now) context
+    ensures { OnOk result (entries.new.items ≡ entries.old.items ++ listing.loop_entries core.now context
         (method_of method.now) loop_number (loop_of head.now)) }
 {
     add_scope(entries, method, context, loop_number, head.scope.as_slice())?;
@@ -270,7 +269,7 @@ fn add_loops(
     context: u32,
     loops: &[CoreLoop],
 ) -> Result<(), Memory>
-    ensures { OnOk result (entries.new.items ≡ entries.old.items ++ listing.loops_entries (tree_of core.now) context (method_of method.now)
+    ensures { OnOk result (entries.new.items ≡ entries.old.items ++ listing.loops_entries core.now context (method_of method.now)
         (map loop_of loops.now)) }
 {
     for place in 0..loops.len() {
@@ -288,7 +287,7 @@ fn add_context(
     context: u32,
     method: &CoreMethod,
 ) -> Result<(), Memory>
-    ensures { OnOk result (entries.new.items ≡ entries.old.items ++ listing.context_entries (tree_of core.now) context
+    ensures { OnOk result (entries.new.items ≡ entries.old.items ++ listing.context_entries core.now context
         (method_of method.now)) }
 {
     add_params(entries, context, params_of(method))?;
@@ -309,7 +308,7 @@ fn add_entered(
     context_number: u32,
     context: Context,
 ) -> Result<(), Memory>
-    ensures { OnOk result (entries.new.items ≡ entries.old.items ++ listing.entries_at (tree_of core.now) context_number context) }
+    ensures { OnOk result (entries.new.items ≡ entries.old.items ++ listing.entries_at core.now context_number context) }
 {
     match method_at(core, method_in(context)) {
         Some(method) => add_context(core, entries, context_number, method),
@@ -320,7 +319,7 @@ fn add_entered(
 // Appends the tables of all contexts.
 #[tactic(auto, using(crate::proofs::Adding::contexts))]
 fn add_contexts(core: &Core, entries: &mut List<Entry>, contexts: &[Context]) -> Result<(), Memory>
-    ensures { OnOk result (entries.new.items ≡ entries.old.items ++ listing.by_contexts (tree_of core.now) contexts.now) }
+    ensures { OnOk result (entries.new.items ≡ entries.old.items ++ listing.by_contexts core.now contexts.now) }
 {
     for place in 0..contexts.len() {
         let context_number = number(place)?;
@@ -336,7 +335,7 @@ pub(crate) fn entries_of(
     core: &Core,
     contexts: &[Context],
 ) -> Result<List<Entry>, Memory>
-    ensures { IfOk result (λ l. l.items ≡ listing.entries_in (tree_of core.now) contexts.now) }
+    ensures { IfOk result (λ l. l.items ≡ listing.entries_in core.now contexts.now) }
 {
     let mut entries = List::new(alloc);
     add_classes(core, &mut entries)?;

@@ -5,7 +5,6 @@ ghost use Rattle.std.specs.Prelude.{◌≡◌, ◌++◌, [], ◌∷◌, map, opt
 ghost use Rattle.mg_sets.specs.Sets.{members};
 ghost use Rattle.ts_tree.specs.Proper.{IsProper};
 ghost use Rattle.ts_tree.specs.Reachable.{MarksReachable};
-ghost use Rattle.jv_core.specs.Core.{tree_of};
 ghost use Rattle.jv_core.specs.View.{method_of};
 ghost use Rattle.jv_core.specs.Lookup.{text_at};
 ghost use Rattle.use_rules.specs.Keys.{AreReached, contexts_in, contexts_of, in_states, offering_states, reached_states, typestate_of};
@@ -37,8 +36,8 @@ fn reached_set(alloc: Global, typestate: &Typestate) -> Result<StateSet, Memory>
 // The states of each typestate that calls lead to.
 #[tactic(auto, using(crate::proofs::Entries::reached))]
 pub(crate) fn reached_sets(alloc: Global, core: &Core) -> Result<Vec<StateSet>, Memory>
-    ensures reached { IfOk result (λ v. AreReached (tree_of core.now) v.items) }
-    ensures proper { OnOk result (AreProper (tree_of core.now)) }
+    ensures reached { IfOk result (λ v. AreReached core.now v.items) }
+    ensures proper { OnOk result (AreProper core.now) }
 {
     let mut reached = Vec::new(alloc);
     for typestate in core.typestates() {
@@ -55,7 +54,7 @@ pub(crate) fn reached_in<'r>(
     reached: &'r [StateSet],
     class: u32,
 ) -> Option<&'r StateSet>
-    ensures { members (set_or_none (option_map (λ s. s.now) result)) ≡ reached_states (tree_of core.now) reached.now class }
+    ensures { members (set_or_none (option_map (λ s. s.now) result)) ≡ reached_states core.now reached.now class }
 {
     let class = class_at(core, class)?;
     let typestate = class.typestate?;
@@ -101,8 +100,8 @@ fn add_protocol(
     method: &CoreMethod,
 ) -> Result<(), Memory>
     ensures { OnOk result (contexts.new.items ≡ contexts.old.items ++ in_states method.now.class method_number
-        (offering_states (typestate_of (tree_of core.now) method.now.class) (reached_states (tree_of core.now) reached.now method.now.class)
-        (text_at (tree_of core.now) method.now.name.0))) }
+        (offering_states (typestate_of core.now method.now.class) (reached_states core.now reached.now method.now.class)
+        (text_at core.now method.now.name.0))) }
 {
     let Some(set) = reached_in(core, reached, method.class) else {
         return Ok(());
@@ -124,7 +123,7 @@ pub(crate) fn add_contexts(
     method_number: u32,
     method: &CoreMethod,
 ) -> Result<(), Memory>
-    ensures { OnOk result (contexts.new.items ≡ contexts.old.items ++ contexts_of (tree_of core.now) reached.now method_number
+    ensures { OnOk result (contexts.new.items ≡ contexts.old.items ++ contexts_of core.now reached.now method_number
         (method_of method.now)) }
 {
     match method.kind {
@@ -144,7 +143,7 @@ pub(crate) fn contexts_by(
     core: &Core,
     reached: &[StateSet],
 ) -> Result<List<Context>, Memory>
-    ensures { IfOk result (λ l. l.items ≡ contexts_in (tree_of core.now) reached.now) }
+    ensures { IfOk result (λ l. l.items ≡ contexts_in core.now reached.now) }
 {
     let methods = core.methods();
     let mut contexts = List::new(alloc);
@@ -161,7 +160,7 @@ pub(crate) fn contexts_by(
 /// # Errors
 /// `Memory` only.
 pub fn contexts(alloc: Global, core: &Core) -> Result<List<Context>, Memory>
-    ensures { IfOk result (λ l. AreContexts (tree_of core.now) l.items) }
+    ensures { IfOk result (λ l. AreContexts core.now l.items) }
 {
     let reached = reached_sets(alloc, core)?;
     let contexts = contexts_by(alloc, core, reached.as_slice())?;

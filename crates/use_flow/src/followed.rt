@@ -2,7 +2,7 @@
 //! Each statement is followed once, with the tables as they stand.
 
 ghost use Rattle.std.specs.Prelude.{◌≡◌, [], None, map, IfOk};
-ghost use Rattle.jv_core.specs.Core.{tree_of};
+ghost use Rattle.jv_core.specs.Conditions.{IsCore};
 ghost use Rattle.jv_core.specs.Numbering.{numbers_from};
 ghost use Rattle.use_rules.specs.Tables.{quiet, flow_of};
 ghost use Rattle.use_flow.specs.Counting.{IsOneMore};
@@ -34,8 +34,9 @@ pub fn flow(
     context: Context,
     follows: &mut Follows,
 ) -> Result<Flow, Memory>
-    requires { AreFor (tree_of core.now) tables.now }
-    ensures flows { IfOk result (λ f. log_of f ≡ flow_of (tree_of core.now) (reached_of tables.now) (tables_of tables.now) context) }
+    requires { AreFor core.now tables.now }
+    ensures flows { IfOk result (λ f. log_of f ≡ flow_of core.now (reached_of tables.now) (tables_of tables.now) context) }
+    ensures core { ∥ IsCore core.now ∥₁ }
     ensures counts { IsOneMore follows.old follows.new }
 {
     follows.raise();
@@ -45,8 +46,9 @@ pub fn flow(
 // What flows out of a context, and what fails in it.
 #[tactic(auto, using(crate::proofs::Flowing::flowing))]
 fn follow(alloc: Global, core: &Core, tables: &Tables, context: Context) -> Result<Flow, Memory>
-    requires { AreFor (tree_of core.now) tables.now }
-    ensures { IfOk result (λ f. log_of f ≡ flow_of (tree_of core.now) (reached_of tables.now) (tables_of tables.now) context) }
+    requires { AreFor core.now tables.now }
+    ensures flows { IfOk result (λ f. log_of f ≡ flow_of core.now (reached_of tables.now) (tables_of tables.now) context) }
+    ensures core { ∥ IsCore core.now ∥₁ }
 {
     let Some(method) = method_at(core, method_in(context)) else {
         return Ok(quiet(alloc));

@@ -4,7 +4,6 @@
 ghost use Rattle.std.specs.Prelude.{◌≡◌, ◌≢◌, ◌<◌, ◌≤◌, length, position, option_map, IfOk, OnOk};
 ghost use Rattle.std.specs.Bool.{OnFalse, OnTrue};
 ghost use Rattle.mg_sets.specs.Sets.{join, members, Grows};
-ghost use Rattle.jv_core.specs.Core.{tree_of};
 ghost use Rattle.use_rules.specs.declared.key.TableKey.{TableKey};
 ghost use Rattle.ts_tree.specs.Calls.{initial};
 ghost use Rattle.use_rules.specs.Shapes.{elements_in};
@@ -56,7 +55,7 @@ fn numbered(alloc: Global, contexts: &[Context]) -> Result<IndexSet<Context>, Me
 
 // Where objects of a class begin.
 fn begin_of(core: &Core, class: u32) -> To
-    ensures { result ≡ initial (typestate_of (tree_of core.now) class) }
+    ensures { result ≡ initial (typestate_of core.now class) }
 {
     match typestate_of(core, class) {
         Some(typestate) => typestate.initial(),
@@ -66,7 +65,7 @@ fn begin_of(core: &Core, class: u32) -> To
 
 // How many elements a variable of a class may have.
 fn elements_in(core: &Core, class: u32) -> usize
-    ensures { result ≡ elements_in (tree_of core.now) class }
+    ensures { result ≡ elements_in core.now class }
 {
     match typestate_of(core, class) {
         Some(typestate) => 3 + typestate.states.len(),
@@ -97,7 +96,7 @@ fn starting(alloc: Global, begins: To, state: u32, width: usize) -> Result<State
 
 // What a table has before anything flows.
 fn start_set(alloc: Global, core: &Core, entry: Entry) -> Result<StateSet, Memory>
-    ensures { IfOk result (λ s. s ≡ start_in (tree_of core.now) entry.key entry.class) }
+    ensures { IfOk result (λ s. s ≡ start_in core.now entry.key entry.class) }
 {
     let width = elements_in(core, entry.class);
     match entry.key {
@@ -121,7 +120,7 @@ fn hold(
     sets: &mut Vec<StateSet>,
     entry: Entry,
 ) -> Result<(), Memory>
-    ensures { OnOk result (WithEntry (tree_of core.now) entry keys.old.keys sets.old.items keys.new.keys sets.new.items) }
+    ensures { OnOk result (WithEntry core.now entry keys.old.keys sets.old.items keys.new.keys sets.new.items) }
 {
     let new = keys.insert(entry.key)?;
     if !new {
@@ -143,7 +142,7 @@ fn filled(
 ) -> Result<Tables, Memory>
     ensures reached { IfOk result (λ t. reached_of t ≡ reached.items) }
     ensures contexts { IfOk result (λ t. contexts_of t ≡ contexts.keys) }
-    ensures held { IfOk result (λ t. AreHeld (tree_of core.now) entries.now (length entries.now) t.keys.keys t.sets.items) }
+    ensures held { IfOk result (λ t. AreHeld core.now entries.now (length entries.now) t.keys.keys t.sets.items) }
 {
     let mut keys = IndexSet::new(alloc);
     let mut sets = Vec::new(alloc);
@@ -165,8 +164,8 @@ impl Tables {
     /// # Errors
     /// `Memory` only.
     pub fn new(alloc: Global, core: &Core) -> Result<Tables, Memory>
-        ensures made { IfOk result (λ t. AreFor (tree_of core.now) t) }
-        ensures start { IfOk result (λ t. (key : TableKey) → tables_of t key ≡ start_of (tree_of core.now) (reached_of t) key) }
+        ensures made { IfOk result (λ t. AreFor core.now t) }
+        ensures start { IfOk result (λ t. (key : TableKey) → tables_of t key ≡ start_of core.now (reached_of t) key) }
     {
         let reached = reached_sets(alloc, core)?;
         let contexts = contexts_by(alloc, core, reached.as_slice())?;
@@ -207,7 +206,7 @@ impl Tables {
     /// # Errors
     /// `Memory` only.
     pub fn runs(&self, alloc: Global, core: &Core) -> Result<Runs, Memory>
-        ensures { IfOk result (λ r. starts_of r ≡ starts_in (tree_of core.now) (reached_of self.now)) }
+        ensures { IfOk result (λ r. starts_of r ≡ starts_in core.now (reached_of self.now)) }
     {
         runs_by(alloc, core, self.reached.as_slice())
     }
@@ -248,7 +247,7 @@ impl Tables {
 
     /// The states of a class that calls lead to, if it has a typestate.
     pub fn reached_states<'t>(&'t self, core: &Core, class: u32) -> Option<&'t StateSet>
-        ensures { members (set_or_none (option_map (λ s. s.now) result)) ≡ reached_states (tree_of core.now) (reached_of self.now) class }
+        ensures { members (set_or_none (option_map (λ s. s.now) result)) ≡ reached_states core.now (reached_of self.now) class }
     {
         reached_in(core, self.reached.as_slice(), class)
     }

@@ -2,7 +2,6 @@
 //! What is named is found by one walk over the body, and each key is listed once.
 
 ghost use Rattle.std.specs.Prelude.{◌≡◌, ◌++◌, Some, map, IfOk, OnOk};
-ghost use Rattle.jv_core.specs.Core.{tree_of};
 ghost use Rattle.jv_core.specs.View.{loop_of, method_of};
 ghost use Rattle.use_rules.specs.Reads.{reads, result_class};
 ghost use Rattle.use_flow.specs.inner.Reading as reading;
@@ -30,7 +29,7 @@ fn add_state(
     context: Context,
     method: &CoreMethod,
 ) -> Result<(), Memory>
-    ensures { OnOk result (entries.new.items ≡ entries.old.items ++ reading.state_entries (tree_of core.now) context
+    ensures { OnOk result (entries.new.items ≡ entries.old.items ++ reading.state_entries core.now context
         (method_of method.now)) }
 {
     match context {
@@ -49,7 +48,7 @@ fn add_enter(
     context: Context,
     method: &CoreMethod,
 ) -> Result<(), Memory>
-    ensures { OnOk result (entries.new.items ≡ entries.old.items ++ reading.enter_entries (tree_of core.now) context
+    ensures { OnOk result (entries.new.items ≡ entries.old.items ++ reading.enter_entries core.now context
         (method_of method.now)) }
 {
     match context {
@@ -71,7 +70,7 @@ fn add_enter(
 // The class of the objects that a method gives.
 #[tactic(auto, using(crate::proofs::Scenes::scenes))]
 fn result_class(core: &Core, method: u32) -> Option<u32>
-    ensures { result ≡ result_class (tree_of core.now) method }
+    ensures { result ≡ result_class core.now method }
 {
     match method_at(core, method) {
         Some(method) => class_in(method.result),
@@ -98,7 +97,7 @@ fn add_result(
     runs: &Runs,
     method: u32,
 ) -> Result<(), Memory>
-    ensures { OnOk result (entries.new.items ≡ entries.old.items ++ reading.result_entry (tree_of core.now) (starts_of runs.now) 0 method) }
+    ensures { OnOk result (entries.new.items ≡ entries.old.items ++ reading.result_entry core.now (starts_of runs.now) 0 method) }
 {
     let Some(class) = result_class(core, method) else {
         return Ok(());
@@ -116,7 +115,7 @@ fn add_results(
     runs: &Runs,
     methods: &[u32],
 ) -> Result<(), Memory>
-    ensures { OnOk result (entries.new.items ≡ entries.old.items ++ reading.result_entries (tree_of core.now)
+    ensures { OnOk result (entries.new.items ≡ entries.old.items ++ reading.result_entries core.now
         (starts_of runs.now) methods.now) }
 {
     for method in methods {
@@ -128,7 +127,7 @@ fn add_results(
 // Appends the fields as a helper leaves them.
 #[tactic(auto, using(crate::proofs::Scenes::scenes))]
 fn add_leave(core: &Core, entries: &mut List<Entry>, method_number: u32) -> Result<(), Memory>
-    ensures { OnOk result (entries.new.items ≡ entries.old.items ++ reading.leave_entry (tree_of core.now) 0 method_number) }
+    ensures { OnOk result (entries.new.items ≡ entries.old.items ++ reading.leave_entry core.now 0 method_number) }
 {
     let Some(method) = method_at(core, method_number) else {
         return Ok(());
@@ -147,7 +146,7 @@ fn add_leave(core: &Core, entries: &mut List<Entry>, method_number: u32) -> Resu
 // Appends the fields as these helpers leave them.
 #[tactic(auto, using(crate::proofs::Asking::listing))]
 fn add_leaves(core: &Core, entries: &mut List<Entry>, methods: &[u32]) -> Result<(), Memory>
-    ensures { OnOk result (entries.new.items ≡ entries.old.items ++ reading.leave_entries (tree_of core.now) methods.now) }
+    ensures { OnOk result (entries.new.items ≡ entries.old.items ++ reading.leave_entries core.now methods.now) }
 {
     for method in methods {
         add_leave(core, entries, *method)?;
@@ -166,7 +165,7 @@ fn add_loop(
     loop_number: u32,
     head: &CoreLoop,
 ) -> Result<(), Memory>
-    ensures { OnOk result (entries.new.items ≡ entries.old.items ++ reading.loop_entry (tree_of core.now) context
+    ensures { OnOk result (entries.new.items ≡ entries.old.items ++ reading.loop_entry core.now context
         (method_of method.now) loop_number (loop_of head.now)) }
 {
     let scope = rising(alloc, head.scope.as_slice())?;
@@ -185,7 +184,7 @@ fn add_loops(
     context: u32,
     loops: &[CoreLoop],
 ) -> Result<(), Memory>
-    ensures { OnOk result (entries.new.items ≡ entries.old.items ++ reading.loop_entries (tree_of core.now) context (method_of method.now)
+    ensures { OnOk result (entries.new.items ≡ entries.old.items ++ reading.loop_entries core.now context (method_of method.now)
         (map loop_of loops.now)) }
 {
     for place in 0..loops.len() {
@@ -213,7 +212,7 @@ fn entries_read(
     context: Context,
     method: &CoreMethod,
 ) -> Result<List<Entry>, Memory>
-    ensures { IfOk result (λ l. l.items ≡ reading.read_entries (tree_of core.now) (starts_of runs.now) here context
+    ensures { IfOk result (λ l. l.items ≡ reading.read_entries core.now (starts_of runs.now) here context
         (method_of method.now)) }
 {
     let named = named_by(alloc, method.body.as_slice())?;
@@ -261,9 +260,9 @@ pub fn reads_in(
     runs: &Runs,
     context: Context,
 ) -> Result<List<TableKey>, Memory>
-    requires made { AreFor (tree_of core.now) tables.now }
-    requires runs { starts_of runs.now ≡ starts_in (tree_of core.now) (reached_of tables.now) }
-    ensures { IfOk result (λ l. l.items ≡ reads (tree_of core.now) (reached_of tables.now) context) }
+    requires made { AreFor core.now tables.now }
+    requires runs { starts_of runs.now ≡ starts_in core.now (reached_of tables.now) }
+    ensures { IfOk result (λ l. l.items ≡ reads core.now (reached_of tables.now) context) }
 {
     let Some(method) = method_at(core, method_in(context)) else {
         return Ok(List::new(alloc));
@@ -283,7 +282,7 @@ pub fn reads_in(
 /// `Memory` only.
 #[tactic(auto, using(crate::proofs::Asked::asked_for))]
 pub fn reads(alloc: Global, core: &Core, context: Context) -> Result<List<TableKey>, Memory>
-    ensures { IfOk result (λ l. AreRead (tree_of core.now) context l.items) }
+    ensures { IfOk result (λ l. AreRead core.now context l.items) }
 {
     let tables = Tables::new(alloc, core)?;
     let runs = tables.runs(alloc, core)?;

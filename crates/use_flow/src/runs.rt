@@ -2,7 +2,6 @@
 //! Those of a method have numbers in a row.
 
 ghost use Rattle.std.specs.Prelude.{◌≡◌, slice_index_or, IfOk};
-ghost use Rattle.jv_core.specs.Core.{tree_of};
 ghost use Rattle.use_flow.specs.Runs.{starts_of, starts_in};
 
 use crate::entered::add_contexts;
@@ -22,7 +21,7 @@ pub struct Runs {
 // Where the contexts begin, by the states that calls lead to.
 #[tactic(auto, using(crate::proofs::Running::starting))]
 pub(crate) fn runs_by(alloc: Global, core: &Core, reached: &[StateSet]) -> Result<Runs, Memory>
-    ensures { IfOk result (λ r. starts_of r ≡ starts_in (tree_of core.now) reached.now) }
+    ensures { IfOk result (λ r. starts_of r ≡ starts_in core.now reached.now) }
 {
     let methods = core.methods();
     let mut contexts = List::new(alloc);

@@ -2,7 +2,6 @@
 //! Names, types and widths of its variables are found here.
 
 ghost use Rattle.std.specs.Prelude.{◌≡◌, map, option_map, slice_get};
-ghost use Rattle.jv_core.specs.Core.{tree_of};
 ghost use Rattle.jv_core.specs.View.{class_of};
 ghost use Rattle.jv_core.specs.Lookup.{slot_type, field_type, variable_type};
 ghost use Rattle.use_rules.specs.Keys.{class_in, typestate_of};
@@ -38,7 +37,7 @@ pub fn class_in(ty: CoreType) -> Option<u32>
 /// The class of this number, if there is one.
 #[tactic(auto, using(crate::proofs::Scenes::scenes))]
 pub fn class_at(core: &Core, class: u32) -> Option<&CoreClass>
-    ensures { option_map (λ k. class_of k.now) result ≡ slice_get (tree_of core.now).classes class }
+    ensures { option_map (λ k. class_of k.now) result ≡ slice_get core.now.classes class }
 {
     core.classes().get(class as usize)
 }
@@ -46,7 +45,7 @@ pub fn class_at(core: &Core, class: u32) -> Option<&CoreClass>
 /// The typestate that a class follows, if it follows one.
 #[tactic(auto, using(crate::proofs::Scenes::scenes))]
 pub fn typestate_of(core: &Core, class: u32) -> Option<&Typestate>
-    ensures { typestate_or_end (option_map (λ t. t.now) result) ≡ typestate_of (tree_of core.now) class }
+    ensures { typestate_or_end (option_map (λ t. t.now) result) ≡ typestate_of core.now class }
 {
     let class = class_at(core, class)?;
     let number = class.typestate?;

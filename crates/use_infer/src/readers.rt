@@ -2,7 +2,6 @@
 //! Contexts and keys stand by their numbers.
 
 ghost use Rattle.std.specs.Prelude.{◌≡◌, [], length, map, replicate, IfOk, OnOk};
-ghost use Rattle.jv_core.specs.Core.{tree_of};
 ghost use Rattle.use_flow.specs.View.{contexts_of, reached_of, AreFor};
 ghost use Rattle.use_infer.specs.inner.Readers.{with_reader, noted, all_readers, lists_of, readers_at};
 
@@ -65,8 +64,8 @@ pub(crate) fn all_readers(
     tables: &Tables,
     contexts: &[Context],
 ) -> Result<Readers, Memory>
-    requires made { AreFor (tree_of core.now) tables.now }
-    ensures { IfOk result (λ r. lists_of r ≡ all_readers (tree_of core.now) (reached_of tables.now) tables.now.keys.keys
+    requires made { AreFor core.now tables.now }
+    ensures { IfOk result (λ r. lists_of r ≡ all_readers core.now (reached_of tables.now) tables.now.keys.keys
         (length tables.now.sets.items) contexts.now) }
 {
     let runs = tables.runs(alloc, core)?;

@@ -4,7 +4,6 @@
 ghost use Rattle.std.specs.Prelude.{◌≡◌, ◌<◌, ◌≤◌, ◌+◌, ℕ, List, Bool, false, true, length, replicate, slice_get, slice_index_or};
 ghost use Rattle.std.specs.Prelude.{slice_set, Some, IfOk, OnOk, MatchOption};
 ghost use Rattle.mg_sets.specs.Sets.{has};
-ghost use Rattle.jv_core.specs.Core.{tree_of};
 ghost use Rattle.use_rules.specs.Elements.{marked};
 ghost use Rattle.use_rules.specs.Keys.{AreReached};
 ghost use Rattle.use_rules.specs.Tables.{Least};
@@ -77,19 +76,19 @@ fn follow(
     context: Context,
     follows: &mut Follows,
 ) -> Result<usize, Memory>
-    requires waits { Waiting (tree_of core.now) tables.old due.old }
+    requires waits { Waiting core.now tables.old due.old }
     requires is_due { has due.old number ≡ true }
     requires at { slice_get (contexts_of tables.old) number ≡ Some context }
-    requires readers { lists_of readers.now ≡ all_readers (tree_of core.now) (reached_of tables.old) tables.old.keys.keys
+    requires readers { lists_of readers.now ≡ all_readers core.now (reached_of tables.old) tables.old.keys.keys
         (length tables.old.sets.items) (contexts_of tables.old) }
-    ensures waits { OnOk result (Waiting (tree_of core.now) tables.new due.new) }
+    ensures waits { OnOk result (Waiting core.now tables.new due.new) }
     ensures contexts { OnOk result (contexts_of tables.new ≡ contexts_of tables.old) }
-    ensures readers { OnOk result (lists_of readers.now ≡ all_readers (tree_of core.now) (reached_of tables.new) tables.new.keys.keys
+    ensures readers { OnOk result (lists_of readers.now ≡ all_readers core.now (reached_of tables.new) tables.new.keys.keys
         (length tables.new.sets.items) (contexts_of tables.new)) }
-    ensures falls { OnOk result (left (tree_of core.now) tables.new due.new < left (tree_of core.now) tables.old due.old) }
-    ensures pays { OnOk result (follows.new + left (tree_of core.now) tables.new due.new ≤ follows.old + left (tree_of core.now) tables.old
+    ensures falls { OnOk result (left core.now tables.new due.new < left core.now tables.old due.old) }
+    ensures pays { OnOk result (follows.new + left core.now tables.new due.new ≤ follows.old + left core.now tables.old
         due.old) }
-    ensures most { follows.new ≤ follows.old + left (tree_of core.now) tables.old due.old }
+    ensures most { follows.new ≤ follows.old + left core.now tables.old due.old }
     ensures rises { follows.old ≤ follows.new }
 {
     due[number] = false;
@@ -115,11 +114,11 @@ fn settle(
     contexts: &[Context],
     follows: &mut Follows,
 ) -> Result<(), Memory>
-    requires waits { Waiting (tree_of core.now) tables.old due.old }
+    requires waits { Waiting core.now tables.old due.old }
     requires known { contexts.now ≡ contexts_of tables.old }
-    ensures made { OnOk result (AreFor (tree_of core.now) tables.new) }
-    ensures least { OnOk result (Least (tree_of core.now) (reached_of tables.new) (tables_of tables.new)) }
-    ensures most { follows.new ≤ follows.old + left (tree_of core.now) tables.old due.old }
+    ensures made { OnOk result (AreFor core.now tables.new) }
+    ensures least { OnOk result (Least core.now (reached_of tables.new) (tables_of tables.new)) }
+    ensures most { follows.new ≤ follows.old + left core.now tables.old due.old }
     ensures rises { follows.old ≤ follows.new }
 {
     let readers = gather(alloc, core, tables, contexts)?;
@@ -149,10 +148,10 @@ fn all_due(alloc: Global, count: usize) -> Result<Vec<bool>, Memory>
 /// # Errors
 /// `Memory` only.
 pub fn infer(alloc: Global, core: &Core, follows: &mut Follows) -> Result<Tables, Memory>
-    ensures made { IfOk result (λ t. AreFor (tree_of core.now) t) }
-    ensures least { IfOk result (λ t. Least (tree_of core.now) (reached_of t) (tables_of t)) }
-    ensures most { (reached : List (List Bool)) → AreReached (tree_of core.now) reached → follows.new ≤ follows.old + most_follows
-        (tree_of core.now) reached }
+    ensures made { IfOk result (λ t. AreFor core.now t) }
+    ensures least { IfOk result (λ t. Least core.now (reached_of t) (tables_of t)) }
+    ensures most { (reached : List (List Bool)) → AreReached core.now reached → follows.new ≤ follows.old + most_follows
+        core.now reached }
     ensures rises { follows.old ≤ follows.new }
 {
     let mut tables = Tables::new(alloc, core)?;

@@ -1,7 +1,6 @@
 -- What the program's values say: a method whose code is written, what is written of it, and what stands around a statement.
 use Rattle.std.specs.Prelude.{ℕ, suc, List, [], ◌∷◌, Bool, true, false}
 use Rattle.jv_core.specs.Tree.{Expr, Null, Stmt, Local, Method, Program}
-use Rattle.jv_core.specs.Core.{tree_of}
 use Rattle.jv_core.specs.View.{method_of}
 use Rattle.gen_rules.specs.Around as rules
 use Rattle.gen_rules.specs.Frames.{Depths}
@@ -13,14 +12,11 @@ use Rattle.gen_symbolic.specs.declared.coder.Coder.{Coder}
 use Rattle.gen_symbolic.specs.declared.coder.Draft.{Draft as KeptDraft}
 use Rattle.gen_symbolic.specs.declared.frames.Depths.{Depths as KeptDepths}
 
-abbrev pub program_in : Coder → Program
-program_in c = tree_of c.core.now
-
 abbrev pub method_in : Coder → Method
 method_in c = method_of c.method.now
 
 unfoldable pub draft_in : Coder → KeptDraft → Draft
-draft_in c d = record { code = instrs_of (program_in c) d.instrs.items; labels = d.labels.items }
+draft_in c d = record { code = instrs_of c.core.now d.instrs.items; labels = d.labels.items }
 
 abbrev pub around_of : Around → List rules.Around
 around_of kept.Method = []

@@ -1,6 +1,5 @@
 -- What the functions that judge a program, and its usages, may answer.
 use Rattle.std.specs.Prelude.{◌≡◌, Option, Some, None}
-use Rattle.jv_core.specs.Core.{tree_of}
 use Rattle.jv_core.specs.Tree as Core
 use Rattle.jv_rules.specs.Faults.{IsTableFault, IsFault}
 use Rattle.use_rules.specs.declared.demand.Demand.{Demand}
@@ -27,5 +26,5 @@ demand_of faults.Memory = None
 
 -- this core, with its least tables
 pub record IsSolved (core : Core.Program) (a : AcceptedProgram) : Type 0 where
-  pub same : tree_of a.core ≡ core
-  pub tables_are : AreAnswer (tree_of a.core) a.accepted.tables
+  pub same : a.core ≡ core
+  pub tables_are : AreAnswer a.core a.accepted.tables

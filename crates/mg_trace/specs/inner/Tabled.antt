@@ -3,7 +3,6 @@ use Rattle.std.specs.Prelude.{◌≡◌, ℕ, List, String, Option, Some, None, 
 use Rattle.std.specs.HashMap.{HashMap, get_by_text}
 use Rattle.mg_text.specs.Call.{Name}
 use Rattle.jv_core.specs.declared.program.CoreType.{CoreType}
-use Rattle.jv_core.specs.Core.{tree_of}
 use Rattle.jv_core.specs.Tree.{Class, Program}
 use Rattle.mg_trace.specs.declared.results.Answers.{Answers}
 use Rattle.mg_trace.specs.declared.results.Answers.TheVariants as answers
@@ -33,10 +32,10 @@ result_by r class method = option_and_then (λ own. get_by_text own method) (get
 
 -- how these answers are told
 abbrev pub telling_of : Answers → Telling
-telling_of (answers.ByTypes core results) = ByTypes (tree_of core.now)
+telling_of (answers.ByTypes core results) = ByTypes core.now
 telling_of answers.AsNumbers = AsNumbers
 
 -- where by types, the results are those of the program
 abbrev pub AreTold : Answers → Type 0
-AreTold (answers.ByTypes core results) = AreResults (tree_of core.now) results.now
+AreTold (answers.ByTypes core results) = AreResults core.now results.now
 AreTold answers.AsNumbers = Unit {0}

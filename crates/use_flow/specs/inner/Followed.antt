@@ -9,7 +9,6 @@ use Rattle.jv_core.specs.declared.program.CoreType.{CoreType}
 use Rattle.jv_core.specs.Tree.{Expr, Exprs, Field, Method, Program}
 use Rattle.jv_core.specs.View.{method_of}
 use Rattle.jv_core.specs.Lookup.{slot_type}
-use Rattle.jv_core.specs.Core.{tree_of}
 use Rattle.use_rules.specs.declared.demand.Demand.{Demand}
 use Rattle.use_flow.specs.declared.elements.Rule.{Rule}
 use Rattle.use_rules.specs.declared.key.Context.{Context}
@@ -32,7 +31,7 @@ pub record Followed : Type 0 where
 
 abbrev pub seen : Scene → Followed
 seen s = record {
-  program = tree_of s.core.now;
+  program = s.core.now;
   contexts = contexts_of s.tables.now;
   context = s.context;
   method = method_of s.method.now;

@@ -1,5 +1,4 @@
 use Rattle.std.proofs.Common.{drop}
-use Rattle.jv_core.specs.Core.{tree_of}
 use Rattle.gen_symbolic.specs.View.{instrs_of}
 use Rattle.gen_pool.specs.Made.{IsFrontOf}
 use Rattle.gen_members.specs.Laid.{laid}
@@ -9,5 +8,5 @@ use Rattle.gen_members.proofs.laying.lay_out.Given as goal
 -- what is laid of the rest, behind what was laid, is what is laid of all, and the pool keeps its entries first
 abbrev pub invariant-loop-instr : goal.invariant-loop-instr
 invariant-loop-instr l =
-    IsLeft (instrs_of (tree_of l.fn.core) (drop l.instr-index l.instrs)) l.laid.numbers.items l.laid.starts.items l.laid.end l.pool
-    (laid 0 (instrs_of (tree_of l.fn.core) l.fn.instrs) l.fn.pool) × IsFrontOf l.fn.pool l.pool
+    IsLeft (instrs_of l.fn.core (drop l.instr-index l.instrs)) l.laid.numbers.items l.laid.starts.items l.laid.end l.pool
+    (laid 0 (instrs_of l.fn.core l.fn.instrs) l.fn.pool) × IsFrontOf l.fn.pool l.pool

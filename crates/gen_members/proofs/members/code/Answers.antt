@@ -1,7 +1,6 @@
 use Rattle.std.proofs.Common.{ap, ◌∙◌, sym, subst}
 use Rattle.std.proofs.lemmas.List.{length-map}
 use Rattle.std.proofs.lemmas.Result.{err_from_is_err_and}
-use Rattle.jv_core.specs.Core.{tree_of}
 use Rattle.gen_symbolic.specs.View.{instr_of, instrs_of}
 use Rattle.gen_pool.specs.Made.{IsMade}
 use Rattle.gen_members.specs.Kept.{laid_of}
@@ -13,7 +12,7 @@ use Rattle.gen_members.proofs.members.code.Goals as goal
 
 pub code_in_file-requires-clause-numbers : goal.code_in_file-requires-clause-numbers
 code_in_file-requires-clause-numbers c =
-    let p = tree_of c.args.core.now in
+    let p = c.args.core.now in
     let lay = subst (λ is. IsMade (laid_of c.in_ok-laid.laid) c.lay_out.new.pool (laid 0 (instrs_of p is) c.utf8-2.new.self))
     c.as_slice-instrs.ensures.items
     c.in_ok-laid.ensures.made in
@@ -22,7 +21,7 @@ code_in_file-requires-clause-numbers c =
 
 pub code_in_file-requires-clause-starts : goal.code_in_file-requires-clause-starts
 code_in_file-requires-clause-starts c =
-    let p = tree_of c.args.core.now in
+    let p = c.args.core.now in
     let lay = subst (λ is. IsMade (laid_of c.in_ok-laid.laid) c.lay_out.new.pool (laid 0 (instrs_of p is) c.utf8-2.new.self))
     c.as_slice-instrs.ensures.items
     c.in_ok-laid.ensures.made in
@@ -31,7 +30,7 @@ code_in_file-requires-clause-starts c =
 
 pub returns-clause-made : goal.returns-clause-made
 returns-clause-made c =
-    let p = tree_of c.args.core.now in
+    let p = c.args.core.now in
     let lay = subst (λ is. IsMade (laid_of c.in_ok-laid.laid) c.lay_out.new.pool (laid 0 (instrs_of p is) c.utf8-2.new.self))
     c.as_slice-instrs.ensures.items
     c.in_ok-laid.ensures.made in
@@ -39,7 +38,7 @@ returns-clause-made c =
 
 pub returns-clause-fine : goal.returns-clause-fine
 returns-clause-fine c =
-    let p = tree_of c.args.core.now in
+    let p = c.args.core.now in
     let lay = subst (λ is. IsMade (laid_of c.in_ok-laid.laid) c.lay_out.new.pool (laid 0 (instrs_of p is) c.utf8-2.new.self))
     c.as_slice-instrs.ensures.items
     c.in_ok-laid.ensures.made in
@@ -49,7 +48,7 @@ returns-clause-fine c =
 
 pub returns-in_err-judge-clause-fault : goal.returns-in_err-judge-clause-fault
 returns-in_err-judge-clause-fault c =
-    let p = tree_of c.args.core.now in
+    let p = c.args.core.now in
     let m = compiled_of p c.args.making.now in
     let lay = subst (λ is. IsMade (laid_of c.in_ok-laid.laid) c.lay_out.new.pool (laid 0 (instrs_of p is) c.utf8-2.new.self))
     c.as_slice-instrs.ensures.items

@@ -3,7 +3,6 @@ use Rattle.std.proofs.lemmas.List.{length-map}
 use Rattle.std.proofs.lemmas.Result.{err_from_is_err_and}
 use Rattle.cls_tree.specs.Emitted.{utf8}
 use Rattle.cls_tree.specs.Tree as file
-use Rattle.jv_core.specs.Core.{tree_of}
 use Rattle.gen_symbolic.specs.View.{instr_of, instrs_of}
 use Rattle.gen_pool.specs.Made.{IsMade}
 use Rattle.gen_members.specs.Kept.{laid_of}
@@ -15,7 +14,7 @@ use Rattle.gen_members.proofs.members.method.Goals as goal
 
 pub code_in_file-requires-clause-numbers : goal.code_in_file-requires-clause-numbers
 code_in_file-requires-clause-numbers c =
-    let p = tree_of c.args.core.now in
+    let p = c.args.core.now in
     let m = compiled_of p c.args.making.now in
     let text = subst (λ t. IsMade c.in_ok-descriptor.descriptor c.utf8-2-2.new.self (utf8 t c.utf8-2.new.self)) c.as_str-text.ensures.value
     c.in_ok-descriptor.ensures.made in
@@ -27,7 +26,7 @@ code_in_file-requires-clause-numbers c =
 
 pub code_in_file-requires-clause-starts : goal.code_in_file-requires-clause-starts
 code_in_file-requires-clause-starts c =
-    let p = tree_of c.args.core.now in
+    let p = c.args.core.now in
     let m = compiled_of p c.args.making.now in
     let text = subst (λ t. IsMade c.in_ok-descriptor.descriptor c.utf8-2-2.new.self (utf8 t c.utf8-2.new.self)) c.as_str-text.ensures.value
     c.in_ok-descriptor.ensures.made in
@@ -39,7 +38,7 @@ code_in_file-requires-clause-starts c =
 
 pub returns-clause-made : goal.returns-clause-made
 returns-clause-made c =
-    let p = tree_of c.args.core.now in
+    let p = c.args.core.now in
     let m = compiled_of p c.args.making.now in
     let text = subst (λ t. IsMade c.in_ok-descriptor.descriptor c.utf8-2-2.new.self (utf8 t c.utf8-2.new.self)) c.as_str-text.ensures.value
     c.in_ok-descriptor.ensures.made in
@@ -59,7 +58,7 @@ returns-clause-made c =
 
 pub returns-clause-fine : goal.returns-clause-fine
 returns-clause-fine c = λ k.
-    let p = tree_of c.args.core.now in
+    let p = c.args.core.now in
     let m = compiled_of p c.args.making.now in
     let text = subst (λ t. IsMade c.in_ok-descriptor.descriptor c.utf8-2-2.new.self (utf8 t c.utf8-2.new.self)) c.as_str-text.ensures.value
     c.in_ok-descriptor.ensures.made in
@@ -72,7 +71,7 @@ returns-clause-fine c = λ k.
 
 pub returns-in_err-judge-clause-fault : goal.returns-in_err-judge-clause-fault
 returns-in_err-judge-clause-fault c =
-    let p = tree_of c.args.core.now in
+    let p = c.args.core.now in
     let m = compiled_of p c.args.making.now in
     let text = subst (λ t. IsMade c.in_ok-descriptor.descriptor c.utf8-2-2.new.self (utf8 t c.utf8-2.new.self)) c.as_str-text.ensures.value
     c.in_ok-descriptor.ensures.made in

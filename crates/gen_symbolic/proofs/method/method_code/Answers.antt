@@ -1,4 +1,3 @@
-use Rattle.jv_core.specs.Core.{tree_of}
 use Rattle.gen_symbolic.proofs.Whole.{method_is}
 use Rattle.gen_symbolic.proofs.method.method_code.Goals as goal
 
@@ -6,4 +5,4 @@ pub returns-clause-code : goal.returns-clause-code
 returns-clause-code c =
     method_is (record { alloc = c.args.alloc; core = c.args.core; method = c.args.method }) c.in_ok-draft.draft _ c.as_slice.result.now
     c.as_slice-2.result.now c.in_ok-draft.ensures c.as_slice.ensures.value c.as_slice-2.ensures.value
-    (c.in_ok-instrs.ensures (tree_of c.args.core.now))
+    (c.in_ok-instrs.ensures c.args.core.now)

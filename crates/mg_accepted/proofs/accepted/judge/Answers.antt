@@ -1,5 +1,4 @@
 use Rattle.std.proofs.Common.{refl}
-use Rattle.jv_core.specs.Core.{tree_of}
 use Rattle.mg_accepted.proofs.Usages.{unmet_judged}
 use Rattle.mg_accepted.proofs.accepted.judge.Goals as goal
 
@@ -7,4 +6,4 @@ pub returns-in-Ok : goal.returns-in-Ok
 returns-in-Ok c = record { same = refl; tables_are = c.in-Ok.ensures.accepted }
 
 pub returns-in-Err : goal.returns-in-Err
-returns-in-Err c = unmet_judged (tree_of c.args.core) c.in-Err.fault c.stop_of.result c.in-Err.ensures.fault c.stop_of.ensures
+returns-in-Err c = unmet_judged c.args.core c.in-Err.fault c.stop_of.result c.in-Err.ensures.fault c.stop_of.ensures

@@ -1,6 +1,5 @@
 use Rattle.std.proofs.Common.{Err, Result, ap, ◌∙◌}
 use Rattle.std.proofs.lemmas.Result.{err_from_is_err_and}
-use Rattle.jv_core.specs.Core.{tree_of}
 use Rattle.mg_refusal.specs.declared.stop.Stop.{Stop}
 use Rattle.mg_sources.specs.Files.{sources}
 use Rattle.mg_accepted.specs.declared.accepted.AcceptedProgram.{AcceptedProgram}
@@ -18,5 +17,5 @@ returns-in_err-core c =
 
 pub returns : goal.returns
 returns c =
-    core_judged (sources c.args.names.now c.args.contents.now) (tree_of c.in_ok-core.core) c.judge.result c.in_ok-core.ensures.answered
+    core_judged (sources c.args.names.now c.args.contents.now) c.in_ok-core.core c.judge.result c.in_ok-core.ensures.answered
     c.judge.ensures

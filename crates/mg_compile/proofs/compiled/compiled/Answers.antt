@@ -1,7 +1,6 @@
 use Rattle.std.proofs.Common.{Err, Result, ap, ◌∙◌}
 use Rattle.std.proofs.lemmas.Result.{err_from_is_err_and}
 use Rattle.mg_text.specs.Row.{Row}
-use Rattle.jv_core.specs.Core.{tree_of}
 use Rattle.mg_refusal.specs.declared.stop.Stop.{Stop}
 use Rattle.mg_sources.specs.Files.{sources}
 use Rattle.mg_compile.specs.declared.files.ClassFile.{ClassFile}
@@ -22,5 +21,5 @@ class_files-requires c = (sources c.args.names.now c.args.contents.now, c.in_ok-
 
 pub returns : goal.returns
 returns c =
-    core_compiled (sources c.args.names.now c.args.contents.now) (tree_of c.in_ok-program.program.core) c.class_files.result
+    core_compiled (sources c.args.names.now c.args.contents.now) c.in_ok-program.program.core c.class_files.result
     c.in_ok-program.ensures.answered.files_are c.class_files.ensures

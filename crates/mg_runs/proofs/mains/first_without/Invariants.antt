@@ -1,7 +1,6 @@
 use Rattle.std.proofs.Common.{take}
-use Rattle.jv_core.specs.Core.{tree_of}
 use Rattle.mg_runs.specs.Runs.{HaveMains}
 use Rattle.mg_runs.proofs.mains.first_without.Given as goal
 
 abbrev pub invariant-loop-number : goal.invariant-loop-number
-invariant-loop-number l = HaveMains (tree_of l.fn.core) (take l.number l.mains)
+invariant-loop-number l = HaveMains l.fn.core (take l.number l.mains)

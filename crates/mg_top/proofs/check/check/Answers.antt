@@ -1,5 +1,4 @@
 use Rattle.std.proofs.lemmas.Result.{err_from_is_err_and}
-use Rattle.jv_core.specs.Core.{tree_of}
 use Rattle.mg_accepted.specs.Accepted.{FirstRefusal}
 use Rattle.mg_accepted.specs.View.{IsProgramOf}
 use Rattle.mg_sources.specs.Files.{sources}
@@ -22,5 +21,5 @@ returns-in_err-show c =
 
 pub returns : goal.returns
 returns c =
-    report_given c.args.names.now c.args.contents.now (tree_of c.in_ok-program.program.core) c.in_ok-show.field-0
+    report_given c.args.names.now c.args.contents.now c.in_ok-program.program.core c.in_ok-show.field-0
     c.in_ok-program.ensures.answered.files_are c.in_ok-show.ensures

@@ -1,6 +1,5 @@
 use Rattle.std.proofs.Common.{◌≡◌, ◌++◌, List, ℕ, ap, ◌∙◌}
 use Rattle.mg_sets.specs.Sets.{members}
-use Rattle.jv_core.specs.Core.{tree_of}
 use Rattle.use_rules.specs.declared.key.Context.{Context}
 use Rattle.use_rules.specs.Keys.{contexts_in}
 use Rattle.use_flow.specs.View.{reached_of, tables_of}
@@ -11,7 +10,7 @@ use Rattle.use_check.proofs.reports.report.Goals as goal
 
 pub returns : goal.returns
 returns c =
-    let p = tree_of c.args.core.now in
+    let p = c.args.core.now in
     let t = c.args.accepted.now.tables in
     let u : Usages = record { program = p; reached = reached_of t; elements = λ key. members (tables_of t key) } in
     let all : c.as_slice.result.now ≡ contexts_in p (reached_of t) =

@@ -1,6 +1,5 @@
 use Rattle.std.proofs.Common.{refl, sym, subst, ◌∙◌}
 use Rattle.std.proofs.lemmas.Result.{err_from_is_err_and}
-use Rattle.jv_core.specs.Core.{tree_of}
 use Rattle.use_infer.proofs.Taking.{same_contexts}
 use Rattle.use_check.specs.Faults.{IsFault}
 use Rattle.use_check.proofs.Failing.{is_answer, is_fault, none_fails}
@@ -10,7 +9,7 @@ pub first_in-requires-clause-made : goal.first_in-requires-clause-made
 first_in-requires-clause-made c = c.in_ok-tables.ensures.made
 
 pub first_in-requires-clause-known : goal.first_in-requires-clause-known
-first_in-requires-clause-known c = c.as_slice.ensures.items ∙ same_contexts (tree_of c.args.core.now) c.in_ok-tables.tables
+first_in-requires-clause-known c = c.as_slice.ensures.items ∙ same_contexts c.args.core.now c.in_ok-tables.tables
     c.in_ok-all.all.items c.in_ok-tables.ensures.made c.in_ok-all.ensures
 
 pub returns-in_err-tables : goal.returns-in_err-tables
@@ -31,15 +30,15 @@ returns-in_err-demand c =
 pub invariant_of-result : goal.invariant_of-result
 invariant_of-result c = record {
   answer = ∣ record {
-    program = tree_of c.args.core.now;
-    answer = is_answer (tree_of c.args.core.now) c.in_ok-tables.tables c.in_ok-tables.ensures.made c.in_ok-tables.ensures.least
+    program = c.args.core.now;
+    answer = is_answer c.args.core.now c.in_ok-tables.tables c.in_ok-tables.ensures.made c.in_ok-tables.ensures.least
         (sym c.in_default.is ∙ c.in_ok-demand.ensures);
   } ∣₁;
 }
 
 pub returns : goal.returns
 returns c = record {
-  accepted = is_answer (tree_of c.args.core.now) c.in_ok-tables.tables c.in_ok-tables.ensures.made c.in_ok-tables.ensures.least
+  accepted = is_answer c.args.core.now c.in_ok-tables.tables c.in_ok-tables.ensures.made c.in_ok-tables.ensures.least
       (sym c.in_default.is ∙ c.in_ok-demand.ensures);
   complete = λ a. tt;
   fault = tt;
@@ -47,7 +46,7 @@ returns c = record {
 
 pub returns-in-Some : goal.returns-in-Some
 returns-in-Some c =
-    let p = tree_of c.args.core.now in
+    let p = c.args.core.now in
     record {
       accepted = tt;
       complete = λ a. absurd (none_fails p c.in_ok-tables.tables c.in-Some.demand c.in_ok-tables.ensures.made c.in_ok-tables.ensures.least

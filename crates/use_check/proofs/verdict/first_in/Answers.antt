@@ -1,26 +1,25 @@
 use Rattle.std.proofs.Common.{sym, ◌∙◌}
-use Rattle.jv_core.specs.Core.{tree_of}
 use Rattle.use_check.proofs.Failing.{all_rest, passed_over, first_here, none_left}
 use Rattle.use_check.proofs.verdict.first_in.Goals as goal
 
 pub loop-context-init : goal.loop-context-init
-loop-context-init c = all_rest (tree_of c.args.core.now) c.args.tables.now c.args.contexts.now c.requires.made c.requires.known
+loop-context-init c = all_rest c.args.core.now c.args.tables.now c.args.contexts.now c.requires.made c.requires.known
 
 pub flow-requires : goal.flow-requires
 flow-requires c = c.requires.made
 
 pub loop-context-preserved : goal.loop-context-preserved
 loop-context-preserved c =
-    passed_over (tree_of c.args.core.now) c.args.tables.now c.args.contexts.now c.loop-context.context-index c.in_ok-met.met
+    passed_over c.args.core.now c.args.tables.now c.args.contexts.now c.loop-context.context-index c.in_ok-met.met
     c.loop-context-test.true c.in_ok-met.ensures.flows
     (sym c.in_default.is ∙ c.first_failed.ensures) c.loop-context.invariant
 
 pub returns : goal.returns
-returns c = none_left (tree_of c.args.core.now) c.args.tables.now c.args.contexts.now c.loop-context.context-index c.loop-context-test.false
+returns c = none_left c.args.core.now c.args.tables.now c.args.contexts.now c.loop-context.context-index c.loop-context-test.false
     c.loop-context.invariant
 
 pub returns-in-Some : goal.returns-in-Some
 returns-in-Some c =
-    first_here (tree_of c.args.core.now) c.args.tables.now c.args.contexts.now c.loop-context.context-index c.in_ok-met.met c.in-Some.demand
+    first_here c.args.core.now c.args.tables.now c.args.contexts.now c.loop-context.context-index c.in_ok-met.met c.in-Some.demand
     c.loop-context-test.true c.in_ok-met.ensures.flows
     (sym c.in-Some.is ∙ c.first_failed.ensures) c.loop-context.invariant

@@ -1,6 +1,5 @@
-use Rattle.jv_core.specs.Core.{tree_of}
 use Rattle.use_flow.specs.inner.Holding.{AreHeld}
 use Rattle.use_flow.proofs.held.filled.Given as goal
 
 abbrev pub invariant-loop-place : goal.invariant-loop-place
-invariant-loop-place l = AreHeld (tree_of l.core) l.entries l.place l.keys.keys l.sets.items
+invariant-loop-place l = AreHeld l.core l.entries l.place l.keys.keys l.sets.items

@@ -1,14 +1,14 @@
 use Rattle.std.proofs.Common.{max, ◌≡◌, ◌≤◌, ◌+◌, ◌*◌, drop, map, length}
 use Rattle.jv_core.specs.View.{expr_of, exprs_of}
 use Rattle.gen_rules.specs.Frames.{depth_of_arguments}
-use Rattle.gen_symbolic.specs.inner.Held.{program_in, method_in}
+use Rattle.gen_symbolic.specs.inner.Held.{method_in}
 use Rattle.jv_core.specs.declared.tree.CoreExpr.{size-CoreExpr}
 use Rattle.gen_symbolic.proofs.coder.Coder.+depths.Given as goal
 
 abbrev pub invariant-arguments_depth-loop-left : goal.invariant-arguments_depth-loop-left
 invariant-arguments_depth-loop-left l = record {
   within : l.left ≤ length l.args;
-  depth : l.depth ≡ depth_of_arguments (program_in l.self) (method_in l.self) (exprs_of (map expr_of (drop l.left l.args)));
+  depth : l.depth ≡ depth_of_arguments l.self.core.now (method_in l.self) (exprs_of (map expr_of (drop l.left l.args)));
 }
 
 abbrev pub decreases-arguments_depth-loop-left : goal.decreases-arguments_depth-loop-left

@@ -1,14 +1,14 @@
 use Rattle.std.proofs.Common.{max, ◌≡◌, ◌+◌, ◌*◌, drop, map}
 use Rattle.jv_core.specs.View.{expr_of, exprs_of}
 use Rattle.gen_symbolic.specs.inner.Drafting.{arguments}
-use Rattle.gen_symbolic.specs.inner.Held.{draft_in, program_in, method_in}
+use Rattle.gen_symbolic.specs.inner.Held.{draft_in, method_in}
 use Rattle.jv_core.specs.declared.tree.CoreExpr.{size-CoreExpr}
 use Rattle.gen_symbolic.proofs.coder.Coder.+expressions.Given as goal
 
 abbrev pub invariant-arguments-loop-arg : goal.invariant-arguments-loop-arg
 invariant-arguments-loop-arg l =
-    arguments (program_in l.self) (method_in l.self) l.locals (exprs_of (map expr_of (drop l.arg-index l.args))) (draft_in l.self l.draft)
-    ≡ arguments (program_in l.self) (method_in l.self) l.locals (exprs_of (map expr_of l.args)) (draft_in l.self l.initial.draft)
+    arguments l.self.core.now (method_in l.self) l.locals (exprs_of (map expr_of (drop l.arg-index l.args))) (draft_in l.self l.draft)
+    ≡ arguments l.self.core.now (method_in l.self) l.locals (exprs_of (map expr_of l.args)) (draft_in l.self l.initial.draft)
 
 abbrev pub decreases-value : goal.decreases-value
 decreases-value l = 10 * goal.size-value l + 0

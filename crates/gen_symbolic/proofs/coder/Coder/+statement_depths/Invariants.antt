@@ -1,19 +1,19 @@
 use Rattle.std.proofs.Common.{◌≡◌, ◌+◌, ◌*◌, drop, map, max}
 use Rattle.jv_core.specs.View.{stmt_of, stmts_of, group_of, groups_of}
 use Rattle.gen_rules.specs.Frames.{depth_of_all, depth_of_groups}
-use Rattle.gen_symbolic.specs.inner.Held.{program_in, method_in}
+use Rattle.gen_symbolic.specs.inner.Held.{method_in}
 use Rattle.jv_core.specs.declared.tree.CoreStmt.{size-CoreStmt}
 use Rattle.gen_symbolic.proofs.coder.Coder.+statement_depths.Given as goal
 
 abbrev pub invariant-depth_of_all-loop-stmt : goal.invariant-depth_of_all-loop-stmt
 invariant-depth_of_all-loop-stmt l =
-    max l.depth (depth_of_all (program_in l.self) (method_in l.self) (stmts_of (map stmt_of (drop l.stmt-index l.stmts))))
-    ≡ depth_of_all (program_in l.self) (method_in l.self) (stmts_of (map stmt_of l.stmts))
+    max l.depth (depth_of_all l.self.core.now (method_in l.self) (stmts_of (map stmt_of (drop l.stmt-index l.stmts))))
+    ≡ depth_of_all l.self.core.now (method_in l.self) (stmts_of (map stmt_of l.stmts))
 
 abbrev pub invariant-depth_of_groups-loop-group : goal.invariant-depth_of_groups-loop-group
 invariant-depth_of_groups-loop-group l =
-    max l.depth (depth_of_groups (program_in l.self) (method_in l.self) (groups_of (map group_of (drop l.group-index l.groups))))
-    ≡ depth_of_groups (program_in l.self) (method_in l.self) (groups_of (map group_of l.groups))
+    max l.depth (depth_of_groups l.self.core.now (method_in l.self) (groups_of (map group_of (drop l.group-index l.groups))))
+    ≡ depth_of_groups l.self.core.now (method_in l.self) (groups_of (map group_of l.groups))
 
 abbrev pub decreases-depth_of : goal.decreases-depth_of
 decreases-depth_of l = 4 * goal.size-depth_of l + 0

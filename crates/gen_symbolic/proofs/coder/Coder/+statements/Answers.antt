@@ -1,7 +1,7 @@
 use Rattle.std.proofs.Common.{arith, map, length, ◌∙◌}
 use Rattle.std.proofs.lemmas.Result.{on_ok_weaker}
 use Rattle.jv_core.specs.View.{expr_of, stmt_of, stmts_of}
-use Rattle.gen_symbolic.specs.inner.Held.{draft_in, program_in, method_in, around_of}
+use Rattle.gen_symbolic.specs.inner.Held.{draft_in, method_in, around_of}
 use Rattle.gen_symbolic.proofs.Stating.{written_more, groups_more, switch_is}
 use Rattle.gen_symbolic.proofs.coder.Coder.+statements.Goals as goal
 
@@ -11,7 +11,7 @@ groups-loop-group-preserved t c =
     let h = c.loop-group.invariant in
     record {
       left =
-          groups_more (program_in s) (method_in s) (around_of c.args.around.now) c.args.list.now c.loop-group.group-index c.loop-group.label
+          groups_more s.core.now (method_in s) (around_of c.args.around.now) c.args.list.now c.loop-group.group-index c.loop-group.label
           c.loop-group.locals (draft_in s c.loop-group.draft) _ h.left c.group-item.result c.as_slice.result.now c.statements.new.locals
           c.in_ok-label.label (draft_in s c.close.new.draft) (draft_in s c.statements.new.draft) (omega arith) c.group-item.is
           c.as_slice.ensures.items c.in_ok-close.ensures c.in_ok-statements.ensures.draft c.in_ok-statements.ensures.kept
@@ -22,7 +22,7 @@ groups-loop-group-preserved t c =
 pub statements-loop-stmt-preserved : goal.statements-loop-stmt-preserved
 statements-loop-stmt-preserved t c =
     let s = c.args.self.now in
-    written_more (program_in s) (method_in s) (around_of c.args.around.now) c.args.locals.now c.loop-stmt.locals
+    written_more s.core.now (method_in s) (around_of c.args.around.now) c.args.locals.now c.loop-stmt.locals
     (stmts_of (map stmt_of c.args.stmts.now)) (draft_in s c.args.draft.now) (draft_in s c.loop-stmt.draft) c.args.stmts.now
     c.loop-stmt.stmt-index
     c.loop-stmt.invariant c.stmt-item.result c.statement.new.locals c.declare_local.new.locals (draft_in s c.statement.new.draft)
@@ -33,7 +33,7 @@ pub switch-returns-clause-draft : goal.switch-returns-clause-draft
 switch-returns-clause-draft t c =
     let s = c.args.self.now in
     on_ok_weaker c.close.result (λ e.
-    switch_is (program_in s) (method_in s) c.args.locals.now (around_of c.args.around.now) (expr_of c.args.value.now) c.args.groups.now
+    switch_is s.core.now (method_in s) c.args.locals.now (around_of c.args.around.now) (expr_of c.args.value.now) c.args.groups.now
     c.in_ok-end.end c.in_ok-first.first c.constants.result (draft_in s c.args.draft.now) (draft_in s c.open.new.draft)
     (draft_in s c.value.new.draft)
     (draft_in s c.open_all.new.draft) (draft_in s c.put_table.new.draft) (draft_in s c.groups.new.draft) (draft_in s c.close.new.draft)

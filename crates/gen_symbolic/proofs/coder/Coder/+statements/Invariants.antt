@@ -1,24 +1,24 @@
 use Rattle.std.proofs.Common.{max, ◌≡◌, ◌+◌, ◌*◌, drop, map}
 use Rattle.jv_core.specs.View.{stmt_of, stmts_of, group_of, groups_of}
 use Rattle.gen_symbolic.specs.inner.Drafting.{statements, groups}
-use Rattle.gen_symbolic.specs.inner.Held.{draft_in, program_in, method_in, around_of}
+use Rattle.gen_symbolic.specs.inner.Held.{draft_in, method_in, around_of}
 use Rattle.jv_core.specs.declared.tree.CoreStmt.{size-CoreStmt}
 use Rattle.gen_symbolic.proofs.Stating.{AreWritten}
 use Rattle.gen_symbolic.proofs.coder.Coder.+statements.Given as goal
 
 abbrev pub invariant-statements-loop-stmt : goal.invariant-statements-loop-stmt
 invariant-statements-loop-stmt l =
-    AreWritten (program_in l.self) (method_in l.self) (around_of l.around) l.initial.locals l.locals
+    AreWritten l.self.core.now (method_in l.self) (around_of l.around) l.initial.locals l.locals
     (stmts_of (map stmt_of l.stmts)) (stmts_of (map stmt_of (drop l.stmt-index l.stmts))) (draft_in l.self l.initial.draft)
     (draft_in l.self l.draft)
 
 abbrev pub invariant-groups-loop-group : goal.invariant-groups-loop-group
 invariant-groups-loop-group l = record {
   left :
-      groups (program_in l.self) (method_in l.self) l.locals (around_of l.around) (groups_of (map group_of (drop l.group-index l.list)))
+      groups l.self.core.now (method_in l.self) l.locals (around_of l.around) (groups_of (map group_of (drop l.group-index l.list)))
       l.label
       (draft_in l.self l.draft)
-      ≡ groups (program_in l.self) (method_in l.self) l.initial.locals (around_of l.around) (groups_of (map group_of l.list)) l.first
+      ≡ groups l.self.core.now (method_in l.self) l.initial.locals (around_of l.around) (groups_of (map group_of l.list)) l.first
       (draft_in l.self l.initial.draft);
   locals : l.locals ≡ l.initial.locals;
 }

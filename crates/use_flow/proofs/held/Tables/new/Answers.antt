@@ -1,5 +1,4 @@
 use Rattle.std.proofs.Common.{sym, ap, ◌∙◌, subst}
-use Rattle.jv_core.specs.Core.{tree_of}
 use Rattle.use_rules.specs.Keys.{contexts_in}
 use Rattle.use_flow.specs.inner.Holding.{AreApart}
 use Rattle.use_flow.specs.inner.Listing.{entries_in}
@@ -8,10 +7,10 @@ use Rattle.use_flow.proofs.held.Tables.new.Goals as goal
 
 pub returns-clause-made : goal.returns-clause-made
 returns-clause-made c =
-    tables_made (tree_of c.args.core.now) c.in_ok-reached.reached.items c.in_ok-contexts.contexts.items c.as_slice-4.result.now
+    tables_made c.args.core.now c.in_ok-reached.reached.items c.in_ok-contexts.contexts.items c.as_slice-4.result.now
     c.in_ok-tables.tables
-    (c.in_ok-contexts.ensures ∙ ap (contexts_in (tree_of c.args.core.now)) c.as_slice.ensures.value)
-    (c.as_slice-4.ensures.items ∙ c.in_ok-entries.ensures ∙ ap (entries_in (tree_of c.args.core.now)) c.as_slice-3.ensures.items)
+    (c.in_ok-contexts.ensures ∙ ap (contexts_in c.args.core.now) c.as_slice.ensures.value)
+    (c.as_slice-4.ensures.items ∙ c.in_ok-entries.ensures ∙ ap (entries_in c.args.core.now) c.as_slice-3.ensures.items)
     c.in_ok-tables.ensures.reached c.in_ok-tables.ensures.held c.in_ok-numbers.numbers.keys
     c.in_ok-reached.ensures.proper c.in_ok-reached.ensures.reached
     (λ a. c.in_ok-numbers.ensures (subst AreApart (sym c.as_slice-2.ensures.items) a) ∙ c.as_slice-2.ensures.items)
@@ -19,8 +18,8 @@ returns-clause-made c =
 
 pub returns-clause-start : goal.returns-clause-start
 returns-clause-start c =
-    tables_start (tree_of c.args.core.now) c.in_ok-reached.reached.items c.in_ok-contexts.contexts.items c.as_slice-4.result.now
+    tables_start c.args.core.now c.in_ok-reached.reached.items c.in_ok-contexts.contexts.items c.as_slice-4.result.now
     c.in_ok-tables.tables
-    (c.in_ok-contexts.ensures ∙ ap (contexts_in (tree_of c.args.core.now)) c.as_slice.ensures.value)
-    (c.as_slice-4.ensures.items ∙ c.in_ok-entries.ensures ∙ ap (entries_in (tree_of c.args.core.now)) c.as_slice-3.ensures.items)
+    (c.in_ok-contexts.ensures ∙ ap (contexts_in c.args.core.now) c.as_slice.ensures.value)
+    (c.as_slice-4.ensures.items ∙ c.in_ok-entries.ensures ∙ ap (entries_in c.args.core.now) c.as_slice-3.ensures.items)
     c.in_ok-tables.ensures.reached c.in_ok-tables.ensures.held

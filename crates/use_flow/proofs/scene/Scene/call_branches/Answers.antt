@@ -12,5 +12,5 @@ returns-clause-nows c =
     called_nows (seen c.args.self.now) (call_of c.args.call) c.args.sets (log_of c.args.log.now) (log_of c.eval_all-2.new.log)
     c.in_ok-led.led c.in_ok-args-2.args
     (method_of c.in-Some.called.now) (map (λ s. s.ty) c.params_of.result.now)
-    (sym c.method_at.ensures ∙ ap (option_map (λ m. method_of m.now)) c.in-Some.is) c.params_of.ensures
+    (sym c.method_at.ensures.method ∙ ap (option_map (λ m. method_of m.now)) c.in-Some.is) c.params_of.ensures
     c.in_ok-args-2.ensures c.in_ok-led.ensures.nows
