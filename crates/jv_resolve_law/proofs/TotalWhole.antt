@@ -1,6 +1,6 @@
 -- A well typed program is resolved.
 use Rattle.std.proofs.Common.{◌≡◌, ℕ, zero, suc, List, [], ◌∷◌, map, Option, Some, None, option_map, option_and_then, slice_get, Contains}
-use Rattle.std.proofs.Common.{refl, ap, ◌∙◌, subst}
+use Rattle.std.proofs.Common.{ap, ◌∙◌, subst}
 use Rattle.mg_text.specs.Call.{Name}
 use Rattle.mg_read.specs.First.{Clean}
 use Rattle.ts_tree.specs.Proper.{AreDistinct}
@@ -31,7 +31,7 @@ use Rattle.jv_resolve_law.proofs.Tabled.{IsTabled, tabled}
 use Rattle.jv_resolve_law.proofs.Given.{Holds, Stands}
 use Rattle.jv_resolve_law.proofs.Classes.{ClassesMade, classes_made}
 use Rattle.jv_resolve_law.proofs.Methods.{standing}
-use Rattle.jv_resolve_law.proofs.Whole.{own_named, EntryAt, all_of}
+use Rattle.jv_resolve_law.proofs.Whole.{EntryAt, stands_entered, all_of}
 use Rattle.jv_resolve_law.proofs.Total.{given_bind, given_some, type_given}
 use Rattle.jv_resolve_law.proofs.TotalExpressions.{AreMeant}
 use Rattle.jv_resolve_law.proofs.TotalMembers.{enums_given, tables_given, FieldFine, classes_given, MethodFine, methods_given}
@@ -149,15 +149,7 @@ module _ (program : Program) (well : IsWellTyped program) (assigns : OnlyVariabl
 
     stand : (e : Entry) → EntryAt program tables e → (m : Source.Method) (k : Core.Method) → k.class ≡ e.number →
         Stands core tables k (entered program e.class m) (standing e m)
-    stand e i m k same = record {
-      tabled = t;
-      number = i.number;
-      entry = i.is;
-      class = refl;
-      named = own_named program apart i.number e.class i.is.at;
-      static = refl;
-      holds = holds e i m k same;
-    }
+    stand e i m k same = stands_entered program tables core t apart e i m k (holds e i m k same)
 
     methods_there : methods tables cs.names tables.classes ≡ None → ⊥
     methods_there =

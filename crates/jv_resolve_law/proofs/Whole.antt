@@ -56,6 +56,20 @@ pub record EntryAt (program : Program) (tables : Tables) (e : Entry) : Type 0 wh
   pub at : slice_get tables.classes number ≡ Some e
   pub is : IsEntry program number e
 
+-- a method of an entry stands, where the fields and results are known that it may mention
+pub stands_entered : (program : Program) (tables : Tables) (core : Core.Program) → IsTabled program tables →
+    AreDistinct (map (λ c. c.name) (classes_of program.files)) → (e : Entry) → EntryAt program tables e → (m : Source.Method)
+    (k : Core.Method) → Holds program core tables (standing e m) k → Stands core tables k (entered program e.class m) (standing e m)
+stands_entered program tables core t apart e i m k holds = record {
+  tabled = t;
+  number = i.number;
+  entry = i.is;
+  class = refl;
+  named = own_named program apart i.number e.class i.is.at;
+  static = refl;
+  holds = holds;
+}
+
 pub all_of : {A : Type 0} {P : A → Type 0} (xs : List A) → ((n : ℕ) (x : A) → slice_get xs n ≡ Some x → P x) → AllByRecursion P xs
 all_of [] f = tt
 all_of (x ∷ xs) f = (f zero x refl, all_of xs (λ n y at. f (suc n) y at))
@@ -175,15 +189,7 @@ module _ (program : Program) (whole : Core.Program) (p : Parts program whole) (t
 
   stand : (e : Entry) → EntryAt program p.tables e → (m : Source.Method) (k : Core.Method) → k.class ≡ e.number →
       Stands K p.tables k (entered program e.class m) (standing e m)
-  stand e i m k same = record {
-    tabled = t;
-    number = i.number;
-    entry = i.is;
-    class = refl;
-    named = own_named program apart i.number e.class i.is.at;
-    static = refl;
-    holds = holds e i m k same;
-  }
+  stand e i m k same = stands_entered program p.tables K t apart e i m k (holds e i m k same)
 
   made : Made program p.tables K stand (owned_in p.tables.classes) p.cs.names p.ms
   made = all_made program p.tables K stand p.tables.classes
