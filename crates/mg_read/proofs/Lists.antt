@@ -1,9 +1,23 @@
 -- What a loop reads is a list of what its body reads, and the other way round.
 use Rattle.std.proofs.Common.{◌≡◌, ℕ, zero, suc, ◌<◌, List, [], ◌∷◌, ◌++◌, length, Bool, true, false, Some, refl, sym, ap, ◌∙◌, subst}
 use Rattle.std.proofs.Common.{append_assoc, length-append, arith, inl, inr}
+use Rattle.std.specs.List.{AllByRecursion}
 use Rattle.mg_read.specs.Reader.{Reader, ◌>>=◌, many, all_of}
 pub use Rattle.mg_read.specs.Each.{Each}
 use Rattle.mg_read.proofs.Steps.{bind_some, some_is, none_is_not, chosen, Takes}
+
+-- what holds of the elements of two lists, and of those of both in a row
+pub all_both : {A : Type 0} (P : A → Type 0) (xs ys : List A) → AllByRecursion P xs → AllByRecursion P ys → AllByRecursion P (xs ++ ys)
+all_both P [] ys h g = g
+all_both P (x ∷ xs) ys h g = (h.0, all_both P xs ys h.1 g)
+
+pub all_front : {A : Type 0} (P : A → Type 0) (xs ys : List A) → AllByRecursion P (xs ++ ys) → AllByRecursion P xs
+all_front P [] ys h = tt
+all_front P (x ∷ xs) ys h = (h.0, all_front P xs ys h.1)
+
+pub all_back : {A : Type 0} (P : A → Type 0) (xs ys : List A) → AllByRecursion P (xs ++ ys) → AllByRecursion P ys
+all_back P [] ys h = h
+all_back P (x ∷ xs) ys h = all_back P xs ys h.1
 
 -- f reads what G spells, where ok holds of what follows, and nothing else
 pub record IsExact {T A : Type 0} (f : Reader T A) (G : A → List T → Type 0) (ok : List T → Type 0) : Type 0 where

@@ -1,11 +1,12 @@
 -- The words that a printed protocol has.
-use Rattle.std.proofs.Common.{◌≡◌, ℕ, List, [], ◌∷◌, length, Bool, true, false, ◌&&◌, refl, ap, codes, arith, true≢false, sym}
+use Rattle.std.proofs.Common.{◌≡◌, length, true, refl, ap, codes, arith}
 use Rattle.std.proofs.lemmas.Bool.Decides.{nat_tests}
 use Rattle.std.specs.Prelude.{nat_lt}
 use Rattle.mg_text.specs.Call.{Name}
 use Rattle.mg_text.specs.declared.place.Place.{Place}
-use Rattle.mg_read.specs.Letters.{is_name_start, is_name_byte}
-use Rattle.mg_read.specs.Passes.{AllPasses, StartsWith}
+use Rattle.mg_read.specs.Letters.{is_name_start}
+use Rattle.mg_read.specs.Passes.{StartsWith}
+use Rattle.mg_read.proofs.Plain.{all_of, all_pass}
 use Rattle.scr_tree.specs.declared.token.Mark.TheVariants as marks
 use Rattle.scr_tree.specs.declared.syntax.Direction.{Direction}
 use Rattle.scr_tree.specs.declared.syntax.Direction.TheVariants as directions
@@ -21,19 +22,6 @@ use Rattle.scr_back.proofs.Told.{IsToken, supported}
 -- a name
 pub naming : (w : Name) → IsName w → IsToken w (λ a. named a w)
 naming w h = record { starts = h.starts; bytes = h.bytes; short = h.short; token = λ p. ap (word_tok p w) h.free; used = λ p c x. x }
-
-all_of : List ℕ → Bool
-all_of [] = true
-all_of (c ∷ cs) = is_name_byte c && all_of cs
-
-split : (a b : Bool) → (a && b) ≡ true → (a ≡ true) × (b ≡ true)
-split true b e = (refl, e)
-split false b e = absurd (true≢false (sym e))
-
-all_pass : (cs : List ℕ) → all_of cs ≡ true → AllPasses is_name_byte cs
-unfolding all_of
-all_pass [] e = tt
-all_pass (c ∷ cs) e = let h = split (is_name_byte c) (all_of cs) e in (h.0, all_pass cs h.1)
 
 -- a word of letters, of this length
 spelled : (w : Name) (tok : Place → Tok) → StartsWith is_name_start w → all_of w ≡ true → nat_lt (length w) 256 ≡ true →

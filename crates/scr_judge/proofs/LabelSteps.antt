@@ -4,14 +4,15 @@ use Rattle.std.specs.Option.{option_or}
 use Rattle.std.proofs.lemmas.Grind.{common_steps}
 use Rattle.mg_text.specs.Call.{Name}
 use Rattle.mg_text.specs.Row.{Row}
-use Rattle.scr_tree.specs.declared.syntax.Message.{Message}
 use Rattle.scr_tree.specs.declared.syntax.Statement.{Statement}
 use Rattle.scr_tree.specs.declared.syntax.Statement.TheVariants as kinds
 use Rattle.scr_tree.specs.Tree.{Statements, Nothing, Says, Choice, Rec, Continue, Do}
 use Rattle.scr_tree.specs.View.{front, statements}
 use Rattle.scr_tree.proofs.ViewLemmas.{front-Message, front-Choice, front-Rec, front-Continue, front-Do}
+use Rattle.scr_tree.proofs.Said.{said-Message, said-Choice, said-Rec, said-Continue, said-Do}
 use Rattle.mg_read.specs.Culprit.{Culprit}
-use Rattle.scr_judge.specs.inner.Finding.{same, same_in, first_said, head_of, with_key, head_fault, with_head}
+use Rattle.scr_tree.specs.Said.{first_said}
+use Rattle.scr_judge.specs.inner.Finding.{same, same_in, head_of, with_key, head_fault, with_head}
 use Rattle.scr_judge.specs.inner.Seen.{Names, none}
 use Rattle.scr_tree.specs.View.{bodies}
 use Rattle.scr_judge.proofs.Walks.{or_none}
@@ -76,21 +77,6 @@ same_in-step me at has bs i x within is =
     ap (same_in me at has) (bodies-step bs i x within is)
     ∙ (λ j. option_or (head-is me at has (statements x.items) j)
     (option_or (same me (statements x.items)) (same_in me at (key-is me at has (statements x.items) j) (bodies (drop (i + 1) bs)))))
-
-pub said-Message : (m : Message) (rest : Statements) → first_said (front (kinds.Message m) rest) ≡ Some m
-said-Message m rest = ap (λ f. first_said (f rest)) (front-Message m)
-
-pub said-Choice : (p : _) (at : Name) (bs : Row (Row Statement)) (rest : Statements) → first_said (front (kinds.Choice p at bs) rest) ≡ None
-said-Choice p at bs rest = ap (λ f. first_said (f rest)) (front-Choice p at bs)
-
-pub said-Rec : (p : _) (name : Name) (body : Row Statement) (rest : Statements) → first_said (front (kinds.Rec p name body) rest) ≡ None
-said-Rec p name body rest = ap (λ f. first_said (f rest)) (front-Rec p name body)
-
-pub said-Continue : (p : _) (name : Name) (rest : Statements) → first_said (front (kinds.Continue p name) rest) ≡ None
-said-Continue p name rest = ap (λ f. first_said (f rest)) (front-Continue p name)
-
-pub said-Do : (p : _) (name : Name) (rest : Statements) → first_said (front (kinds.Do p name) rest) ≡ None
-said-Do p name rest = ap (λ f. first_said (f rest)) (front-Do p name)
 
 pub ruleset first_saids = (common_steps, said-Message, said-Choice, said-Rec, said-Continue, said-Do)
 

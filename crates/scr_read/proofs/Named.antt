@@ -7,6 +7,7 @@ use Rattle.mg_text.specs.declared.place.Place.{Place}
 use Rattle.mg_read.specs.Each.{Each}
 use Rattle.mg_read.specs.Passes.{AllPasses, StartsWith}
 use Rattle.mg_read.specs.Pieces.{Piece, blank, line, block, word, quote, sign, spell, Cut, tokens_from}
+use Rattle.mg_read.proofs.Lists.{all_both, all_front, all_back}
 use Rattle.scr_tree.specs.declared.token.Mark.{Mark}
 use Rattle.scr_tree.specs.declared.token.Mark.TheVariants as marks
 use Rattle.scr_tree.specs.declared.written.Declaration.{Declaration}
@@ -18,7 +19,7 @@ use Rattle.scr_tree.specs.Valid.{IsWrittenPart, IsWritten, AreWritten, AreWritte
 use Rattle.scr_tree.specs.Written.{WrittenPart, WrittenTree, role_name, roles_in, part_meant, local_of}
 use Rattle.scr_lex.specs.Pieces.{scribble, word_tok, sign_toks, tok_said, AreTokens}
 use Rattle.scr_parse.specs.Grammar.{Behind, Before, Listed, IsRole, IsMyself, IsAtHeader, IsSelfHeader, direction_mark, IsBraced}
-use Rattle.scr_parse.specs.Grammar.{AreStatements, AreBranches, AreOthers, Note, IsLocal, IsFile, IsShallow}
+use Rattle.scr_parse.specs.Grammar.{AreStatements, AreBranches, AreOthers, Note, IsLocal, IsShallow}
 use Rattle.scr_read.specs.Spelling.{Spells}
 
 -- each name among tokens is one
@@ -28,20 +29,13 @@ IsNamed (quoted place name) = Unit {0}
 IsNamed (marked place mark) = Unit {0}
 
 abbrev pub AreNamed : List Tok → Type 0
-AreNamed [] = Unit {0}
-AreNamed (t ∷ ts) = IsNamed t × AreNamed ts
-
-named-append : (ts us : List Tok) → AreNamed ts → AreNamed us → AreNamed (ts ++ us)
-named-append [] us h g = g
-named-append (t ∷ ts) us h g = (h.0, named-append ts us h.1 g)
+AreNamed = AllByRecursion IsNamed
 
 pub in_front : (ts us : List Tok) → AreNamed (ts ++ us) → AreNamed ts
-in_front [] us h = tt
-in_front (t ∷ ts) us h = (h.0, in_front ts us h.1)
+in_front = all_front IsNamed
 
 pub in_back : (ts us : List Tok) → AreNamed (ts ++ us) → AreNamed us
-in_back [] us h = h
-in_back (t ∷ ts) us h = in_back ts us h.1
+in_back = all_back IsNamed
 
 -- ---- tokens
 
@@ -65,11 +59,11 @@ pieces_named place (block body ∷ ps) bytes rest (after, e, may, cut) = pieces_
 pieces_named place (quote body ∷ ps) bytes rest (after, e, may, cut) =
     (tt, pieces_named (place_after place (spell (quote body))) ps after rest cut)
 pieces_named place (word text ∷ ps) bytes rest (after, e, (starts, passes, stops, short), cut) =
-    named-append (word_tok place text (reserved text) ∷ []) (tokens_from tok_said (place_after place text) ps)
+    all_both IsNamed (word_tok place text (reserved text) ∷ []) (tokens_from tok_said (place_after place text) ps)
     (word_named place text (reserved text) refl starts passes short) (pieces_named (place_after place
     (spell (word text))) ps after rest cut)
 pieces_named place (sign c ∷ ps) bytes rest (after, e, may, cut) =
-    named-append (sign_toks place (sign_of c)) (tokens_from tok_said (place_after place (spell (sign c))) ps)
+    all_both IsNamed (sign_toks place (sign_of c)) (tokens_from tok_said (place_after place (spell (sign c))) ps)
     (sign_named place (sign_of c)) (pieces_named (place_after place (spell (sign c))) ps after rest cut)
 
 pub tokens_named : (file : ℕ) (ts : List Tok) (bytes : List ℕ) → AreTokens file ts bytes → AreNamed ts

@@ -25,6 +25,16 @@ keeps_more xs ys zs a b = record {
   same = λ j h. b.same j (let l = a.longer in omega arith) ∙ a.same j h;
 }
 
+-- what is final from the first entry on is final behind it, when the first entry is set
+pub final_behind : (total v o x u : List ℕ) (c first : ℕ) → o ≡ v ++ 0 ∷ [] → u ≡ slice_set x (length v) c → first ≤ length v →
+    ((j : ℕ) → first ≤ j → j < length u → get_or total j 0 ≡ get_or u j 0) → (j : ℕ) → length o ≤ j → j < length x →
+    get_or total j 0 ≡ get_or x j 0
+final_behind total v o x u c first opens sets longer final j l h =
+    let n = ap length opens ∙ length-append v (0 ∷ []) in
+    let m : length u ≡ length x = ap length sets ∙ length-set x (length v) c in
+    final j (omega arith) (omega arith) ∙ ap (λ ls. get_or ls j 0) sets ∙ get_or-set_other x (length v) j c 0
+    (λ e. let z : ⊥ = omega arith in z)
+
 keeps_front : (xs ys : List ℕ) → Keeps xs (xs ++ ys)
 keeps_front xs ys = record { longer = omega (arith, length-append xs ys); same = λ j h. get_or_append_left xs ys 0 j h }
 

@@ -8,6 +8,7 @@ pub mod Traces
 pub mod Meaning
 pub mod Words
 pub mod Written
+pub mod Said
 pub mod Spots
 pub mod Control
 pub mod Conditions

@@ -1,5 +1,5 @@
 -- What a statement does alone, and with those behind it.
-use Rattle.std.proofs.Common.{◌≡◌, ℕ, ◌+◌, ◌<◌, ◌≤◌, get_or, drop, length, map, Bool, List, [], ◌∷◌, ◌++◌, Some, None, refl, sym, ap, ◌∙◌}
+use Rattle.std.proofs.Common.{◌≡◌, ℕ, ◌+◌, ◌<◌, ◌≤◌, get_or, drop, length, map, Bool, List, [], ◌∷◌, ◌++◌, refl, sym, ap, ◌∙◌}
 use Rattle.std.proofs.Common.{append_assoc}
 use Rattle.std.specs.Str.{bytes_eq}
 use Rattle.std.proofs.lemmas.List.{append-nil, at_drop_more, at_drop_all}
@@ -15,6 +15,7 @@ use Rattle.scr_tree.specs.View.{front, statements, bodies, part_of}
 use Rattle.scr_tree.specs.Meaning.{message_of}
 use Rattle.scr_tree.specs.Actions.{next, next_in, opened}
 use Rattle.scr_tree.proofs.ViewLemmas.{front-Message, front-Choice, front-Rec, front-Continue, front-Do}
+use Rattle.scr_tree.proofs.Said.{said-Message, said-Choice, said-Rec, said-Continue, said-Do}
 use Rattle.scr_tree.proofs.Behind.{each_front, statements-step, statements-past, bodies-step, bodies-past}
 use Rattle.stm_api.specs.Doings.{Doing, Passes}
 use Rattle.stm_api.specs.inner.Does.{does, does_in, all_does, part_body, look_unless, first_said, label_before, labels_in}
@@ -73,22 +74,6 @@ module _ (me : Name) (n : ℕ) where
 pub labels-step : (bs : List (Row Statement)) (i : ℕ) (x : Row Statement) → i < length bs → x ≡ get_or bs i x →
     labels_in (bodies (drop i bs)) ≡ label_before (first_said (statements x.items)) (labels_in (bodies (drop (i + 1) bs)))
 labels-step bs i x within is = ap labels_in (bodies-step bs i x within is)
-
--- the message that statements begin with
-pub said-Message : (m : Message) (rest : Statements) → first_said (front (kinds.Message m) rest) ≡ Some m
-said-Message m rest = ap (λ f. first_said (f rest)) (front-Message m)
-
-pub said-Choice : (p : _) (at : Name) (bs : Row (Row Statement)) (rest : Statements) → first_said (front (kinds.Choice p at bs) rest) ≡ None
-said-Choice p at bs rest = ap (λ f. first_said (f rest)) (front-Choice p at bs)
-
-pub said-Rec : (p : _) (name : Name) (body : Row Statement) (rest : Statements) → first_said (front (kinds.Rec p name body) rest) ≡ None
-said-Rec p name body rest = ap (λ f. first_said (f rest)) (front-Rec p name body)
-
-pub said-Continue : (p : _) (name : Name) (rest : Statements) → first_said (front (kinds.Continue p name) rest) ≡ None
-said-Continue p name rest = ap (λ f. first_said (f rest)) (front-Continue p name)
-
-pub said-Do : (p : _) (name : Name) (rest : Statements) → first_said (front (kinds.Do p name) rest) ≡ None
-said-Do p name rest = ap (λ f. first_said (f rest)) (front-Do p name)
 
 pub ruleset firsts = (common_steps, said-Message, said-Choice, said-Rec, said-Continue, said-Do)
 

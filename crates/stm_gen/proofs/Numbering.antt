@@ -3,7 +3,7 @@ use Rattle.std.proofs.Common.{◌≡◌, ℕ, suc, ◌+◌, ◌-◌, ◌<◌, �
 use Rattle.std.proofs.Common.{subst, inr, ⊎_elim, Bool, true, false, if◌then◌else◌, arith, append_assoc}
 use Rattle.std.specs.Prelude.{slice_set, Option}
 use Rattle.std.specs.Str.{bytes_eq}
-use Rattle.std.proofs.lemmas.List.{append-nil, length-append, get_or-set_same, get_or-set_other, length-set}
+use Rattle.std.proofs.lemmas.List.{append-nil, length-append, get_or-set_same, length-set}
 use Rattle.std.proofs.lemmas.Slice.Eq.{bytes_eq-Decides}
 use Rattle.mg_text.specs.Call.{Name}
 use Rattle.scr_tree.specs.declared.syntax.Message.{Message as Said}
@@ -24,6 +24,7 @@ use Rattle.scr_trace.specs.inner.Laying.{number_in, turned, said, opened, closed
 use Rattle.scr_trace.specs.inner.View.{standing_of, act_of, edge_of, edges_of, graph_of_work}
 use Rattle.scr_trace.proofs.Parts
 use Rattle.scr_trace.proofs.Growing.{Keeps, keeps_all, keeps_more, keeps, keeps_in, keeps_branch, keeps_chosen, keeps_rec, number_within}
+use Rattle.scr_trace.proofs.Growing.{final_behind}
 use Rattle.scr_trace.proofs.Counting.{numbers, numbers_in}
 use Rattle.scr_trace.proofs.Rules.{is_among, Sound, SoundIn, SoundFirst}
 use Rattle.scr_trace.proofs.Begins.{Begins, at_first, through, back, begins}
@@ -133,11 +134,8 @@ module _ (me : Name) (parts : Name → Option ℕ) (protocols : List Name) (tota
   final_body : (v o x u w : Work) → o.loops ≡ v.loops ++ 0 ∷ [] → u.loops ≡ slice_set x.loops (length v.loops) (length x.cells) →
       length w.loops ≤ length v.loops → Final w u → Final o x
   unfolding Final
-  final_body v o x u w opens loops longer final j l h =
-      let n = ap length opens ∙ length-append v.loops (0 ∷ []) in
-      let m : length u.loops ≡ length x.loops = ap length loops ∙ length-set x.loops (length v.loops) (length x.cells) in
-      final j (omega arith) (omega arith) ∙ ap (λ ls. get_or ls j 0) loops ∙ get_or-set_other x.loops (length v.loops) j (length x.cells) 0
-      (λ e. let z : ⊥ = omega arith in z)
+  final_body v o x u w opens loops longer =
+      final_behind total.loops v.loops o.loops x.loops u.loops (length x.cells) (length w.loops) opens loops longer
 
   -- where every `continue` leads
   abbrev AllReturn : List Name → List Known → List Start → Type 0

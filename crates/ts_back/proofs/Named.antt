@@ -11,6 +11,7 @@ use Rattle.mg_read.specs.Each.{Each}
 use Rattle.mg_read.specs.Passes.{AllPasses, StartsWith}
 use Rattle.mg_read.specs.Letters.{is_name_start, is_name_byte}
 use Rattle.mg_read.specs.Pieces.{Piece, blank, line, block, word, quote, sign, spell, Cut, tokens_from}
+use Rattle.mg_read.proofs.Lists.{all_both, all_front, all_back}
 use Rattle.mg_read.proofs.Steps.{some_is}
 use Rattle.ts_tree.specs.declared.parts.TypeName.{TypeName}
 use Rattle.ts_tree.specs.declared.parts.TypeName.TheVariants as types
@@ -62,20 +63,13 @@ IsNamed (named place name) = IsName name
 IsNamed (marked place mark) = Unit {0}
 
 abbrev AreNamed : List Tok → Type 0
-AreNamed [] = Unit {0}
-AreNamed (t ∷ ts) = IsNamed t × AreNamed ts
-
-named-append : (ts us : List Tok) → AreNamed ts → AreNamed us → AreNamed (ts ++ us)
-named-append [] us h g = g
-named-append (t ∷ ts) us h g = (h.0, named-append ts us h.1 g)
+AreNamed = AllByRecursion IsNamed
 
 in_front : (ts us : List Tok) → AreNamed (ts ++ us) → AreNamed ts
-in_front [] us h = tt
-in_front (t ∷ ts) us h = (h.0, in_front ts us h.1)
+in_front = all_front IsNamed
 
 in_back : (ts us : List Tok) → AreNamed (ts ++ us) → AreNamed us
-in_back [] us h = h
-in_back (t ∷ ts) us h = in_back ts us h.1
+in_back = all_back IsNamed
 
 word_named : (place : Place) (text : Name) (mark : Option Mark) → reserved text ≡ mark → StartsWith is_name_start text
     → AllPasses is_name_byte text → length text ≤ 255
@@ -97,11 +91,11 @@ pieces_named place (block body ∷ ps) bytes rest (after, e, may, cut) =
 pieces_named place (quote body ∷ ps) bytes rest (after, e, may, cut) =
     pieces_named (place_after place (spell (quote body))) ps after rest cut
 pieces_named place (word text ∷ ps) bytes rest (after, e, (starts, passes, stops, short), cut) =
-    named-append (word_tok place text (reserved text) ∷ []) (tokens_from tok_said (place_after place text) ps)
+    all_both IsNamed (word_tok place text (reserved text) ∷ []) (tokens_from tok_said (place_after place text) ps)
     (word_named place text (reserved text) refl starts passes short)
     (pieces_named (place_after place (spell (word text))) ps after rest cut)
 pieces_named place (sign c ∷ ps) bytes rest (after, e, may, cut) =
-    named-append (sign_toks place (sign_of c)) (tokens_from tok_said (place_after place (spell (sign c))) ps)
+    all_both IsNamed (sign_toks place (sign_of c)) (tokens_from tok_said (place_after place (spell (sign c))) ps)
     (sign_named place (sign_of c)) (pieces_named (place_after place (spell (sign c))) ps after rest cut)
 
 tokens_named : (file : ℕ) (ts : List Tok) (bytes : List ℕ) → AreTokens file ts bytes → AreNamed ts

@@ -1,49 +1,21 @@
 -- Texts that are cut into pieces, with what their tokens are, wherever they stand.
-use Rattle.std.proofs.Common.{◌≡◌, ℕ, ◌<◌, ◌≤◌, List, [], ◌∷◌, ◌++◌, length, Bool, true, false, ◌&&◌, Some, None, refl, sym, ap, subst, ◌∙◌}
-use Rattle.std.proofs.Common.{append_assoc, arith, codes, true≢false}
+use Rattle.std.proofs.Common.{◌≡◌, ℕ, ◌<◌, ◌≤◌, List, [], ◌∷◌, ◌++◌, length, true, Some, None, refl, sym, ap, subst, ◌∙◌}
+use Rattle.std.proofs.Common.{append_assoc, arith, codes}
 use Rattle.std.specs.Prelude.{nat_lt}
-use Rattle.std.specs.Str.{IsAscii}
 use Rattle.std.proofs.lemmas.List.{append-nil}
 use Rattle.std.proofs.lemmas.Bool.Decides.{nat_tests}
 use Rattle.std.proofs.lemmas.Str.{IsUtf8-from_ascii}
-use Rattle.std.proofs.lemmas.Str.Ascii.{IsAscii-nil, IsAscii-cons}
 use Rattle.mg_text.specs.Call.{Name}
 use Rattle.mg_text.specs.Places.{start_of, place_after}
 use Rattle.mg_text.specs.declared.place.Place.{Place}
 use Rattle.mg_read.specs.Letters.{is_blank, is_name_start, is_name_byte}
-use Rattle.mg_read.specs.Passes.{AllPasses, StopsAt, StartsWith}
+use Rattle.mg_read.specs.Passes.{AllPasses, StartsWith}
 use Rattle.mg_read.specs.Pieces.{Piece, blank, word, sign, Cut, is_sign, tokens_from}
+pub use Rattle.mg_read.proofs.Plain.{Any, NoName}
+use Rattle.mg_read.proofs.Plain.{AreLow, none, more, low-append, low-ascii, low-name, all_of, all_pass}
 use Rattle.ts_parse.specs.declared.token.Mark.{Mark}
 use Rattle.ts_parse.specs.declared.token.Mark.TheVariants as marks
 use Rattle.ts_parse.specs.Tok.{Tok, named, marked, reserved, sign_of, typestates, word_tok, sign_toks, tok_said, AreTokens}
-
--- nothing is asked of what follows
-abbrev pub Any : List ℕ → Type 0
-Any bytes = Unit {0}
-
--- what follows begins with no byte of a name
-abbrev pub NoName : List ℕ → Type 0
-NoName = StopsAt is_name_byte
-
--- each byte is ASCII
-pub data AreLow : List ℕ → Type 0 where
-  none : AreLow []
-  more : {c : ℕ} {cs : List ℕ} → c < 128 → AreLow cs → AreLow (c ∷ cs)
-
-low-append : {a b : List ℕ} → AreLow a → AreLow b → AreLow (a ++ b)
-low-append none h = h
-low-append (more l g) h = more l (low-append g h)
-
-low-ascii : {a : List ℕ} → AreLow a → IsAscii a
-low-ascii none = IsAscii-nil
-low-ascii (more {c = c} {cs = cs} l h) = IsAscii-cons c cs l (low-ascii h)
-
-low-name : (a : List ℕ) → AllPasses is_name_byte a → AreLow a
-low-name [] h = none
-low-name (c ∷ cs) h = more (below c h.0) (low-name cs h.1)
-  where
-    below : (c : ℕ) → is_name_byte c ≡ true → c < 128
-    below c h = grind (arith, nat_tests)
 
 -- the tokens of pieces that stand at a place: some that P holds of, and then those of the pieces qs
 pub record Tokens (P : List Tok → Type 0) (qs : List Piece) (p : Place) (ps : List Piece) : Type 0 where
@@ -177,19 +149,6 @@ pub name_told : (w : Name) → IsName w → Told NoName (λ ts. (a : Place) × (
 name_told w is =
     regroup (sym (append-nil w))
     (convert (λ ts h. (h.0, h.2 ∙ ap (λ us. named h.0 w ∷ us) h.3)) (name_then w is (λ bytes o. o) nothing))
-
-all_of : List ℕ → Bool
-all_of [] = true
-all_of (c ∷ cs) = is_name_byte c && all_of cs
-
-split : (a b : Bool) → (a && b) ≡ true → (a ≡ true) × (b ≡ true)
-split true b e = (refl, e)
-split false b e = absurd (true≢false (sym e))
-
-all_pass : (cs : List ℕ) → all_of cs ≡ true → AllPasses is_name_byte cs
-unfolding all_of
-all_pass [] e = tt
-all_pass (c ∷ cs) e = let h = split (is_name_byte c) (all_of cs) e in (h.0, all_pass cs h.1)
 
 short_of : (w : Name) → nat_lt (length w) 256 ≡ true → length w ≤ 255
 short_of w e = grind (arith, nat_tests)

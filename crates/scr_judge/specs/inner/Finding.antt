@@ -3,6 +3,7 @@ use Rattle.std.specs.Prelude.{Bool, if◌then◌else◌, List, [], ◌∷◌, Op
 use Rattle.std.specs.Option.{option_or}
 use Rattle.mg_text.specs.Call.{Name}
 use Rattle.scr_tree.specs.Tree.{Statements, Nothing, Says, Choice, Rec, Continue, Do, Branches, NoBranch, Branch}
+pub use Rattle.scr_tree.specs.Said.{first_said}
 use Rattle.mg_read.specs.Culprit.{Culprit, culprit}
 use Rattle.scr_tree.specs.Control.{falls, some_falls, passes, some_passes}
 use Rattle.scr_tree.specs.declared.syntax.Message.{Message}
@@ -84,11 +85,6 @@ abbrev mutual
   same_in me at has NoBranch = None
   same_in me at has (Branch b more) =
       option_or (head_fault me at has b) (option_or (same me b) (same_in me at (with_head me at has b) more))
-
--- the first message of statements that begin with one
-abbrev pub first_said : Statements → Option Message
-first_said (Says m rest) = Some m
-first_said _ = None
 
 abbrev pub head_of : Name → Name → Names → Option Message → Option Culprit
 head_of me at has None = None

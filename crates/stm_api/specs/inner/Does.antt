@@ -5,17 +5,9 @@ use Rattle.mg_text.specs.Call.{Name}
 use Rattle.scr_tree.specs.declared.syntax.Message.{Message as Said}
 use Rattle.scr_tree.specs.Meaning.{message_of}
 use Rattle.scr_tree.specs.Tree.{PartTree, Statements, Nothing, Says, Choice, Rec, Continue, Do, Branches, NoBranch, Branch}
+pub use Rattle.scr_tree.specs.Said.{first_said}
 use Rattle.scr_tree.specs.Actions.{opened, next, next_in}
 use Rattle.stm_api.specs.Doings.{Doing, Passes, Asks, call_of}
-
--- the message that statements begin with
-abbrev pub first_said : Statements → Option Said
-first_said Nothing = None
-first_said (Says m rest) = Some m
-first_said (Choice place at branches rest) = None
-first_said (Rec place name body rest) = None
-first_said (Continue place name rest) = None
-first_said (Do place name rest) = None
 
 abbrev pub peer_in : Branches → Option Name
 peer_in NoBranch = None
