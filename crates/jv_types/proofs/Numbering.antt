@@ -36,7 +36,8 @@ numbers-append names n m (k ∷ cs) c =
     ap (λ xs. numbers n m (number_named names k.typestate) ∷ xs) (numbers-append names (suc n) (m + length k.methods) cs c
     ∙ ap (λ x. numbers_from names (suc n) (m + length k.methods) cs ++ x ∷ [])
     (same_numbers (suc n + length cs) (n + suc (length cs)) ((m + length k.methods) + methods_in cs)
-    (m + (length k.methods + methods_in cs)) (number_named names c.typestate) (behind_next n (length cs)) (sym (grouped m (length k.methods) (methods_in cs)))))
+    (m + (length k.methods + methods_in cs)) (number_named names c.typestate) (behind_next n (length cs))
+    (sym (grouped m (length k.methods) (methods_in cs)))))
 
 methods-append : (cs : List Class) (c : Class) → methods_in (cs ++ c ∷ []) ≡ methods_in cs + length c.methods
 methods-append [] c = before_none (length c.methods)

@@ -47,7 +47,8 @@ pub unmet_judged : (core : Core.Program) (fault : CheckFault) (stop : Stop) → 
     IsStopBy (λ d r. r ≡ demand_refusal core d) (demand_of fault) stop →
     Answers (IsSolved core) (Finds (FailsFirst core) (demand_refusal core)) (Err stop)
 unmet_judged core fault stop f h =
-    stop_refused_by (λ d r. r ≡ demand_refusal core d) (IsSolved core) (Finds (FailsFirst core) (demand_refusal core)) (demand_of fault) stop h
+    stop_refused_by (λ d r. r ≡ demand_refusal core d) (IsSolved core) (Finds (FailsFirst core) (demand_refusal core))
+    (demand_of fault) stop h
     (λ d r told says. (d, fails_first core fault d f told, says))
 
 -- ---- the verdict on files

@@ -1,5 +1,6 @@
 -- What running the roles of class files answers.
-use Rattle.std.proofs.Common.{◌≡◌, ℕ, zero, suc, List, [], ◌∷◌, ◌++◌, Bool, Some, Result, Ok, Err, map, take, drop, get_or, slice_get, ap, ◌∙◌}
+use Rattle.std.proofs.Common.{◌≡◌, ℕ, zero, suc, List, [], ◌∷◌, ◌++◌, Bool, Some, Result, Ok, Err, map, take, drop, get_or, slice_get, ap}
+use Rattle.std.proofs.Common.{◌∙◌}
 use Rattle.std.proofs.lemmas.Option.{get_or_from_slice_get}
 use Rattle.mg_text.specs.Row.{Row}
 use Rattle.mg_read.specs.First.{Judged}
@@ -71,7 +72,8 @@ module _ (files : List Source) (mains : List RoleMain) (order : List ℕ) (limit
   run_none (stops.Refused r) h = at_first h
   run_none stops.Memory h = tt
 
-  pub run_no_main : (program : Program) (number : ℕ) (main : RoleMain) (r : Refusal) → IsProgram files program → IsWithout program mains number →
+  pub run_no_main : (program : Program) (number : ℕ) (main : RoleMain) (r : Refusal) → IsProgram files program →
+      IsWithout program mains number →
       r ≡ no_main (get_or mains number main).class → Runs (Err (stops.Refused r))
   run_no_main program number main r h w is = at_next program h (record {
     front = take number mains;

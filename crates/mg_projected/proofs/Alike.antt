@@ -23,7 +23,8 @@ module _ (file : ℕ) (f g : Refusal) where
   projection_alike : (a : projects.Answer) → InFile file (IsSaidOfProjection a) f → InFile file (IsSaidOfProjection a) g → AreAlike f g
   projection_alike (projects.Protocol local) (s, h, e) told = absurd h
   projection_alike (projects.NotMergeable place role) (s, h, e) (t, k, d) = same_in file f g s t (h ∙ sym k) e d
-  projection_alike (projects.Unprojected place role (scr.Refused condition at word)) (s, h, e) (t, k, d) = same_in file f g s t (h ∙ sym k) e d
+  projection_alike (projects.Unprojected place role (scr.Refused condition at word)) (s, h, e) (t, k, d) =
+      same_in file f g s t (h ∙ sym k) e d
   projection_alike (projects.Unprojected place role (scr.Protocol local)) (s, h, e) told = absurd h
   projection_alike (projects.Unprojected place role (scr.TooLarge at)) (s, h, e) told = absurd h
   projection_alike (projects.Unprojected place role (scr.BadByte at)) (s, h, e) told = absurd h

@@ -112,7 +112,8 @@ not_refused files fs r w f =
     let same : w.source ≡ f.source = source_is w.source f.source (sym w.one ∙ f.one) in
     let there : Outcome f.source.number f.source.bytes (Files fs) = subst (λ (s : Source). Outcome s.number s.bytes (Files fs)) same
     (gives_files files fs w) in
-    (subst (λ (a : Answer). InFile f.source.number (IsSaid a) r) (one_outcome f.source.number f.source.bytes f.answer (Files fs) f.gives there) f.said).1
+    (subst (λ (a : Answer). InFile f.source.number (IsSaid a) r) (one_outcome f.source.number f.source.bytes f.answer
+    (Files fs) f.gives there) f.said).1
 
 module _ (files : List Source) (answer : Result (Row RoleFile) Stop)
     (h : Answers (λ (files' : Row RoleFile). AreWritten files files'.items) (FirstRefusal files) answer) where
@@ -144,4 +145,5 @@ answer_of_one names contents bytes given r n c f g h =
     let name : List ℕ = get_or names 0 [] in
     subst (λ (z : List Source). Answers (λ files. AreWritten z files.items) (FirstRefusal z) r)
     (one_source names contents name bytes n c (same_at names 0 [] name (omega (arith, n))) f)
-    (subst (λ (z : List ℕ). Answers (λ files. AreWritten (written_alone name z) files.items) (FirstRefusal (written_alone name z)) r) g (h name))
+    (subst (λ (z : List ℕ). Answers (λ files. AreWritten (written_alone name z) files.items) (FirstRefusal (written_alone name z)) r) g
+    (h name))

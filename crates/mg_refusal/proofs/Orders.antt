@@ -75,7 +75,8 @@ stop_refused Comes Right First None stops.Memory h go = tt
 
 -- or for which memory may lack
 pub stop_refused_by : {A F : Type 0} (Comes : F → Refusal → Type 0) (Right : A → Type 0) (First : Refusal → Type 0) (told : Option F)
-    (stop : Stop) → IsStopBy Comes told stop → ((f : F) (r : Refusal) → told ≡ Some f → Comes f r → First r) → Answers Right First (Err stop)
+    (stop : Stop) → IsStopBy Comes told stop → ((f : F) (r : Refusal) → told ≡ Some f → Comes f r → First r) →
+    Answers Right First (Err stop)
 stop_refused_by Comes Right First told (stops.Refused r) h go = go h.0 r h.1 h.2
 stop_refused_by Comes Right First told stops.Memory h go = tt
 

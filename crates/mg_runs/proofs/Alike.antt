@@ -28,12 +28,14 @@ first_lacking core (x ∷ front) (y ∷ others) main other rest behind e h g a b
 
 lacks_alike : (core : Core.Program) (mains : List RoleMain) (r q : Refusal) → LacksMain core mains r → LacksMain core mains q → AreAlike r q
 lacks_alike core mains r q h k =
-    let one : h.main ≡ k.main = first_lacking core h.front k.front h.main k.main h.rest k.rest (sym h.parts ∙ k.parts) h.have k.have h.none k.none in
+    let one : h.main ≡ k.main = first_lacking core h.front k.front h.main k.main h.rest k.rest (sym h.parts ∙ k.parts) h.have k.have h.none
+    k.none in
     inl (h.said ∙ ap (λ (m : RoleMain). no_main m.class) one ∙ sym k.said)
 
 pub same_refusal : (files : List Source) (mains : List RoleMain) (r q : Refusal) → FirstRefusal files mains r → FirstRefusal files mains q →
     AreAlike r q
-same_refusal files mains = then_alike (accepted.same_refusal files) (λ r core first a. not_refused files core r a first) (one_accepted files)
+same_refusal files mains = then_alike (accepted.same_refusal files) (λ r core first a. not_refused files core r a first)
+    (one_accepted files)
     (λ core a. then_alike (lacks_alike core mains)
     (λ r done l have. lacks_none core l.front l.main l.rest (subst (HaveMains core) l.parts have) l.none)
     (λ x y h k. refl) (λ done have. excess_alike core))

@@ -69,7 +69,8 @@ module _ (files : List Source) (mains : List RoleMain) (order : List ℕ) (limit
   run_unaccepted (stops.Refused r) h = at_first h
   run_unaccepted stops.Memory h = tt
 
-  pub run_no_main : (core : Core.Program) (number : ℕ) (main : RoleMain) (r : Refusal) → AreAccepted files core → IsWithout core mains number →
+  pub run_no_main : (core : Core.Program) (number : ℕ) (main : RoleMain) (r : Refusal) → AreAccepted files core →
+      IsWithout core mains number →
       r ≡ no_main (get_or mains number main).class → Runs (Err (stops.Refused r))
   run_no_main core number main r a w is = at_next core a (at_first (record {
     front = take number mains;

@@ -61,7 +61,8 @@ module _ (source : Source) where
   -- what is refused isn't read
   pub excludes : (part : Part) (r : Refusal) → Reads source part → Refuses source r → ⊥
   excludes part fault (reading.protocol {local = local} is o) (reading.protocol answer is' o' said) =
-      (subst (λ (a : of_protocols.Answer). InFile source.number (IsSaidOfProtocol (IsIn source) a) fault) (protocols_unique.one_outcome source.number source.bytes answer _
+      (subst (λ (a : of_protocols.Answer). InFile source.number (IsSaidOfProtocol (IsIn source) a) fault)
+      (protocols_unique.one_outcome source.number source.bytes answer _
       o' o) said).1
   excludes part fault (reading.protocol is o) (reading.states answer is' o' said) =
       ends_alike Scribble Typestates source is is' (λ e. differ 114 108 e (λ k. absurd (omega (arith, k))))
@@ -70,7 +71,8 @@ module _ (source : Source) where
   excludes part fault (reading.states is o) (reading.protocol answer is' o' said) =
       ends_alike Typestates Scribble source is is' (λ e. differ 108 114 e (λ k. absurd (omega (arith, k))))
   excludes part fault (reading.states is o) (reading.states answer is' o' said) =
-      (subst (λ (a : of_typestates.Answer). InFile source.number (IsSaidOfTypestate (IsIn source) a) fault) (states_unique.one_outcome source.number source.bytes answer _
+      (subst (λ (a : of_typestates.Answer). InFile source.number (IsSaidOfTypestate (IsIn source) a) fault)
+      (states_unique.one_outcome source.number source.bytes answer _
       o' o) said).1
   excludes part fault (reading.states is o) (reading.classes answer is' o' said) =
       ends_alike Typestates Java source is is' (λ e. differ 108 97 e (λ k. absurd (omega (arith, k))))
@@ -79,7 +81,8 @@ module _ (source : Source) where
   excludes part fault (reading.classes is o) (reading.states answer is' o' said) =
       ends_alike Java Typestates source is is' (λ e. differ 97 108 e (λ k. absurd (omega (arith, k))))
   excludes part fault (reading.classes is o) (reading.classes answer is' o' said) =
-      (subst (λ (a : of_java.Answer). InFile source.number (IsSaidOfJava (IsIn source) a) fault) (classes_unique.one_outcome source.number source.bytes answer _ o' o) said).1
+      (subst (λ (a : of_java.Answer). InFile source.number (IsSaidOfJava (IsIn source) a) fault)
+      (classes_unique.one_outcome source.number source.bytes answer _ o' o) said).1
 
   -- a local protocol is neither a typestate nor classes
   pub no_states : (typestate : Typestate) → IsOf Scribble source → Reads source (States typestate) → ⊥
@@ -170,5 +173,6 @@ module _ (source : Source) where
   alike f g (reading.classes a is o said) (reading.states b is' o' told) =
       ends_alike Java Typestates source is is' (λ e. differ 97 108 e (λ k. absurd (omega (arith, k))))
   alike f g (reading.classes a is o said) (reading.classes b is' o' told) =
-      said_classes b f g (subst (λ (x : of_java.Answer). InFile source.number (IsSaidOfJava (IsIn source) x) f) (classes_unique.one_outcome source.number source.bytes a b
+      said_classes b f g (subst (λ (x : of_java.Answer). InFile source.number (IsSaidOfJava (IsIn source) x) f)
+      (classes_unique.one_outcome source.number source.bytes a b
       o o') said) told

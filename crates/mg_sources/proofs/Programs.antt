@@ -32,14 +32,17 @@ use Rattle.mg_sources.proofs.Together.{spelled_from, not_both, one_program}
 -- ---- the ways out
 
 module _ (files : List Source) (stop : Stop) (answer : Result KeptSources Stop) (is : answer ≡ Err stop) where
-  pub parts_failed : Answers (λ (parts : Row KeptPart). EachSpells files (map part_of parts.items)) (λ r. Judged Refuses files (Some r)) (Err stop) →
+  pub parts_failed : Answers (λ (parts : Row KeptPart). EachSpells files (map part_of parts.items)) (λ r. Judged Refuses files (Some r))
+      (Err stop) →
       Answers (λ s. AreProgram files (sourced_of s)) (FirstRefusal files) answer
   parts_failed h =
       refused_by (λ (parts : Row KeptPart). EachSpells files (map part_of parts.items)) (λ r. Judged Refuses files (Some r))
       (λ s. AreProgram files (sourced_of s)) (FirstRefusal files) (λ r j. at_first j) stop h answer is
 
-  pub roles_failed : (parts : List Part) → EachSpells files parts → Answers (λ (done : Unit {0}). Judged SharesRole (with_earlier files) None)
-      (λ r. Judged SharesRole (with_earlier files) (Some r)) (Err stop) → Answers (λ s. AreProgram files (sourced_of s)) (FirstRefusal files) answer
+  pub roles_failed : (parts : List Part) → EachSpells files parts →
+      Answers (λ (done : Unit {0}). Judged SharesRole (with_earlier files) None)
+      (λ r. Judged SharesRole (with_earlier files) (Some r)) (Err stop) → Answers (λ s. AreProgram files (sourced_of s))
+      (FirstRefusal files) answer
   roles_failed parts each h =
       refused_by (λ (done : Unit {0}). Judged SharesRole (with_earlier files) None) (λ r. Judged SharesRole (with_earlier files) (Some r))
       (λ s. AreProgram files (sourced_of s)) (FirstRefusal files) (λ r j. at_next parts each j) stop h answer is
@@ -63,7 +66,8 @@ is_program names contents parts s each apart make = record { spell = spelled_fro
 
 -- ---- what follows from its being one answer
 
-module _ (files : List Source) (answer : Result KeptSources Stop) (h : Answers (λ s. AreProgram files (sourced_of s)) (FirstRefusal files) answer)
+module _ (files : List Source) (answer : Result KeptSources Stop) (h : Answers (λ s. AreProgram files (sourced_of s))
+    (FirstRefusal files) answer)
   where
     pub that_alone : (s : Sourced) → AreProgram files s → AnswersOnly (λ k. sourced_of k ≡ s) answer
     that_alone s are =

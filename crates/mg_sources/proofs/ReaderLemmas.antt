@@ -58,7 +58,8 @@ module _ (s : Source) where
   protocol_refused Right fault stop is placed answered h =
       let within : (place : Place) → fault ≡ protocols.Syntax place → IsIn s place
       = λ place e. subst (of_protocols.HasPlace s.number s.bytes) e placed in
-      stop_in_file s.number (IsSaidOfProtocol (λ place. fault ≡ protocols.Syntax place)) Right (Refuses s) (of_protocols.fault_answer fault) stop h
+      stop_in_file s.number (IsSaidOfProtocol (λ place. fault ≡ protocols.Syntax place)) Right (Refuses s) (of_protocols.fault_answer fault)
+      stop h
       (λ a r e said. reading.protocol a is (answered a e)
       (said.0, protocol_said (λ place. fault ≡ protocols.Syntax place) (IsIn s) within a said.0 said.1, said.2))
 
@@ -70,7 +71,8 @@ module _ (s : Source) where
   states_refused Right fault stop is placed answered h =
       let within : (place : Place) → fault ≡ typestates.Syntax place → IsIn s place
       = λ place e. subst (of_typestates.HasPlace s.number s.bytes) e placed in
-      stop_in_file s.number (IsSaidOfTypestate (λ place. fault ≡ typestates.Syntax place)) Right (Refuses s) (of_typestates.answer_of (Err fault)) stop h
+      stop_in_file s.number (IsSaidOfTypestate (λ place. fault ≡ typestates.Syntax place)) Right (Refuses s)
+      (of_typestates.answer_of (Err fault)) stop h
       (λ a r e said. reading.states a is (answered a e)
       (said.0, typestate_said (λ place. fault ≡ typestates.Syntax place) (IsIn s) within a said.0 said.1, said.2))
 

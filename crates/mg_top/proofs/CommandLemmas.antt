@@ -22,7 +22,8 @@ use Rattle.mg_runs.specs.Lines.{role_lines}
 use Rattle.mg_runs.specs.Runs.{names_of}
 use Rattle.mg_runs.specs.Headline.{Course}
 use Rattle.mg_runs.specs.View.{Shows, IsOfRun}
-use Rattle.mg_top.specs.Commands.{prints, kept_in, role_mains_of, run_said, run_printed, status_of, Gives, checked, ran, refined, refined_status}
+use Rattle.mg_top.specs.Commands.{prints, kept_in, role_mains_of, run_said, run_printed, status_of, Gives, checked, ran, refined}
+use Rattle.mg_top.specs.Commands.{refined_status}
 use Rattle.mg_top.specs.Commands.{verified}
 use Rattle.mg_verified.specs.Verified.{AreVerified}
 use Rattle.mg_typed_law.specs.Laws.{RunsAreTypable}
@@ -49,7 +50,8 @@ use Rattle.mg_top.proofs.SourceLemmas.{translated}
 pub gives_so : (command : Command) (contents : List (List ℕ)) (actions : List Action) (status : Status) (d : Delivery) →
     d.actions.items ≡ actions → d.status ≡ status → Gives command contents actions status → Gives command contents d.actions.items d.status
 gives_so command contents actions status d a s y =
-    subst (λ (z : List Action). Gives command contents z d.status) (sym a) (subst (λ (z : Status). Gives command contents actions z) (sym s) y)
+    subst (λ (z : List Action). Gives command contents z d.status) (sym a) (subst (λ (z : Status). Gives command contents actions z)
+    (sym s) y)
 
 -- what is refused at a step of a command
 module _ {A : Type 0} (command : Command) (contents : List (List ℕ)) (Wanted : A → Type 0) (Sooner : Refusal → Type 0)
@@ -65,7 +67,8 @@ reported core text given (Ok d) e h a s = record { text = text; says = a ∙ ap 
 reported core text given (Err x) e h a s = tt
 
 -- the report of accepted files
-pub report_given : (files : List Word) (contents : List (List ℕ)) (core : Core.Program) (d : Delivery) → AreAccepted (sources files contents) core →
+pub report_given : (files : List Word) (contents : List (List ℕ)) (core : Core.Program) (d : Delivery) →
+    AreAccepted (sources files contents) core →
     IsReported core d.actions.items d.status → Gives (Check files) contents d.actions.items d.status
 report_given files contents core d a k =
     gives_so (Check files) contents (prints k.text) statuses.Done d k.says k.done (checked core a k.report)
@@ -82,7 +85,8 @@ pub told_given : (files : List Word) (contents : List (List ℕ)) (text given : 
     given ≡ text → status ≡ refined_status stands → AreJudged (sources files contents) text stands → d.actions.items ≡ Print given ∷ [] →
     d.status ≡ status → Gives (Refine files) contents d.actions.items d.status
 told_given files contents text given stands status d e f h a s =
-    gives_so (Refine files) contents (Print text ∷ []) (refined_status stands) d (a ∙ ap (λ (t : List ℕ). Print t ∷ []) e) (s ∙ f) (refined h)
+    gives_so (Refine files) contents (Print text ∷ []) (refined_status stands) d (a ∙ ap (λ (t : List ℕ). Print t ∷ []) e) (s ∙ f)
+    (refined h)
 
 -- a text, words and the end of a line are put behind what stands there
 pub line_put : (result last third second first given before text words : List ℕ) → result ≡ last → last ≡ third ++ 10 ∷ [] →
@@ -152,7 +156,8 @@ run_asked asked files mains order limit named shown m o l n h =
 
 -- the class files of a run, what it printed, its trace and the lines of its roles
 pub run_given : RunsAreTypable → (asked : Asked) (files : List Word) (contents : List (List ℕ)) (mains : List RoleMain)
-    (order : List ℕ) (limit : ℕ) (named : Bool) (shown : Ran) (d : Delivery) → mains ≡ role_mains_of asked → order ≡ order_of asked → limit ≡ limit_of asked →
+    (order : List ℕ) (limit : ℕ) (named : Bool) (shown : Ran) (d : Delivery) → mains ≡ role_mains_of asked → order ≡ order_of asked →
+    limit ≡ limit_of asked →
     named ≡ are_named asked → IsOfRun (sources files contents) mains order limit named asked.traced shown →
     d.actions.items ≡ shown_so asked shown.files.items shown.printed shown.trace (names_of mains)
     (map (λ r. r.instructions) shown.roles.items) (map (λ r. r.stand) shown.roles.items) →

@@ -151,12 +151,14 @@ no_list : (calls : Word) (listed : List ℕ) (fault : CallsFault) (wanted r : Re
     calls_refusal fault ≡ Some wanted → r ≡ in_file 1 wanted → IsNoList (source_of 1 calls listed) r
 no_list calls listed (faults.TooLarge place) wanted r (large, at) e says =
     too_large large (says ∙ ap (in_file 1) (sym (some_is e)) ∙ ap (λ (p : Place). in_file 1 (refusal_at (codes "TooLarge") p [])) at)
-no_list calls listed (faults.BadLine place) wanted r (small, bad) e says = bad_line place small bad (says ∙ ap (in_file 1) (sym (some_is e)))
+no_list calls listed (faults.BadLine place) wanted r (small, bad) e says =
+    bad_line place small bad (says ∙ ap (in_file 1) (sym (some_is e)))
 no_list calls listed faults.Memory wanted r h e says = absurd (let no : ⊥ = cc in no)
 
 -- the file of a protocol, or that of calls, is refused
 pub no_protocol : (protocol calls : Word) (bytes listed : List ℕ) (stop : Stop) →
-    Answers (λ (local : Local). Reads (source_of 0 protocol bytes) (Protocol (tree_of local))) (Refuses (source_of 0 protocol bytes)) (Err stop) →
+    Answers (λ (local : Local). Reads (source_of 0 protocol bytes) (Protocol (tree_of local))) (Refuses (source_of 0 protocol bytes))
+    (Err stop) →
     IsCarried (Conform (protocol ∷ calls ∷ [])) (bytes ∷ listed ∷ []) (Err stop)
 no_protocol protocol calls bytes listed (stops.Refused r) h = commands.conform (at_first h)
 no_protocol protocol calls bytes listed stops.Memory h = tt
@@ -186,8 +188,10 @@ two_conformed words files (rest, e, (behind, are)) = ap length are.two
 -- of a protocol and its calls
 pub conform_carried : (words files : List Word) (contents : List (List ℕ)) (bytes listed : List ℕ) (result : Result Delivery Stop) →
     IsCommand (Conform files) words → bytes ∷ listed ∷ [] ≡ contents →
-    ((protocol calls : Word) → EndsWith (codes ".scr") protocol → IsCarried (Conform (protocol ∷ calls ∷ [])) (bytes ∷ listed ∷ []) result) →
+    ((protocol calls : Word) → EndsWith (codes ".scr") protocol → IsCarried (Conform (protocol ∷ calls ∷ [])) (bytes ∷ listed ∷ []) result)
+    →
     IsCarried (Conform files) contents result
 conform_carried words files contents bytes listed result (rest, e, (behind, are)) same h =
     subst (λ (z : List Word). IsCarried (Conform z) contents result) (sym are.two)
-    (subst (λ (z : List (List ℕ)). IsCarried (Conform (are.protocol ∷ are.calls ∷ [])) z result) same (h are.protocol are.calls are.scribble.1))
+    (subst (λ (z : List (List ℕ)). IsCarried (Conform (are.protocol ∷ are.calls ∷ [])) z result) same
+    (h are.protocol are.calls are.scribble.1))

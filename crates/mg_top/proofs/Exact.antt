@@ -110,7 +110,8 @@ not_both {contents = contents} {r = r} (translated {folder = folder} {files = fi
 not_both {r = r} (conforms {protocol = protocol} {calls = calls} {bytes = bytes} {listed = listed} local list o l c) (commands.conform h) =
     then_never (λ r h. excludes (source_of 0 protocol bytes) (Protocol local) r o h)
     (λ local' o' r h. listed_once (source_of 1 calls listed) list r l h) r h
-not_both {contents = contents} {r = r} (checked {files = files} core a report) (commands.check h) = not_unmet (sources files contents) core r a h
+not_both {contents = contents} {r = r} (checked {files = files} core a report) (commands.check h) =
+    not_unmet (sources files contents) core r a h
 not_both {contents = contents} {r = r} (compiled {files = files} written a typable) (commands.compile h) =
     not_exceeded (sources files contents) written r a h
 not_both {contents = contents} {r = r} (ran {asked = asked} {files = files} course is typable) (commands.run h) =
@@ -250,7 +251,8 @@ told_says : (a b : Typestate) (text : List ℕ) (stands : Bool) → Tells a b te
 told_says a b text stands (yes_told s) e = absurd cc
 told_says a b text stands (no_told {calls = calls} {reason = reason} f) e = inr (inr (calls, reason, refl))
 
-gives_says : {command : Command} {contents : List (List ℕ)} {actions : List Action} {status : Status} → Gives command contents actions status →
+gives_says : {command : Command} {contents : List (List ℕ)} {actions : List Action} {status : Status} →
+    Gives command contents actions status →
     status ≡ statuses.Refused → SaysRefusal actions
 gives_says (translated t) e = absurd cc
 gives_says (conforms local list o l c) e = answer_says c e
@@ -296,7 +298,8 @@ gives_whole (checked core a r) e = absurd cc
 gives_whole (compiled written h typable) e = absurd cc
 gives_whole {contents = contents} (ran {asked = asked} {files = files} r h typable) e =
     let all : List Stand = stands_in r.program r.last in
-    absurd (tests_whole (list_any is_bound all) (list_any is_broken all) (list_any is_zero all) (list_any is_mismatch all) (list_any is_waiting all)
+    absurd (tests_whole (list_any is_bound all) (list_any is_broken all) (list_any is_zero all) (list_any is_mismatch all)
+    (list_any is_waiting all)
     (none_broken (sources files contents) (role_mains_of asked) (order_of asked) (limit_of asked) r h) e)
 gives_whole (refined {stands = stands} h) e = absurd (told_whole stands e)
 gives_whole (projected written h) e = absurd cc

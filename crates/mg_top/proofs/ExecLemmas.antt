@@ -43,7 +43,8 @@ exec_asked asked files mains order limit named shown m o l n h =
 
 -- what a run printed, its trace and the lines of its roles
 pub exec_given : TypableRunsNeverBad → (asked : Asked) (files : List Word) (contents : List (List ℕ)) (mains : List RoleMain)
-    (order : List ℕ) (limit : ℕ) (named : Bool) (shown : Ran) (d : Delivery) → mains ≡ role_mains_of asked → order ≡ order_of asked → limit ≡ limit_of asked →
+    (order : List ℕ) (limit : ℕ) (named : Bool) (shown : Ran) (d : Delivery) → mains ≡ role_mains_of asked → order ≡ order_of asked →
+    limit ≡ limit_of asked →
     named ≡ are_named asked → IsOfRun (sources files contents) mains order limit named asked.traced shown →
     d.actions.items ≡ shown_so shown.printed shown.trace (names_of mains)
     (map (λ r. r.instructions) shown.roles.items) (map (λ r. r.stand) shown.roles.items) →

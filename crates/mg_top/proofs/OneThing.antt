@@ -46,7 +46,8 @@ use Rattle.mg_top.specs.Writing.{classes_written, roles_written}
 use Rattle.mg_top.specs.Translation.{IsTypestateFile, api_written, IsTranslation, Translates, EachTranslates, none, one}
 use Rattle.mg_top.specs.Lines.{refusal_line, not_offered_line}
 use Rattle.mg_top.specs.Conformance.{calls_of, Conforms, complete, unfinished, not_offered, IsNoList, too_large, bad_line, ConformRefusal}
-use Rattle.mg_top.specs.Commands.{loaded, load_asked, load_sources, judged_names, prints, kept_in, role_mains_of, run_said, run_printed, exec_said, exec_printed}
+use Rattle.mg_top.specs.Commands.{loaded, load_asked, load_sources, judged_names, prints, kept_in, role_mains_of, run_said, run_printed}
+use Rattle.mg_top.specs.Commands.{exec_said, exec_printed}
 use Rattle.mg_top.specs.Commands.{Gives, translated, conforms, checked, compiled, ran, executed, refined, projected, verified}
 use Rattle.mg_top.specs.Commands.{IsRefused, Yields, gives, refused}
 use Rattle.mg_top.specs.Commands as commands
@@ -99,7 +100,8 @@ abbrev run_actions : Asked → Course → List Action
 run_actions asked r = kept_in asked.folder r.written ++ (prints (run_printed asked r) ++ Say (run_said asked r) ∷ [])
 
 abbrev load_actions : (n seed : ℕ) → Course → List Action
-load_actions n seed r = Print (run_printed load_asked r ++ loaded_line n seed (messages_in r.last.events)) ∷ Say (run_said load_asked r) ∷ []
+load_actions n seed r = Print (run_printed load_asked r ++ loaded_line n seed (messages_in r.last.events)) ∷ Say (run_said load_asked r) ∷
+    []
 
 abbrev exec_actions : Asked → executing.Course → List Action
 exec_actions asked r = prints (exec_printed asked r) ++ Say (exec_said asked r) ∷ []
@@ -181,7 +183,8 @@ given_once : {command : Command} {contents : List (List ℕ)} {a b : List Action
 given_once (translated t) (translated u) e = each_once t.each u.each refl
 given_once {m = m} {n = n} (conforms {protocol = protocol} {calls = calls} {bytes = bytes} {listed = listed} {text = t} local list o l c)
     (conforms {text = u} local' list' o' l' c') e =
-    let local_is : local' ≡ local = same_local local' local (one_part (source_of 0 protocol bytes) (Protocol local') (Protocol local) o' o) in
+    let local_is : local' ≡ local = same_local local' local (one_part (source_of 0 protocol bytes) (Protocol local') (Protocol local) o' o)
+    in
     let list_is : list' ≡ list = one_list listed list' list l'.listed l.listed in
     let there : Conforms local list u n =
     subst (λ (z : List CallAt). Conforms local z u n) list_is (subst (λ (z : LocalTree). Conforms z list' u n) local_is c') in
@@ -193,7 +196,14 @@ given_once {contents = contents} (compiled {folder = folder} {files = files} wri
     ap (classes_written folder) (one_compiled (sources files contents) written written' h k)
 given_once {contents = contents} (ran {asked = asked} {files = files} r h typable) (ran s k typable') e =
     let same = one_of_run (sources files contents) (role_mains_of asked) (order_of asked) (limit_of asked) r s h k in
-    λ i. run_actions asked (record { core = same.core i; written = same.written i; program = same.program i; first = r.first; last = same.last i })
+    λ i. run_actions asked (record {
+      core = same.core i;
+      written = same.written i;
+      program = same.program i;
+      first = r.first;
+      last =
+          same.last i;
+    })
 given_once {contents = contents} (executed {asked = asked} {files = files} r h never) (executed s k never') e =
     let same = one_course (sources files contents) (role_mains_of asked) (order_of asked) (limit_of asked) r s h k in
     λ i. exec_actions asked (record { program = same.program i; first = r.first; last = same.last i })
@@ -215,11 +225,13 @@ given_once {contents = contents} (verified {files = files} {line = x} h) (verifi
 
 -- ---- what is refused
 
-refused_alike : {command : Command} {contents : List (List ℕ)} {r q : Refusal} → IsRefused command contents r → IsRefused command contents q →
+refused_alike : {command : Command} {contents : List (List ℕ)} {r q : Refusal} → IsRefused command contents r → IsRefused command contents q
+    →
     ((asked : Asked) (files : List Word) → command ≢ Exec asked files) → ((files : List Word) → command ≢ Verify files) → AreAlike r q
 refused_alike {contents = contents} {r = r} {q = q} (commands.translate {files = files} h) (commands.translate k) ne nv =
     sources_alike.same_refusal (sources files contents) r q h k
-refused_alike {r = r} {q = q} (commands.conform {protocol = protocol} {calls = calls} {bytes = bytes} {listed = listed} h) (commands.conform k) ne nv =
+refused_alike {r = r} {q = q} (commands.conform {protocol = protocol} {calls = calls} {bytes = bytes} {listed = listed} h)
+    (commands.conform k) ne nv =
     conform_alike (source_of 0 protocol bytes) (source_of 1 calls listed) r q h k
 refused_alike {contents = contents} {r = r} {q = q} (commands.check {files = files} h) (commands.check k) ne nv =
     accepted_alike.same_refusal (sources files contents) r q h k
@@ -239,7 +251,21 @@ refused_alike (commands.verify {files = files} h) k ne nv = absurd (nv files ref
 say : (names : List Word) (r q : Refusal) → AreAlike r q → SameActions (Say (refusal_line names r) ∷ []) (Say (refusal_line names q) ∷ [])
 say names r q (inl e) = inl (ap (λ (z : Refusal). Say (refusal_line names z) ∷ []) e)
 say names r q (inr syntax) =
-    inr (refusal_line names r, refusal_line names q, refl, refl, record { names = names; r = r; q = q; syntax = syntax; says = refl; also = refl })
+    inr (
+      refusal_line names r,
+      refusal_line names q,
+      refl,
+      refl,
+      record {
+        names = names;
+        r = r;
+        q = q;
+        syntax = syntax;
+        says = refl;
+        also =
+            refl;
+      },
+    )
 
 same_actions : {command : Command} {contents : List (List ℕ)} {a b : List Action} {m n : Status} → Yields command contents a m →
     Yields command contents b n → m ≡ n → m ≢ statuses.Refused → a ≡ b

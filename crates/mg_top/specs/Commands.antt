@@ -133,8 +133,10 @@ pub data Gives : Command → List (List ℕ) → List Action → Status → Type
   executed : {asked : Asked} {files : List Word} {contents : List (List ℕ)} (r : executing.Course) →
       executing.IsRun (sources files contents) (role_mains_of asked) (order_of asked) (limit_of asked) r →
       (AllTypable r.program → NeverBad r) →
-      Gives (Exec asked files) contents (prints (exec_printed asked r) ++ Say (exec_said asked r) ∷ []) (status_of (stands_in r.program r.last))
-  refined : {files : List Word} {contents : List (List ℕ)} {text : List ℕ} {stands : Bool} → AreJudged (sources files contents) text stands →
+      Gives (Exec asked files) contents (prints (exec_printed asked r) ++ Say (exec_said asked r) ∷ [])
+      (status_of (stands_in r.program r.last))
+  refined : {files : List Word} {contents : List (List ℕ)} {text : List ℕ} {stands : Bool} → AreJudged (sources files contents) text stands
+      →
       Gives (Refine files) contents (Print text ∷ []) (refined_status stands)
   -- the files of the roles of a global protocol: each has the text of its role's projection, of which the laws of projection speak
   projected : {folder : Option Word} {files : List Word} {contents : List (List ℕ)} (written : List RoleFile) →
@@ -155,7 +157,8 @@ pub data IsRefused : Command → List (List ℕ) → Refusal → Type 0 where
       reading.FirstRefusal (sources files contents) r → IsRefused (Translate folder files) contents r
   -- a file of a protocol, and then one of calls
   conform : {protocol calls : Word} {bytes listed : List ℕ} {r : Refusal} →
-      ConformRefusal (source_of 0 protocol bytes) (source_of 1 calls listed) r → IsRefused (Conform (protocol ∷ calls ∷ [])) (bytes ∷ listed ∷ []) r
+      ConformRefusal (source_of 0 protocol bytes) (source_of 1 calls listed) r → IsRefused (Conform (protocol ∷ calls ∷ []))
+      (bytes ∷ listed ∷ []) r
   check : {files : List Word} {contents : List (List ℕ)} {r : Refusal} →
       accepted.FirstRefusal (sources files contents) r → IsRefused (Check files) contents r
   compile : {folder : Option Word} {files : List Word} {contents : List (List ℕ)} {r : Refusal} →
@@ -189,4 +192,5 @@ judged_names (Verify files) = files
 -- A command gives this, or says the line of the first refusal of its files.
 pub data Yields (command : Command) (contents : List (List ℕ)) : List Action → Status → Type 0 where
   gives : {actions : List Action} {status : Status} → Gives command contents actions status → Yields command contents actions status
-  refused : {r : Refusal} → IsRefused command contents r → Yields command contents (Say (refusal_line (judged_names command) r) ∷ []) Refused
+  refused : {r : Refusal} → IsRefused command contents r → Yields command contents (Say (refusal_line (judged_names command) r) ∷ [])
+      Refused

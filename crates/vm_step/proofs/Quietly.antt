@@ -279,7 +279,8 @@ module _ (p : Program) (m new : Machine) where
         (record (taking p m (returned sort (sym answers i)) 0) { returns = is_sort sort (sym answers i) })) m)
 
     pub quiet_return : (found : MethodOf) → Awaits p 0 found m.callers →
-        result_in (signature_of (descriptor_in (method_of_frame p m.frame))) ≡ None → left_to m [] m.callers ≡ Some new → Quiet p (Return None) m new
+        result_in (signature_of (descriptor_in (method_of_frame p m.frame))) ≡ None → left_to m [] m.callers ≡ Some new →
+        Quiet p (Return None) m new
     quiet_return found awaits answers is = λ me q.
         return_none_is p q m me (return_right None None found m.callers awaits answers refl (omega arith) (λ test none. refl) refl)
         ∙ returns_is q m new [] m.callers None is (sym (ap (λ t. left t []) told))

@@ -23,12 +23,14 @@ returns-in_err-parse_file c =
     let cut = cut_of c.args.file c.args.bytes.now c.in_ok-tokens.tokens.items c.as_slice.result.now c.as_slice.ensures.items
     c.in_ok-tokens.ensures.found in
     subst (Stage c.args.file c.args.bytes.now (IsRead c.args.file c.args.bytes.now)) (sym (e.1 ∙ ap failed e.2))
-    (ungrammatical_told c.args.file c.args.bytes.now c.as_slice.result.now cut c.in_err-parse_file.field-0.0 c.in_err-parse_file.ensures.unsupported
+    (ungrammatical_told c.args.file c.args.bytes.now c.as_slice.result.now cut c.in_err-parse_file.field-0.0
+    c.in_err-parse_file.ensures.unsupported
     c.in_err-parse_file.ensures.syntax)
 
 pub returns : goal.returns
 returns c =
     let cut = cut_of c.args.file c.args.bytes.now c.in_ok-tokens.tokens.items c.as_slice.result.now c.as_slice.ensures.items
     c.in_ok-tokens.ensures.found in
-    read (file_of c.in_ok-parse_file.field-0) (spells_of c.args.file c.args.bytes.now c.as_slice.result.now (file_of c.in_ok-parse_file.field-0) cut
+    read (file_of c.in_ok-parse_file.field-0) (spells_of c.args.file c.args.bytes.now c.as_slice.result.now
+    (file_of c.in_ok-parse_file.field-0) cut
     c.in_ok-parse_file.ensures.found)

@@ -13,7 +13,8 @@ failed f = Err f
 pub returns-in_err-program : goal.returns-in_err-program
 returns-in_err-program c =
     let f = err_from_is_err_and c.from_residual.result c.from_residual.ensures.1 in
-    unaccepted_compiled (sources c.args.names.now c.args.contents.now) c.in_err-program.field-0.0 c.from_residual.result (f.1 ∙ ap failed f.2)
+    unaccepted_compiled (sources c.args.names.now c.args.contents.now) c.in_err-program.field-0.0 c.from_residual.result
+    (f.1 ∙ ap failed f.2)
     c.in_err-program.ensures.answered
 
 pub class_files-requires : goal.class_files-requires

@@ -17,5 +17,6 @@ returns-in-Ok c = λ name.
 pub returns-in-Err : goal.returns-in-Err
 returns-in-Err c = λ name.
     let files = written_alone name c.args.bytes.now in
-    subst (λ (z : Stop). Answers (λ (written : Row RoleFile). AreWritten files written.items) (FirstRefusal files) (Err z)) (sym c.in_file.ensures)
+    subst (λ (z : Stop). Answers (λ (written : Row RoleFile). AreWritten files written.items) (FirstRefusal files) (Err z))
+    (sym c.in_file.ensures)
     (told_refused (source_of 0 name c.args.bytes.now) c.in-Err.fault c.stop_of.result c.stop_of.ensures c.in-Err.ensures.answered)

@@ -17,4 +17,5 @@ returns-in-Err c = λ name is.
     let source = source_of c.args.number name c.args.bytes.now in
     let right = λ (part : Part). Reads source (part_of part) in
     subst (λ (z : Stop). Answers right (Refuses source) (Err z)) (sym c.in_file.ensures)
-    (states_refused source right c.in-Err.fault c.stop_of_typestate.result is c.in-Err.ensures.place c.in-Err.ensures.answered c.stop_of_typestate.ensures)
+    (states_refused source right c.in-Err.fault c.stop_of_typestate.result is c.in-Err.ensures.place c.in-Err.ensures.answered
+    c.stop_of_typestate.ensures)

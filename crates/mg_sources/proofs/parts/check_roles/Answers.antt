@@ -1,4 +1,5 @@
-use Rattle.std.proofs.Common.{◌≡◌, ◌∙◌, ℕ, List, [], ◌∷◌, ◌++◌, map, take, sym, ap, subst, arith, codes, string_bytes, refl, Some, None, Err}
+use Rattle.std.proofs.Common.{◌≡◌, ◌∙◌, ℕ, List, [], ◌∷◌, ◌++◌, map, take, sym, ap, subst, arith, codes, string_bytes, refl, Some, None}
+use Rattle.std.proofs.Common.{Err}
 use Rattle.std.proofs.lemmas.List.{append-nil}
 use Rattle.std.proofs.lemmas.Map.Text.{hash_set_updates_text}
 use Rattle.mg_read.proofs.Scanning.{left_start}
@@ -38,7 +39,8 @@ returns-then-not-branch c = λ names contents each.
     (λ r. Judged SharesRole (with_earlier (sources names contents)) (Some r)) (Err z)) (sym c.named.ensures)
     (shared c.args.parts.now c.loop-number.number names contents each (c.loop-number.invariant.left names contents each)
     c.loop-number-test.true c.index-parts-number.result c.index-parts-number.is
-    c.loop-number.roles c.loop-number.invariant.exact c.in-Some.role.now c.in-Some.ensures.some (string_bytes c.in_ok-from_str.field-0) key_is
+    c.loop-number.roles c.loop-number.invariant.exact c.in-Some.role.now c.in-Some.ensures.some (string_bytes c.in_ok-from_str.field-0)
+    key_is
     (sym c.in_ok-insert.ensures.added ∙ c.if-not-branch.true) _
     (λ i. refusal_at (codes "SameRole") (c.start-place.ensures i) (c.in_ok-name.ensures i)))
 
@@ -54,9 +56,11 @@ loop-number-preserved c =
           (sym c.in_ok-insert.ensures.added ∙ c.if-not-branch.false);
       exact = exact_next c.loop-number.roles c.insert.new.self was _ (string_bytes c.in_ok-from_str.field-0)
           (roles_next c.args.parts.now c.loop-number.number c.loop-number-test.true c.index-parts-number.result
-          c.index-parts-number.is ∙ ap (λ (z : List (List ℕ)). was ++ z) (c.in-Some.ensures.some ∙ ap (λ (z : List ℕ). z ∷ []) (sym key_is)))
+          c.index-parts-number.is ∙ ap (λ (z : List (List ℕ)). was ++ z) (c.in-Some.ensures.some ∙ ap (λ (z : List ℕ). z ∷ [])
+          (sym key_is)))
           c.loop-number.invariant.exact
-          (hash_set_updates_text (string_bytes c.in_ok-from_str.field-0) c.loop-number.roles c.insert.new.self _ c.in_ok-insert.ensures.updates);
+          (hash_set_updates_text (string_bytes c.in_ok-from_str.field-0) c.loop-number.roles c.insert.new.self _
+          c.in_ok-insert.ensures.updates);
     }
 
 pub returns : goal.returns

@@ -14,7 +14,8 @@ returns-in_err-local c = λ protocol calls ends.
 
 pub returns-in-Err : goal.returns-in-Err
 returns-in-Err c = λ protocol calls ends.
-    subst (λ (z : Stop). IsCarried (Conform (protocol ∷ calls ∷ [])) (c.args.bytes.now ∷ c.args.listed.now ∷ []) (Err z)) (sym c.in_file.ensures)
+    subst (λ (z : Stop). IsCarried (Conform (protocol ∷ calls ∷ [])) (c.args.bytes.now ∷ c.args.listed.now ∷ []) (Err z))
+    (sym c.in_file.ensures)
     (list_refused protocol calls c.args.bytes.now c.args.listed.now (tree_of c.in_ok-local.local) c.in-Err.fault c.stop_of.result
     (c.in_ok-local.ensures protocol ends) c.in-Err.ensures c.stop_of.ensures)
 

@@ -46,7 +46,8 @@ returns-in_err-ran c = λ read.
     let mains = c.as_slice-roles.result.now in
     let e = err_from_is_err_and c.from_residual-in_err-ran.result c.from_residual-in_err-ran.ensures.1 in
     rw (e.1, e.2)
-    (stopped_so (Load c.args.branches c.args.seed) read (IsOfRun (sources names contents) mains (0 ∷ 1 ∷ []) 20000000 true false) (FirstRefusal (sources names contents) mains)
+    (stopped_so (Load c.args.branches c.args.seed) read (IsOfRun (sources names contents) mains (0 ∷ 1 ∷ []) 20000000 true false)
+    (FirstRefusal (sources names contents) mains)
     (λ r h. refusal_given c.args.branches c.args.seed read names contents mains r
     (c.as_slice.ensures.items ∙ c.in_ok-workload.ensures.names) (c.as_slice-2.ensures.items ∙ c.in_ok-workload.ensures.contents)
     (c.as_slice-roles.ensures.items ∙ c.in_ok-mains.ensures) h) _ c.in_err-ran.ensures.answered)

@@ -115,4 +115,5 @@ load-requires-clause-most c =
 
 pub returns-in-Load : goal.returns-in-Load
 returns-in-Load c =
-    subst (λ (z : Command). IsCarried (command_of z) c.args.contents.now c.load.result) (sym c.in-Load.is) (c.load.ensures c.args.contents.now)
+    subst (λ (z : Command). IsCarried (command_of z) c.args.contents.now c.load.result) (sym c.in-Load.is)
+    (c.load.ensures c.args.contents.now)

@@ -48,6 +48,7 @@ pub returns : goal.returns
 returns c =
     let files = sources c.args.names.now c.args.contents.now in
     let each = of_slice files c.in_ok-parts.parts.items c.as_slice.result.now c.as_slice.ensures.items c.in_ok-parts.ensures in
-    translated (all_written _ c.args.names.now c.args.contents.now (map part_of c.in_ok-parts.parts.items) (map part_of c.as_slice-2.result.now) _
+    translated (all_written _ c.args.names.now c.args.contents.now (map part_of c.in_ok-parts.parts.items)
+    (map part_of c.as_slice-2.result.now) _
     c.requires.scribble c.in_ok-parts.ensures (ap (map part_of) c.as_slice-2.ensures.items)
     (c.in_ok-check_roles.ensures c.args.names.now c.args.contents.now each) c.in_ok-actions.ensures)
