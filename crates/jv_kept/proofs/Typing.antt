@@ -1,5 +1,5 @@
 -- What is resolved of a clean expression has the type of its source.
-use Rattle.std.proofs.Common.{◌≡◌, ◌≢◌, inl, ⊎_elim, ℕ, ◌<◌, Bool, true, false, true≢false, List, [], ◌∷◌, ◌++◌, length, Option, Some, None}
+use Rattle.std.proofs.Common.{◌≡◌, ◌≢◌, inl, ⊎_elim, ℕ, ◌<◌, Bool, true, false, true≢false, List, [], ◌∷◌, ◌++◌, map, length, Option, Some, None}
 use Rattle.std.proofs.Common.{option_map, refl, sym, ap, ◌∙◌, subst, arith}
 use Rattle.std.specs.Prelude.{codes, if◌then◌else◌}
 use Rattle.std.specs.List.{list_any}
@@ -10,6 +10,10 @@ use Rattle.mg_text.specs.declared.place.Place.{Place}
 use Rattle.mg_read.specs.Culprit.{Culprit, culprit}
 use Rattle.mg_read.specs.First.{Clean}
 use Rattle.ts_tree.specs.Proper.{AreDistinct}
+use Rattle.jv_tree.specs.declared.session.PlainType.{PlainType}
+use Rattle.jv_tree.specs.declared.session.PlainType.TheVariants as plain
+use Rattle.jv_tree.specs.Session.{session_method}
+use Rattle.jv_core.specs.Types.{plain_type as core_plain}
 use Rattle.jv_tree.specs.Source
 use Rattle.jv_tree.specs.Source.{place_of}
 use Rattle.jv_meaning.specs.Program.{class_named, method_named, constant_position}
@@ -18,7 +22,8 @@ use Rattle.jv_rules.specs.Types.{ValueType, IntType, BooleanType, TextType, Enum
 use Rattle.jv_rules.specs.Types.{meant}
 use Rattle.jv_rules.specs.Scope.{Scope, variable_type, field_of}
 use Rattle.jv_rules.specs.Typing.{type_of, operator_type, constant_type, called, called_on, called_on_value, static_of, own_instance}
-use Rattle.jv_rules.specs.Typing.{own_method, protocol_method, built_in, session_methods, text_methods}
+use Rattle.jv_rules.specs.Typing.{own_method, protocol_method, built_in, session_methods, text_methods, plain_type, session_signature}
+use Rattle.jv_rules.proofs.SessionTypes.{session_typed}
 use Rattle.jv_rules.specs.Spots.{Value, nodes, nodes_in}
 use Rattle.jv_rules.specs.Taking.{Fitting, Writable, AnyEnum, IsEnum, Taken, taken, all_taken, paired, arguments, receiver, count_of}
 use Rattle.jv_rules.specs.Conditions as rules
@@ -27,7 +32,7 @@ use Rattle.jv_rules.specs.Members.{mentions_in, mentions_in_args}
 use Rattle.jv_rules.specs.Declarations.{UnknownClass, IsUsableClass}
 use Rattle.jv_core.specs.declared.tree.Var.{Var}
 use Rattle.jv_core.specs.declared.tree.CoreVar.{CoreVar}
-use Rattle.jv_core.specs.declared.tree.SessionCall.{SessionCall}
+use Rattle.jv_tree.specs.declared.session.SessionCall.{SessionCall}
 use Rattle.jv_core.specs.declared.program.CoreType.{CoreType}
 use Rattle.jv_core.specs.declared.program.CoreType.TheVariants as types
 use Rattle.jv_core.specs.Tree as Core
@@ -167,76 +172,31 @@ record SessionIs (program : Program) (core : Core.Program) (f : Name) (call : Se
 abbrev signature : List ValueType → ValueType → Signature
 signature params result = record { params = params; result = result }
 
+-- a plain type is the same type in sources and cores
+plain_meets : (program : Program) (core : Core.Program) (t : PlainType) → Meets program core (plain_type t) (core_plain t)
+plain_meets program core plain.Void = meets.no_value
+plain_meets program core plain.Int = meets.int
+plain_meets program core plain.Boolean = meets.boolean
+plain_meets program core plain.Text = meets.text
+
+plain_known : (t : PlainType) → IsKnown (plain_type t)
+plain_known plain.Void = tt
+plain_known plain.Int = tt
+plain_known plain.Boolean = tt
+plain_known plain.Text = tt
+
+params_meet : (program : Program) (core : Core.Program) (ts : List PlainType) →
+    Aligned (Meets program core) (map plain_type ts) (map core_plain ts)
+params_meet program core [] = is.none
+params_meet program core (t ∷ ts) = is.more (plain_meets program core t) (params_meet program core ts)
+
 session_is : (program : Program) (core : Core.Program) (f : Name) (call : SessionCall) → IsSession f call → SessionIs program core f call
-session_is program core _ _ is.session_send = record {
-  sig = signature (TextType ∷ TextType ∷ []) NoValue;
-  is = refl;
-  params = is.more meets.text (is.more meets.text is.none);
-  result = meets.no_value;
-  known = tt;
-}
-session_is program core _ _ is.session_send_int = record {
-  sig = signature (TextType ∷ TextType ∷ IntType ∷ []) NoValue;
-  is = refl;
-  params = is.more meets.text (is.more meets.text (is.more meets.int is.none));
-  result = meets.no_value;
-  known = tt;
-}
-session_is program core _ _ is.session_send_boolean = record {
-  sig = signature (TextType ∷ TextType ∷ BooleanType ∷ []) NoValue;
-  is = refl;
-  params = is.more meets.text (is.more meets.text (is.more meets.boolean is.none));
-  result = meets.no_value;
-  known = tt;
-}
-session_is program core _ _ is.session_send_string = record {
-  sig = signature (TextType ∷ TextType ∷ TextType ∷ []) NoValue;
-  is = refl;
-  params = is.more meets.text (is.more meets.text (is.more meets.text is.none));
-  result = meets.no_value;
-  known = tt;
-}
-session_is program core _ _ is.session_look = record {
-  sig = signature (TextType ∷ []) TextType;
-  is = refl;
-  params = is.more meets.text is.none;
-  result = meets.text;
-  known = tt;
-}
-session_is program core _ _ is.session_take = record {
-  sig = signature (TextType ∷ TextType ∷ []) NoValue;
-  is = refl;
-  params = is.more meets.text (is.more meets.text is.none);
-  result = meets.no_value;
-  known = tt;
-}
-session_is program core _ _ is.session_take_int = record {
-  sig = signature (TextType ∷ TextType ∷ []) IntType;
-  is = refl;
-  params = is.more meets.text (is.more meets.text is.none);
-  result = meets.int;
-  known = tt;
-}
-session_is program core _ _ is.session_take_boolean = record {
-  sig = signature (TextType ∷ TextType ∷ []) BooleanType;
-  is = refl;
-  params = is.more meets.text (is.more meets.text is.none);
-  result = meets.boolean;
-  known = tt;
-}
-session_is program core _ _ is.session_take_string = record {
-  sig = signature (TextType ∷ TextType ∷ []) TextType;
-  is = refl;
-  params = is.more meets.text (is.more meets.text is.none);
-  result = meets.text;
-  known = tt;
-}
-session_is program core _ _ is.session_refuse = record {
-  sig = signature (TextType ∷ TextType ∷ []) NoValue;
-  is = refl;
-  params = is.more meets.text (is.more meets.text is.none);
-  result = meets.no_value;
-  known = tt;
+session_is program core f call named = record {
+  sig = session_signature call;
+  is = subst (λ f. built_in session_methods f ≡ Some (session_signature call)) (sym named) (session_typed call);
+  params = params_meet program core (session_method call).params;
+  result = plain_meets program core (session_method call).result;
+  known = plain_known (session_method call).result;
 }
 
 module _ (core : Core.Program) (m : Core.Method) (scope : Scope) (ns : Numbers) (res : Resolves scope.program core)

@@ -2,6 +2,7 @@
 use Rattle.std.specs.Prelude.{ℕ, Bool, true, false, List, [], ◌∷◌, Option, Some, None, ◌||◌, if◌then◌else◌, codes}
 use Rattle.std.specs.Str.{bytes_eq}
 use Rattle.mg_text.specs.Call.{Name}
+use Rattle.jv_tree.specs.Session.{session_named}
 use Rattle.jv_tree.specs.Source.{Expr, Int, Truth, Text, Null, This, Variable, Member, Neg, Not, Binary, Call, MethodCall, New, Exprs}
 use Rattle.jv_tree.specs.Source.{NoExpr, Argument}
 use Rattle.jv_tree.specs.Source.{Stmt, Block, Empty, Local, Assign, If, IfElse, While, Do, Switch, Break, Continue, Return, Print, Eval}
@@ -17,7 +18,7 @@ use Rattle.jv_values.specs.Statements.{case_at, any_label, after_switch}
 use Rattle.jv_values.specs.Budget.{Below, Language, ran}
 use Rattle.jv_meaning.specs.Program.{Sources, class_named, enum_named, constant_position}
 use Rattle.jv_values.specs.Operators.{operator_of}
-use Rattle.jv_meaning.specs.Names.{session_named, Called, method_of, main_of, Referent, ALocal, AField, NoVariable, referent}
+use Rattle.jv_meaning.specs.Names.{Called, method_of, main_of, Referent, ALocal, AField, NoVariable, referent}
 use Rattle.jv_meaning.specs.Names.{constant_named, new_fields}
 
 abbrev pub Lower : Type 0

@@ -20,10 +20,12 @@ use Rattle.jv_rules.specs.Typing.{type_of, operator_type, constant_type, called,
 use Rattle.jv_rules.specs.Typing.{called_on_value, built_in, session_methods, text_methods}
 use Rattle.jv_rules.specs.Typing as typing
 use Rattle.jv_rules.specs.Spots.{Value, AtNode, nodes, nodes_in}
+use Rattle.jv_tree.specs.Session.{session_method}
+use Rattle.jv_core.proofs.PlainTypes.{no_enum}
 use Rattle.jv_core.specs.declared.tree.Var.{Var}
 use Rattle.jv_core.specs.declared.tree.CoreVar.{CoreVar}
-use Rattle.jv_core.specs.declared.tree.SessionCall.{SessionCall}
-use Rattle.jv_core.specs.declared.tree.SessionCall.TheVariants as calls
+use Rattle.jv_tree.specs.declared.session.SessionCall.{SessionCall}
+use Rattle.jv_tree.specs.declared.session.SessionCall.TheVariants as calls
 use Rattle.jv_core.specs.declared.program.CoreType.{CoreType}
 use Rattle.jv_core.specs.declared.program.CoreType.TheVariants as types
 use Rattle.jv_core.specs.Tree as Core
@@ -122,16 +124,7 @@ operator_no_enum ops.Div g h n e = cc
 operator_no_enum ops.Rem g h n e = cc
 
 session_no_enum : (c : SessionCall) (n : ℕ) → session_result c ≡ types.Enum n → ⊥
-session_no_enum calls.Send n e = cc
-session_no_enum calls.SendInt n e = cc
-session_no_enum calls.SendBoolean n e = cc
-session_no_enum calls.SendString n e = cc
-session_no_enum calls.Look n e = cc
-session_no_enum calls.Take n e = cc
-session_no_enum calls.TakeInt n e = cc
-session_no_enum calls.TakeBoolean n e = cc
-session_no_enum calls.TakeString n e = cc
-session_no_enum calls.Refuse n e = cc
+session_no_enum c n e = no_enum (session_method c).result n e
 
 -- a call on a value
 pub called_on_some : (scope : Scope) (e : Source.Expr) (t : ValueType) (f : Name) → IsNotThis e →

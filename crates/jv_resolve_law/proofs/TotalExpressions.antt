@@ -9,6 +9,9 @@ use Rattle.mg_text.specs.declared.place.Place.{Place}
 use Rattle.mg_text.proofs.Numbered.{list_any-from_None}
 use Rattle.mg_read.specs.Culprit.{Culprit, culprit}
 use Rattle.mg_read.specs.First.{Clean}
+use Rattle.jv_tree.specs.declared.session.SessionCall.{SessionCall}
+use Rattle.jv_tree.specs.Session.{session_method, session_calls}
+use Rattle.jv_rules.specs.Typing.{session_signature}
 use Rattle.jv_tree.specs.Source
 use Rattle.jv_tree.specs.Source.{place_of}
 use Rattle.jv_meaning.specs.Program.{class_named, enum_named, method_named, constant_position}
@@ -40,7 +43,7 @@ use Rattle.jv_kept.proofs.Moving.{IsNotThis, arguments_clean, call_clean}
 use Rattle.jv_resolve_law.specs.Tables.{◌>>=◌, Numbered, Entry, Tables, Callee, Placed, class_called, enum_called, method_called}
 use Rattle.jv_resolve_law.specs.Tables.{field_called, type_meant}
 use Rattle.jv_resolve_law.specs.Expressions.{Given, Of, Resolved, Known, Standing, Found, Receiver, OnThis, OnClass, OnValue, variable_in}
-use Rattle.jv_resolve_law.specs.Expressions.{only, text_call, session_named, session_names, paired_with, session_call}
+use Rattle.jv_resolve_law.specs.Expressions.{only, text_call, session_named, session_call}
 use Rattle.jv_resolve_law.specs.Expressions.{constant, static_call, helper_call, object_call, call_class, call_protocol, call_typed}
 use Rattle.jv_resolve_law.specs.Expressions.{own_found, call_own, call_this, call_on, make, found, variable_at, constant_at, member}
 use Rattle.jv_resolve_law.specs.Expressions.{named_receiver, resolved, resolved_all}
@@ -61,25 +64,23 @@ pub record AreMeant (program : Program) (tables : Tables) (entry : Entry) : Type
   pub fields : (k : ℕ) (f : Source.Field) → slice_get entry.class.fields k ≡ Some f → type_meant tables f.ty ≡ None → ⊥
   pub results : (n : ℕ) (o : Owned) → slice_get (methods_of program) n ≡ Some o → type_meant tables o.method.result ≡ None → ⊥
 
--- a name that pairs don't have is none of those of other pairs with these names
-not_paired : {A B : Type 0} (ps : List (Name × A)) (qs : List (Name × B)) → map (λ p. p.0) ps ≡ map (λ q. q.0) qs → (f : Name) →
-    paired_with ps f ≡ None → find (λ m. bytes_eq m.0 f) qs ≡ None
-not_paired [] [] same f e = refl
-not_paired [] (q ∷ qs) same f e = absurd (cc)
-not_paired (p ∷ ps) [] same f e = absurd (cc)
-not_paired (p ∷ ps) (q ∷ qs) same f e =
-    let first : p.0 ≡ q.0 = cc in
-    let rest : map (λ p. p.0) ps ≡ map (λ q. q.0) qs = cc in
-    go (bytes_eq f p.0) (flipped q.0 f ∙ ap (bytes_eq f) (sym first)) e (λ e. not_paired ps qs rest f e)
+-- a name that no method of the session has is none of those that have a signature
+none_among : (cs : List SessionCall) (f : Name) → find (λ c. bytes_eq f (session_method c).name) cs ≡ None →
+    find (λ m. bytes_eq m.0 f) (map (λ c. ((session_method c).name, session_signature c)) cs) ≡ None
+none_among [] f e = refl
+none_among (c ∷ cs) f e = go (bytes_eq f (session_method c).name) (flipped (session_method c).name f) e
   where
-    go : (b : Bool) → bytes_eq q.0 f ≡ b → (if b then Some p.1 else paired_with ps f) ≡ None →
-        (paired_with ps f ≡ None → find (λ m. bytes_eq m.0 f) qs ≡ None) →
-        cond (bytes_eq q.0 f) (Some q) (find (λ m. bytes_eq m.0 f) qs) ≡ None
-    go true t e later = absurd (none_some (sym e))
-    go false t e later = ap (λ b. cond b (Some q) (find (λ m. bytes_eq m.0 f) qs)) t ∙ later e
+    rest : Option (Name × Signature)
+    rest = find (λ m. bytes_eq m.0 f) (map (λ c. ((session_method c).name, session_signature c)) cs)
+
+    go : (b : Bool) → bytes_eq (session_method c).name f ≡ b →
+        cond b (Some c) (find (λ c. bytes_eq f (session_method c).name) cs) ≡ None →
+        cond (bytes_eq (session_method c).name f) (Some ((session_method c).name, session_signature c)) rest ≡ None
+    go true t e = absurd (none_some (sym e))
+    go false t e = ap (λ b. cond b (Some ((session_method c).name, session_signature c)) rest) t ∙ none_among cs f e
 
 no_session : (f : Name) → session_named f ≡ None → built_in session_methods f ≡ None
-no_session f e = ap (option_map (λ m. m.1)) (not_paired session_names session_methods refl f e)
+no_session f e = ap (option_map (λ m. m.1)) (none_among session_calls f e)
 
 abbrev as_field : Placed → CoreType → Option (Option Found)
 as_field f ty = Some (Some (record { var = vars.Field f.place; ty = ty }))

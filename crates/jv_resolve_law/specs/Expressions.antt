@@ -3,6 +3,7 @@ use Rattle.std.specs.Prelude.{ℕ, List, [], ◌∷◌, Option, Some, None, opti
 use Rattle.std.specs.Str.{bytes_eq}
 use Rattle.mg_text.specs.Call.{Name}
 use Rattle.mg_text.specs.declared.place.Place.{Place}
+use Rattle.jv_tree.specs.Session.{session_named as by_name}
 use Rattle.jv_tree.specs.declared.tree.Op.{Op}
 use Rattle.jv_tree.specs.declared.tree.Op.TheVariants as ops
 use Rattle.jv_tree.specs.Source
@@ -11,8 +12,7 @@ use Rattle.jv_meaning.specs.Program.{constant_position}
 use Rattle.jv_core.specs.declared.tree.Var.{Var}
 use Rattle.jv_core.specs.declared.tree.Var.TheVariants as vars
 use Rattle.jv_core.specs.declared.tree.CoreVar.{CoreVar}
-use Rattle.jv_core.specs.declared.tree.SessionCall.{SessionCall}
-use Rattle.jv_core.specs.declared.tree.SessionCall.TheVariants as calls
+use Rattle.jv_tree.specs.declared.session.SessionCall.{SessionCall}
 use Rattle.jv_core.specs.declared.program.CoreType.{CoreType}
 use Rattle.jv_core.specs.declared.program.CoreType.TheVariants as types
 use Rattle.jv_core.specs.Tree as Core
@@ -54,20 +54,9 @@ pub record Found : Type 0 where
 abbrev pub known_named : List Known → Name → Option Known
 known_named locals name = find (λ l. bytes_eq l.name name) locals
 
--- of pairs, what stands with the first of this name
-abbrev pub paired_with : {A : Type 0} → List (Name × A) → Name → Option A
-paired_with [] name = None
-paired_with (p ∷ ps) name = if bytes_eq name p.0 then Some p.1 else paired_with ps name
-
-abbrev pub session_names : List (Name × SessionCall)
-session_names =
-    (codes "send", calls.Send) ∷ (codes "sendInt", calls.SendInt) ∷ (codes "sendBoolean", calls.SendBoolean)
-    ∷ (codes "sendString", calls.SendString) ∷ (codes "look", calls.Look) ∷ (codes "take", calls.Take) ∷ (codes "takeInt", calls.TakeInt)
-    ∷ (codes "takeBoolean", calls.TakeBoolean) ∷ (codes "takeString", calls.TakeString) ∷ (codes "refuse", calls.Refuse) ∷ []
-
 -- the method of the session that has this name
 abbrev pub session_named : Name → Option SessionCall
-session_named = paired_with session_names
+session_named name = by_name name
 
 -- whether a type is String
 abbrev pub is_text : Given → Bool

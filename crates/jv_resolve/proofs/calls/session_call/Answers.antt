@@ -3,7 +3,7 @@ use Rattle.std.specs.Prelude.{map}
 use Rattle.jv_core.specs.Tree as Core
 use Rattle.jv_core.specs.View.{expr_of, exprs_of}
 use Rattle.jv_core.specs.Types.{session_result}
-use Rattle.jv_core.specs.declared.tree.SessionCall.{SessionCall}
+use Rattle.jv_tree.specs.declared.session.SessionCall.{SessionCall}
 use Rattle.jv_core.proofs.ViewLaws.{kind-Session}
 use Rattle.jv_resolve_law.specs.Tables.{◌>>=◌}
 use Rattle.jv_resolve_law.specs.Expressions.{typed}
