@@ -8,8 +8,8 @@ use Rattle.jv_tree.specs.declared.tree.Op.{Op}
 use Rattle.jv_tree.specs.declared.tree.Op.TheVariants as ops
 use Rattle.jv_core.specs.declared.tree.Var.{Var}
 use Rattle.jv_core.specs.declared.tree.Var.TheVariants as vars
-use Rattle.jv_tree.specs.declared.session.SessionCall.{SessionCall}
-use Rattle.jv_tree.specs.declared.session.SessionCall.TheVariants as calls
+use Rattle.jv_tree.specs.declared.built_in.SessionCall.{SessionCall}
+use Rattle.jv_tree.specs.declared.built_in.SessionCall.TheVariants as calls
 use Rattle.jv_core.specs.declared.program.CoreType.{CoreType}
 use Rattle.jv_core.specs.declared.program.CoreType.TheVariants as types
 use Rattle.jv_core.specs.Tree.{Expr, Int, Truth, Text, Null, Variable, Constant, Neg}

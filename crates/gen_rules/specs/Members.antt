@@ -7,9 +7,9 @@ use Rattle.vm_model.specs.Types as descriptors
 use Rattle.vm_model.specs.declared.linked.Built.{Built}
 use Rattle.vm_model.specs.declared.linked.Built.TheVariants as built
 use Rattle.vm_model.specs.BuiltIns.{string_class, session_class, built_member, reference_of}
-use Rattle.jv_tree.specs.Session.{session_method}
-use Rattle.jv_tree.specs.declared.session.SessionCall.{SessionCall}
-use Rattle.jv_tree.specs.declared.session.SessionCall.TheVariants as calls
+use Rattle.jv_tree.specs.BuiltIn.{session_method}
+use Rattle.jv_tree.specs.declared.built_in.SessionCall.{SessionCall}
+use Rattle.jv_tree.specs.declared.built_in.SessionCall.TheVariants as calls
 use Rattle.jv_core.specs.declared.program.CoreType.{CoreType}
 use Rattle.jv_core.specs.declared.program.CoreType.TheVariants as types
 use Rattle.jv_core.specs.Tree.{Field, Method, Program}

@@ -14,8 +14,8 @@ use Rattle.jv_values.specs.Values as values
 use Rattle.jv_values.specs.Doing.{Run, Outcome, and_then, ◌>>=◌, give, stop, note, happened}
 use Rattle.jv_values.specs.Messages.{messages_of, taken, there_or, sends, looks, takes, refuses, nothing_in, int_in, truth_in, text_in}
 use Rattle.jv_values.specs.Messages.{session}
-use Rattle.jv_tree.specs.declared.session.SessionCall.{SessionCall}
-use Rattle.jv_tree.specs.declared.session.SessionCall.TheVariants as calls
+use Rattle.jv_tree.specs.declared.built_in.SessionCall.{SessionCall}
+use Rattle.jv_tree.specs.declared.built_in.SessionCall.TheVariants as calls
 use Rattle.jv_core.specs.Tree.{Method, Program}
 use Rattle.jv_core.specs.Types.{session_params, session_result}
 use Rattle.jv_core.specs.Conditions.{IsCore}

@@ -81,7 +81,7 @@ impl<'a> Coder<'a> {
             CoreExprKind::Static { method, .. } => self.result_of(*method),
             CoreExprKind::Equals(_, _) => Some(CoreType::Boolean),
             CoreExprKind::Concat(_, _) => Some(CoreType::Text),
-            CoreExprKind::Session { call, .. } => Some(CoreType::plain(call.result())),
+            CoreExprKind::Session { call, .. } => Some(CoreType::plain(call.method().result)),
             CoreExprKind::New(class) => Some(CoreType::Object(*class)),
         }
     }

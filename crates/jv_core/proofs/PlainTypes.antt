@@ -1,7 +1,7 @@
 -- No plain type is that of an enum or of objects.
 use Rattle.std.proofs.Common.{◌≡◌, ℕ}
-use Rattle.jv_tree.specs.declared.session.PlainType.{PlainType}
-use Rattle.jv_tree.specs.declared.session.PlainType.TheVariants as plain
+use Rattle.jv_tree.specs.declared.built_in.PlainType.{PlainType}
+use Rattle.jv_tree.specs.declared.built_in.PlainType.TheVariants as plain
 use Rattle.jv_core.specs.declared.program.CoreType.TheVariants as types
 use Rattle.jv_core.specs.Types.{plain_type}
 

@@ -6,10 +6,11 @@ use Rattle.jv_tree.specs.declared.tree.Op.TheVariants as ops
 use Rattle.jv_core.specs.declared.tree.Var.{Var}
 use Rattle.jv_core.specs.declared.tree.Var.TheVariants as vars
 use Rattle.jv_core.specs.declared.tree.CoreVar.{CoreVar}
-use Rattle.jv_tree.specs.declared.session.SessionCall.{SessionCall}
-use Rattle.jv_tree.specs.declared.session.PlainType.{PlainType}
-use Rattle.jv_tree.specs.declared.session.PlainType.TheVariants as plain
-use Rattle.jv_tree.specs.Session.{session_method}
+use Rattle.jv_tree.specs.declared.built_in.SessionCall.{SessionCall}
+use Rattle.jv_tree.specs.declared.built_in.PlainType.{PlainType}
+use Rattle.jv_tree.specs.declared.built_in.PlainType.TheVariants as plain
+use Rattle.jv_tree.specs.declared.built_in.TextCall.{TextCall}
+use Rattle.jv_tree.specs.BuiltIn.{session_method, text_method}
 use Rattle.jv_core.specs.declared.program.CoreType.{CoreType}
 use Rattle.jv_core.specs.declared.program.CoreType.TheVariants as types
 use Rattle.jv_core.specs.declared.program.MethodKind.{MethodKind}
@@ -63,7 +64,7 @@ IsCompared types.Boolean = Unit {0}
 IsCompared (types.Enum e) = Unit {0}
 IsCompared _ = ⊥
 
--- The methods of `Session`: what they take, and what they give.
+-- The methods that every program has: what those of `Session` take and give, and what those of texts give.
 
 abbrev pub plain_type : PlainType → CoreType
 plain_type plain.Void = types.Void
@@ -76,6 +77,9 @@ session_params c = map plain_type (session_method c).params
 
 abbrev pub session_result : SessionCall → CoreType
 session_result c = plain_type (session_method c).result
+
+abbrev pub text_result : TextCall → CoreType
+text_result c = plain_type (text_method c).result
 
 -- Helper calls in the arguments of a call on an own field.
 

@@ -16,7 +16,7 @@ use Rattle.jv_rules.specs.Scope.{Scope, is_variable}
 use Rattle.jv_rules.specs.Typing.{type_of, is_text, operator_type}
 use Rattle.jv_rules.specs.Taking.{Fitting, Writable, ClassVariable, Nothing, Taken, taken, all_taken, both, compared, operands, IsClass}
 use Rattle.jv_rules.specs.Conditions.{TypeMismatch}
-use Rattle.jv_tree.specs.Session.{session_method}
+use Rattle.jv_tree.specs.BuiltIn.{session_method}
 use Rattle.jv_core.proofs.PlainTypes.{no_object}
 use Rattle.jv_core.specs.declared.tree.Var.{Var}
 use Rattle.jv_core.specs.declared.program.CoreType.{CoreType}
@@ -24,7 +24,7 @@ use Rattle.jv_core.specs.declared.program.CoreType.TheVariants as types
 use Rattle.jv_core.specs.Tree as Core
 use Rattle.jv_core.specs.Types.{Has, IsEquality, IsArithmetic, IsOrder, IsLogic, IsVariable, session_result}
 use Rattle.jv_core.specs.Types as has
-use Rattle.jv_tree.specs.declared.session.SessionCall.{SessionCall}
+use Rattle.jv_tree.specs.declared.built_in.SessionCall.{SessionCall}
 use Rattle.jv_core.specs.Members.{type_names}
 use Rattle.jv_names.specs.Resolves.{Numbers, IsVar, IsExpr, Resolves}
 use Rattle.jv_names.specs.Resolves as is

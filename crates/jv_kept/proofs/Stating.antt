@@ -17,10 +17,10 @@ use Rattle.jv_rules.specs.Taking.{Fitting, Nothing, taken, all_taken, assigned, 
 use Rattle.jv_rules.specs.Conditions.{TypeMismatch}
 use Rattle.jv_rules.specs.Members.{mentions_in, mentions_in_stmt, mentions_in_stmts, mentions_in_groups}
 use Rattle.jv_rules.specs.Declarations.{UnknownClass}
-use Rattle.jv_tree.specs.Session.{session_method}
+use Rattle.jv_tree.specs.BuiltIn.{session_method}
 use Rattle.jv_core.proofs.PlainTypes.{no_enum as plain_no_enum}
 use Rattle.jv_core.specs.declared.tree.CoreVar.{CoreVar}
-use Rattle.jv_tree.specs.declared.session.SessionCall.{SessionCall}
+use Rattle.jv_tree.specs.declared.built_in.SessionCall.{SessionCall}
 use Rattle.jv_core.specs.declared.program.CoreType.{CoreType}
 use Rattle.jv_core.specs.declared.program.CoreType.TheVariants as types
 use Rattle.jv_core.specs.Tree as Core

@@ -3,7 +3,8 @@ use Rattle.std.proofs.Common.{◌≡◌, Bool, List, [], ◌∷◌, Option, Some
 use Rattle.std.specs.Prelude.{if◌then◌else◌, codes}
 use Rattle.std.specs.Str.{bytes_eq}
 use Rattle.mg_text.specs.Call.{Name}
-use Rattle.jv_tree.specs.Session.{session_named}
+use Rattle.jv_tree.specs.declared.built_in.TextCall.TheVariants as texts
+use Rattle.jv_tree.specs.BuiltIn.{session_named, text_method}
 use Rattle.jv_tree.specs.Source.{Expr, Int, Truth, Text, Null, This, Variable, Member, Neg, Not, Binary, Call, MethodCall, New, Exprs}
 use Rattle.jv_tree.specs.Source.{NoExpr, Argument}
 use Rattle.jv_tree.specs.Source.{Stmt, Block, Empty, Local, Assign, If, IfElse, While, Do, Switch, Break, Continue, Return, Print, Eval}
@@ -68,9 +69,9 @@ write_q here _ v = wrong_q
 
 text_call_e : (t : Value) (m : Name) (vs : List Value) → E (text_call t m vs) (text_call t m vs)
 text_call_e t m (w ∷ []) =
-    if_alike FurtherShared further_shares.closed (bytes_eq m (codes "equals"))
+    if_alike FurtherShared further_shares.closed (bytes_eq m (text_method texts.Equals).name)
     (expressions.equal_texts_same FurtherShared further_shares t w)
-    (if_alike FurtherShared further_shares.closed (bytes_eq m (codes "concat"))
+    (if_alike FurtherShared further_shares.closed (bytes_eq m (text_method texts.Concat).name)
     (expressions.joined_texts_same FurtherShared further_shares t w) stop_e)
 text_call_e t m _ = stop_e
 

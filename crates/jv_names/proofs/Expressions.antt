@@ -4,8 +4,9 @@ use Rattle.std.specs.Prelude.{if◌then◌else◌, codes}
 use Rattle.std.specs.Str.{bytes_eq}
 use Rattle.std.proofs.lemmas.Slice.Eq.{bytes_eq-Decides}
 use Rattle.mg_text.specs.Call.{Name}
-use Rattle.jv_tree.specs.Session.{session_named}
-use Rattle.jv_tree.proofs.SessionLaws.{named_itself}
+use Rattle.jv_tree.specs.declared.built_in.TextCall.TheVariants as texts
+use Rattle.jv_tree.specs.BuiltIn.{session_named, text_method}
+use Rattle.jv_tree.proofs.BuiltInLaws.{named_itself}
 use Rattle.jv_tree.specs.Source
 use Rattle.jv_values.specs.Values.{Value, Text, Row, Shared, Instance, Inputs, Wrong}
 use Rattle.jv_values.specs.Values as values
@@ -21,7 +22,7 @@ use Rattle.jv_meaning.specs.Names as names
 use Rattle.jv_meaning.specs.Meaning as meant
 use Rattle.jv_rules.specs.Program.{Program}
 use Rattle.jv_rules.specs.Scope.{Scope, variable_type}
-use Rattle.jv_tree.specs.declared.session.SessionCall.{SessionCall}
+use Rattle.jv_tree.specs.declared.built_in.SessionCall.{SessionCall}
 use Rattle.jv_core.specs.Tree as Core
 use Rattle.jv_core.specs.Lookup.{text_at, class_text, enum_text}
 use Rattle.jv_core.specs.Meaning as core_meaning
@@ -149,12 +150,12 @@ module _ (program : Program) (core : Core.Program) (res : Resolves program core)
 
   -- `equals` and `concat`
   equals_like : (v w : Value) → Equals (valuing (equal_texts v w))
-      (meant.value_call program.files inputs high (on_source scope.class.name this) v (codes "equals") (w ∷ []))
+      (meant.value_call program.files inputs high (on_source scope.class.name this) v (text_method texts.Equals).name (w ∷ []))
   equals_like (Text t) w = same_run _
   equals_like _ w = record { by = λ s t st. inl refl }
 
   concat_like : (v w : Value) → Equals (valuing (joined_texts v w))
-      (meant.value_call program.files inputs high (on_source scope.class.name this) v (codes "concat") (w ∷ []))
+      (meant.value_call program.files inputs high (on_source scope.class.name this) v (text_method texts.Concat).name (w ∷ []))
   concat_like (Text t) w = same_run _
   concat_like _ w = record { by = λ s t st. inl refl }
 
@@ -304,15 +305,15 @@ module _ (program : Program) (core : Core.Program) (res : Resolves program core)
         (λ v. then_like (args_like xs h) (λ vs. protocol_like d f m k is v vs)))
     eval_like {r = r} {r' = r'} (resolves.equals {p = p} {e = e} {a = a} {e' = e'} {a' = a'} ty x y) h =
         at_target (meant.target_of program.files (on_source scope.class.name this) r' e) meant.OfValue (expr_target x h)
-        (core_value r (Core.Equals p e' a')) (valued (source_value r' e)) (codes "equals")
+        (core_value r (Core.Equals p e' a')) (valued (source_value r' e)) (text_method texts.Equals).name
         (source_values r' (Source.Argument a Source.NoExpr))
-        (text_call_like equal_texts (codes "equals") equals_like (same.valued_same E shares (eval_like x h))
+        (text_call_like equal_texts (text_method texts.Equals).name equals_like (same.valued_same E shares (eval_like x h))
         (same.valued_same E shares (eval_like y h)))
     eval_like {r = r} {r' = r'} (resolves.concat {p = p} {e = e} {a = a} {e' = e'} {a' = a'} ty x y) h =
         at_target (meant.target_of program.files (on_source scope.class.name this) r' e) meant.OfValue (expr_target x h)
-        (core_value r (Core.Concat p e' a')) (valued (source_value r' e)) (codes "concat")
+        (core_value r (Core.Concat p e' a')) (valued (source_value r' e)) (text_method texts.Concat).name
         (source_values r' (Source.Argument a Source.NoExpr))
-        (text_call_like joined_texts (codes "concat") concat_like (same.valued_same E shares (eval_like x h))
+        (text_call_like joined_texts (text_method texts.Concat).name concat_like (same.valued_same E shares (eval_like x h))
         (same.valued_same E shares (eval_like y h)))
     eval_like (resolves.new {c = d} {k = n} is) h = new_like d n is
 

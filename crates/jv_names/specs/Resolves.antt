@@ -9,7 +9,8 @@ use Rattle.ts_tree.specs.declared.parts.TypeName.{TypeName}
 use Rattle.ts_tree.specs.declared.parts.TypeName.TheVariants as written
 use Rattle.jv_tree.specs.declared.tree.Op.{Op}
 use Rattle.jv_tree.specs.declared.tree.Param.{Param}
-use Rattle.jv_tree.specs.Session.{session_method}
+use Rattle.jv_tree.specs.declared.built_in.TextCall.TheVariants as texts
+use Rattle.jv_tree.specs.BuiltIn.{session_method, text_method}
 use Rattle.jv_tree.specs.Source
 use Rattle.jv_tree.specs.Source.{place_of}
 use Rattle.jv_meaning.specs.Program.{classes_of, enums_of, class_named, enum_named, method_named, typestate_named, constant_position}
@@ -21,7 +22,7 @@ use Rattle.jv_rules.specs.Typing.{type_of}
 use Rattle.jv_core.specs.declared.tree.Var.{Var}
 use Rattle.jv_core.specs.declared.tree.Var.TheVariants as vars
 use Rattle.jv_core.specs.declared.tree.CoreVar.{CoreVar}
-use Rattle.jv_tree.specs.declared.session.SessionCall.{SessionCall}
+use Rattle.jv_tree.specs.declared.built_in.SessionCall.{SessionCall}
 use Rattle.jv_core.specs.declared.program.CoreType.{CoreType}
 use Rattle.jv_core.specs.declared.program.CoreType.TheVariants as types
 use Rattle.jv_core.specs.declared.program.MethodKind.{MethodKind}
@@ -212,10 +213,12 @@ module _ (program : Program) (core : Core.Program) where
       -- `e.equals(a)` and `e.concat(a)`, where e is a text
       equals : {p : Place} {e a : Source.Expr} {e' a' : Core.Expr} → type_of scope e ≡ Some TextType → IsExpr scope numbers e e' →
           IsExpr scope numbers a a' →
-          IsExpr scope numbers (Source.MethodCall p e (codes "equals") (Source.Argument a Source.NoExpr)) (Core.Equals p e' a')
+          IsExpr scope numbers (Source.MethodCall p e (text_method texts.Equals).name (Source.Argument a Source.NoExpr))
+            (Core.Equals p e' a')
       concat : {p : Place} {e a : Source.Expr} {e' a' : Core.Expr} → type_of scope e ≡ Some TextType → IsExpr scope numbers e e' →
           IsExpr scope numbers a a' →
-          IsExpr scope numbers (Source.MethodCall p e (codes "concat") (Source.Argument a Source.NoExpr)) (Core.Concat p e' a')
+          IsExpr scope numbers (Source.MethodCall p e (text_method texts.Concat).name (Source.Argument a Source.NoExpr))
+            (Core.Concat p e' a')
       new : {p : Place} {c : Name} {k : ℕ} → IsClass c k → IsExpr scope numbers (Source.New p c) (Core.New p k)
 
     pub data IsExprs (scope : Scope) (numbers : Numbers) : Source.Exprs → Core.Exprs → Type 0 where

@@ -6,10 +6,10 @@ use Rattle.std.specs.List.{AllByRecursion}
 use Rattle.std.specs.Str.{bytes_eq}
 use Rattle.std.proofs.lemmas.Slice.Eq.{bytes_eq-Decides}
 use Rattle.mg_text.specs.Call.{Name}
-use Rattle.jv_tree.specs.declared.session.PlainType.{PlainType}
-use Rattle.jv_tree.specs.declared.session.PlainType.TheVariants as plain
-use Rattle.jv_tree.specs.Session.{session_method}
-use Rattle.jv_tree.proofs.SessionLaws.{named_so}
+use Rattle.jv_tree.specs.declared.built_in.PlainType.{PlainType}
+use Rattle.jv_tree.specs.declared.built_in.PlainType.TheVariants as plain
+use Rattle.jv_tree.specs.BuiltIn.{session_method, session_named}
+use Rattle.jv_tree.proofs.BuiltInLaws.{named_so}
 use Rattle.jv_core.specs.Types.{plain_type as core_plain}
 use Rattle.jv_tree.specs.Source
 use Rattle.jv_meaning.specs.Program.{class_named, method_named}
@@ -17,15 +17,15 @@ use Rattle.jv_rules.specs.Program.{Program, is_of_protocol}
 use Rattle.jv_rules.specs.Types.{ValueType, NoValue, IntType, BooleanType, TextType, ClassType, Signature, signature_of, meant}
 use Rattle.jv_rules.specs.Scope.{Scope}
 use Rattle.jv_rules.specs.Typing.{called, called_on_this, called_on_class, called_on_value, static_of, own_instance, own_method}
-use Rattle.jv_rules.specs.Typing.{protocol_method, built_in, session_methods, plain_type, session_signature}
-use Rattle.jv_rules.proofs.SessionTypes.{session_typed}
-use Rattle.jv_tree.specs.declared.session.SessionCall.{SessionCall}
+use Rattle.jv_rules.specs.Typing.{protocol_method, built_in, session_methods, plain_type, plain_signature}
+use Rattle.jv_rules.proofs.BuiltInTypes.{session_typed}
+use Rattle.jv_tree.specs.declared.built_in.SessionCall.{SessionCall}
 use Rattle.jv_core.specs.Types.{session_result}
 use Rattle.jv_core.specs.Tree as Core
 use Rattle.jv_names.specs.Resolves.{IsSession}
 use Rattle.jv_names.specs.Resolves as is
 use Rattle.jv_names.proofs.Tables.{some_is, none_some}
-use Rattle.jv_resolve_law.specs.Expressions.{Of, session_named}
+use Rattle.jv_resolve_law.specs.Expressions.{Of}
 use Rattle.jv_resolve_law.proofs.Given.{IsGiven, no_value, int_given, boolean_given, text_given}
 
 -- there is no signature, or it is this one
@@ -156,6 +156,6 @@ pub record SessionGives (program : Program) (core : Core.Program) (f : Name) (c 
 pub session_gives : (program : Program) (core : Core.Program) (f : Name) (c : SessionCall) → IsSession f c → SessionGives program core f c
 session_gives program core f c named = record {
   type = plain_type (session_method c).result;
-  is = ap result_in (subst (λ f. built_in session_methods f ≡ Some (session_signature c)) (sym named) (session_typed c));
+  is = ap result_in (subst (λ f. built_in session_methods f ≡ Some (plain_signature (session_method c))) (sym named) (session_typed c));
   given = plain_given program core (session_method c).result;
 }

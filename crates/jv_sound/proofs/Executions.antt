@@ -11,7 +11,7 @@ use Rattle.jv_values.specs.Objects.{write_field}
 use Rattle.mg_text.specs.declared.event.Event.TheVariants as seen
 use Rattle.jv_values.specs.Statements.{Completion, Normal, Breaks, Continues, Returns, Does, next_do, assigned, after_body, after_switch}
 use Rattle.jv_values.specs.Statements.{is_default, case_at, any_label}
-use Rattle.jv_tree.specs.Session.{session_method}
+use Rattle.jv_tree.specs.BuiltIn.{session_method}
 use Rattle.jv_core.proofs.PlainTypes.{no_enum}
 use Rattle.jv_core.specs.declared.tree.Var.{Var}
 use Rattle.jv_core.specs.declared.tree.Var.TheVariants as vars

@@ -12,8 +12,8 @@ use Rattle.jv_values.specs.Messages.{session}
 use Rattle.jv_values.specs.Calls.{suits}
 use Rattle.jv_core.specs.declared.tree.Var.{Var}
 use Rattle.jv_core.specs.declared.tree.Var.TheVariants as vars
-use Rattle.jv_tree.specs.declared.session.SessionCall.{SessionCall}
-use Rattle.jv_tree.specs.declared.session.SessionCall.TheVariants as calls
+use Rattle.jv_tree.specs.declared.built_in.SessionCall.{SessionCall}
+use Rattle.jv_tree.specs.declared.built_in.SessionCall.TheVariants as calls
 use Rattle.jv_core.specs.declared.program.CoreType.{CoreType}
 use Rattle.jv_core.specs.declared.program.CoreType.TheVariants as types
 use Rattle.jv_core.specs.declared.program.MethodKind.TheVariants as kinds

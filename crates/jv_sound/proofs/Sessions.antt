@@ -15,8 +15,8 @@ use Rattle.jv_values.specs.Messages.{messages_of, taken, there_or, peer, next_me
 use Rattle.jv_values.specs.Messages.{takes, refuses, session}
 use Rattle.jv_core.specs.declared.program.CoreType.{CoreType}
 use Rattle.jv_core.specs.declared.program.CoreType.TheVariants as types
-use Rattle.jv_tree.specs.declared.session.SessionCall.{SessionCall}
-use Rattle.jv_tree.specs.declared.session.SessionCall.TheVariants as calls
+use Rattle.jv_tree.specs.declared.built_in.SessionCall.{SessionCall}
+use Rattle.jv_tree.specs.declared.built_in.SessionCall.TheVariants as calls
 use Rattle.jv_core.specs.Tree.{Program}
 use Rattle.jv_core.specs.Types.{session_params, session_result}
 use Rattle.jv_sound.proofs.Worlds.{World, Extends, Runs, runs_give, runs_then, runs_stop, good_give, Fits, fits_more, GivesA, AllFit}

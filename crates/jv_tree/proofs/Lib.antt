@@ -1,2 +1,2 @@
 pub mod ViewLaws
-pub mod SessionLaws
+pub mod BuiltInLaws

@@ -2,11 +2,11 @@
 //! Definitions of the grammar stand in `specs/`, so that reader and printer speak of one thing.
 #![tactic(auto)]
 
-mod session;
+mod built_in;
 mod token;
 mod tree;
 
-pub use session::{PlainType, SessionCall};
+pub use built_in::{PlainMethod, PlainType, SessionCall, TextCall};
 pub use token::{Sign, Token, TokenKind};
 pub use tree::{
     Class, Decl, Enum, Expr, ExprKind, Field, File, Group, MethodDecl, Op, Param, Stmt, StmtKind,

@@ -15,8 +15,9 @@ use Rattle.jv_values.specs.Operators.{Operator, wrap, Or, And, Equal, Unequal, L
 use Rattle.jv_values.specs.Operators.{Remain, int_same, nonzero, shown, joined, sum, computed, compared, same, unless_decided, both}
 use Rattle.jv_values.specs.Operators.{applied, binary, negative, opposite, equal_texts, joined_texts, print}
 use Rattle.jv_values.specs.Objects.{object, object_of, read_field, write_field, make, receiver, answer_of, telling}
-use Rattle.jv_tree.specs.declared.session.SessionCall.{SessionCall}
-use Rattle.jv_tree.specs.declared.session.SessionCall.TheVariants.{Send, SendInt, SendBoolean, SendString, Look, Take, TakeInt, TakeBoolean, TakeString, Refuse}
+use Rattle.jv_tree.specs.declared.built_in.SessionCall.{SessionCall}
+use Rattle.jv_tree.specs.declared.built_in.SessionCall.TheVariants.{Send, SendInt, SendBoolean, SendString, Look, Refuse}
+use Rattle.jv_tree.specs.declared.built_in.SessionCall.TheVariants.{Take, TakeInt, TakeBoolean, TakeString}
 use Rattle.jv_values.specs.Messages.{messages_of, taken, there_or, peer, next_message, sends, looks, nothing_in, int_in, truth_in, text_in}
 use Rattle.jv_values.specs.Messages.{takes, refuses, session}
 use Rattle.jv_values.specs.Alike.{Relation, Shares}

@@ -1,7 +1,7 @@
 -- The laws of the library.
 use Rattle.std.specs.Prelude.{◌≡◌, ℕ, Option, List}
 use Rattle.mg_text.specs.Call.{Name}
-use Rattle.jv_tree.specs.declared.session.SessionCall.{SessionCall}
+use Rattle.jv_tree.specs.declared.built_in.SessionCall.{SessionCall}
 use Rattle.jv_values.specs.Values.{Value, Inputs, Instance, Shared}
 use Rattle.jv_values.specs.Doing.{Run}
 use Rattle.jv_values.specs.Operators.{Operator, binary, negative, opposite, equal_texts, joined_texts, print}

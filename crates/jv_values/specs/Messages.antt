@@ -8,8 +8,9 @@ use Rattle.mg_text.specs.declared.event.Event.TheVariants as seen
 use Rattle.mg_text.specs.declared.event.Sent.{Sent}
 use Rattle.mg_text.specs.declared.event.Carried.{Carried}
 use Rattle.mg_text.specs.declared.event.Carried.TheVariants as carried
-use Rattle.jv_tree.specs.declared.session.SessionCall.{SessionCall}
-use Rattle.jv_tree.specs.declared.session.SessionCall.TheVariants.{Send, SendInt, SendBoolean, SendString, Look, Take, TakeInt, TakeBoolean, TakeString, Refuse}
+use Rattle.jv_tree.specs.declared.built_in.SessionCall.{SessionCall}
+use Rattle.jv_tree.specs.declared.built_in.SessionCall.TheVariants.{Send, SendInt, SendBoolean, SendString, Look, Refuse}
+use Rattle.jv_tree.specs.declared.built_in.SessionCall.TheVariants.{Take, TakeInt, TakeBoolean, TakeString}
 use Rattle.jv_values.specs.Values.{Value, Int, Truth, Text, Inputs, Finish, Wrong, Mismatch, NoPeer, Wait, Shared}
 use Rattle.jv_values.specs.Doing.{Run, ◌>>=◌, give, stop, note, happened, number, truth, text}
 

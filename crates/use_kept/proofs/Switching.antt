@@ -13,7 +13,7 @@ use Rattle.jv_values.specs.Doing.{Outcome, Gives, Ends, and_then, ◌>>=◌, giv
 use Rattle.jv_values.specs.Objects.{answer_of}
 use Rattle.jv_values.specs.Seen.{label_in}
 use Rattle.jv_values.specs.Statements.{Completion, Normal, Does}
-use Rattle.jv_tree.specs.Session.{session_method}
+use Rattle.jv_tree.specs.BuiltIn.{session_method}
 use Rattle.jv_core.proofs.PlainTypes.{no_enum}
 use Rattle.jv_core.specs.declared.tree.CoreVar.{CoreVar}
 use Rattle.jv_core.specs.declared.program.CoreType.{CoreType}
