@@ -14,6 +14,4 @@ pub use program::{
 };
 pub use resolved::Core;
 pub use texts::name_text;
-pub use tree::{
-    CoreExpr, CoreExprKind, CoreGroup, CoreStmt, CoreStmtKind, CoreVar, Var,
-};
+pub use tree::{CoreExpr, CoreExprKind, CoreGroup, CoreStmt, CoreStmtKind, CoreVar, Var};
