@@ -1,6 +1,7 @@
 pub mod Maps
 pub mod Told
 pub mod Found
+pub mod Sought
 pub mod Judged
 pub mod Widths
 pub mod Lower

@@ -31,9 +31,12 @@ fn is_named(op: u8, reference: Named<'_>, built: Built) -> bool
 fn built_in(op: u8, reference: Named<'_>) -> Option<Built>
     ensures { result ≡ built_in op (member_of reference.entry) built_members }
 {
-    Built::ALL
-        .into_iter()
-        .find(|built| is_named(op, reference, *built))
+    for built in &Built::ALL {
+        if is_named(op, reference, *built) {
+            return Some(*built);
+        }
+    }
+    None
 }
 
 /// The field of a class, by its number.

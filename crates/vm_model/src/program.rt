@@ -1,7 +1,7 @@
 //! A whole linked program, which contracts see as its classes.
 //! What its instructions name is there.
 
-ghost use Rattle.std.specs.Prelude.{◌≡◌};
+ghost use Rattle.std.specs.Prelude.{◌≡◌, ◌<◌, ◌^◌, length};
 ghost use Rattle.vm_model.specs.View.{classes_of};
 ghost use Rattle.vm_model.specs.Linked.{IsLinked};
 
@@ -41,11 +41,12 @@ impl Linked {
         Linked { classes }
     }
 
-    /// The classes, by their numbers.
+    /// The classes, by their numbers, each of which fits a `u32`.
     #[inline(always)]
     pub fn classes(&self) -> &[LinkedClass]
         ensures classes { classes_of result.now ≡ self.now }
         ensures linked { IsLinked self.now }
+        ensures bound { length result.now < 2 ^ 32 }
     {
         self.classes.as_slice()
     }

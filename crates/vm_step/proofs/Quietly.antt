@@ -97,10 +97,10 @@ near_room p class method operands given found (f ∷ fs) near is le =
     (is ∙ (λ i. method_at p (near.0 i) (near.1 i)), omega (arith, near.2, le))
 
 -- it is left to
-pub left_so : (p : Program) (given : ℕ) (found : MethodOf) (fs : List Frame) {R S : Type 0} (b : Bool) → Awaits p given found fs →
+pub left_so : (p : Program) (given : ℕ) (found : MethodOf) (fs : List Frame) {R : Type 0} (S : Type 0) (b : Bool) → Awaits p given found fs →
     OnTrue b R → OnFalse b ((fs ≡ []) × S) → R
-left_so p given found fs true awaits h k = h
-left_so p given found fs false awaits h k = absurd (subst (Awaits p given found) k.0 awaits)
+left_so p given found fs S true awaits h k = h
+left_so p given found fs S false awaits h k = absurd (subst (Awaits p given found) k.0 awaits)
 
 pub left_runs : (p : Program) (m new : Machine) (vs : List Value) (given : ℕ) (found : MethodOf) (fs : List Frame) →
     Awaits p given found fs → left_to m vs fs ≡ Some new → Runs p new found

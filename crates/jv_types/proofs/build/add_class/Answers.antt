@@ -20,7 +20,8 @@ pub returns-clause-numbers : goal.returns-clause-numbers
 returns-clause-numbers c = λ h.
     let class = c.in_ok-entry.ensures.class in
     numbered_more c.args.names.now _ _ _ _ c.in_ok-entry.entry h c.in_ok-push.ensures.items
-    (c.in_ok-entry.ensures.number ∙ c.in_ok-number.ensures ∙ ap (λ k. 0 + k) c.len.ensures) c.in_ok-entry.ensures.first_method
+    (c.in_ok-entry.ensures.number ∙ c.in_ok-number.ensures ∙ ap (λ k. 0 + k) (c.len.ensures ∙ c.args.entries.now.ok.0))
+    c.in_ok-entry.ensures.first_method
     (c.in_ok-entry.ensures.named ∙ c.typestate_for-typestate.ensures.number ∙ ap (λ k. number_named c.args.names.now k.typestate)
     (sym class))
     (c.in_ok-behind.ensures ∙ ap (λ k. c.args.methods.now + k) (c.len-2.ensures.value ∙ ap (λ k. length k.methods.items) (sym class)))

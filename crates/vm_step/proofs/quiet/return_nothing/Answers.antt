@@ -17,7 +17,7 @@ returns c =
     let awaits = c.in-Some-awaiting.ensures in
     let same : option_map type_view c.result_type.result ≡ result_in (signature_of (descriptor_in (method_of_frame p m.frame))) =
     c.result_type.ensures ∙ ap (λ o. result_in (signature_of (descriptor_in o))) c.requires.runs in
-    let is = left_so p 0 next m.callers c.leave-left.result awaits c.leave-left.ensures.yes c.leave-left.ensures.no in (
+    let is = left_so p 0 next m.callers _ c.leave-left.result awaits c.leave-left.ensures.yes c.leave-left.ensures.no in (
       quiet_return p m new c.requires.told next awaits (sym same ∙ ap (option_map type_view) c.in_default.is) is,
       left_runs p m new [] 0 next m.callers awaits is,
     )

@@ -21,7 +21,7 @@ returns c =
     let v = value_in c.args.state.now.texts c.operand-value.result in
     let same : option_map type_view c.result_type.result ≡ result_in (signature_of (descriptor_in (method_of_frame p m.frame))) =
     c.result_type.ensures ∙ ap (λ o. result_in (signature_of (descriptor_in o))) c.requires.runs in
-    let is = left_so p 1 next m.callers c.leave-left.result awaits c.leave-left.ensures.yes c.leave-left.ensures.no in (
+    let is = left_so p 1 next m.callers _ c.leave-left.result awaits c.leave-left.ensures.yes c.leave-left.ensures.no in (
       quiet_return_value p m new c.requires.told (sort_of c.args.sort) (type_view c.in-Some.answer) v next awaits
           (sym same ∙ ap (option_map type_view) c.in-Some.is) (omega arith) c.operand-value.ensures.value
           (when_true c.is_of_sort.result c.if-not-is_of_sort.false c.is_of_sort.ensures c.args.state.now.texts)
