@@ -52,14 +52,18 @@ fn plain_signature<'a>(method: PlainMethod) -> Signature<'a>
 pub(crate) fn session_method<'a>(name: &str) -> Option<Signature<'a>>
     ensures { (program : Program) → option_map (signature_seen program) result ≡ built_in session_methods name.now }
 {
-    let call = SessionCall::named(name)?;
-    Some(plain_signature(call.method()))
+    match SessionCall::named(name) {
+        Some(call) => Some(plain_signature(call.method())),
+        None => None,
+    }
 }
 
 /// The method of texts of a name.
 pub(crate) fn text_method<'a>(name: &str) -> Option<Signature<'a>>
     ensures { (program : Program) → option_map (signature_seen program) result ≡ built_in text_methods name.now }
 {
-    let call = TextCall::named(name)?;
-    Some(plain_signature(call.method()))
+    match TextCall::named(name) {
+        Some(call) => Some(plain_signature(call.method())),
+        None => None,
+    }
 }
