@@ -13,6 +13,9 @@ use Rattle.scr_tree.specs.Protocol.{Message, Send, Take}
 use Rattle.scr_tree.specs.CallNames.{payload_part, message_call, label_call}
 use Rattle.ts_tree.specs.declared.parts.TypeName.TheVariants as types
 use Rattle.stm_gen.specs.Laid.{carried_type, carried_params, choice_enum}
+use Rattle.jv_tree.specs.declared.built_in.SessionCall.TheVariants as calls
+use Rattle.jv_tree.specs.declared.built_in.TextCall.TheVariants as texts
+use Rattle.jv_tree.specs.BuiltIn.{session_method, text_method}
 use Rattle.jv_tree.specs.Source.{Stmt, Method}
 use Rattle.jv_tree.specs.Depth.{depth_of_stmt, depth_of_stmts}
 use Rattle.jv_tree.specs.View.{stmts_of}
@@ -24,8 +27,8 @@ use Rattle.jv_back.proofs.Parts.{IsTyped}
 use Rattle.jv_back.proofs.Stmts.{IsWrittenLocal, IsWrittenStmt, AreWrittenStmts}
 use Rattle.jv_back.proofs.Members.{IsWrittenParam, IsWrittenMethod}
 use Rattle.stm_api.specs.Doings.{Doing, Passes, Asks}
-use Rattle.stm_api.specs.Api.{session_part, send_body, take_body, label_test, first_label, found_by, refusal, look_body, value_param}
-use Rattle.stm_api.specs.Api.{message_method, look_method, method_of}
+use Rattle.stm_api.specs.Api.{send_call, take_call, send_body, take_body, label_test, first_label, found_by, refusal, look_body}
+use Rattle.stm_api.specs.Api.{value_param, message_method, look_method, method_of}
 use Rattle.jv_back.proofs.Files.{AreWrittenConstants}
 use Rattle.api_back.proofs.Names.{word_bytes, all_pass, passes_both, number_bytes, marked_name, choice_class, role_utf8, name_utf8, fixed}
 use Rattle.api_back.proofs.Names.{no_string}
@@ -42,26 +45,26 @@ found_named = fixed (codes "found") refl refl refl
 session_named : IsNamed (codes "Session")
 session_named = fixed (codes "Session") refl refl refl
 
-equals_named : IsNamed (codes "equals")
-equals_named = fixed (codes "equals") refl refl refl
+equals_named : IsNamed (text_method texts.Equals).name
+equals_named = fixed (text_method texts.Equals).name refl refl refl
 
-look_named : IsNamed (codes "look")
-look_named = fixed (codes "look") refl refl refl
+look_named : IsNamed (session_method calls.Look).name
+look_named = fixed (session_method calls.Look).name refl refl refl
 
-refuse_named : IsNamed (codes "refuse")
-refuse_named = fixed (codes "refuse") refl refl refl
+refuse_named : IsNamed (session_method calls.Refuse).name
+refuse_named = fixed (session_method calls.Refuse).name refl refl refl
 
-send_named : (kind : Payload) → IsNamed (codes "send" ++ session_part kind)
-send_named payloads.Nothing = fixed (codes "send") refl refl refl
-send_named payloads.Int = fixed (codes "sendInt") refl refl refl
-send_named payloads.Boolean = fixed (codes "sendBoolean") refl refl refl
-send_named payloads.Text = fixed (codes "sendString") refl refl refl
+send_named : (kind : Payload) → IsNamed (session_method (send_call kind)).name
+send_named payloads.Nothing = fixed (session_method calls.Send).name refl refl refl
+send_named payloads.Int = fixed (session_method calls.SendInt).name refl refl refl
+send_named payloads.Boolean = fixed (session_method calls.SendBoolean).name refl refl refl
+send_named payloads.Text = fixed (session_method calls.SendString).name refl refl refl
 
-take_named : (kind : Payload) → IsNamed (codes "take" ++ session_part kind)
-take_named payloads.Nothing = fixed (codes "take") refl refl refl
-take_named payloads.Int = fixed (codes "takeInt") refl refl refl
-take_named payloads.Boolean = fixed (codes "takeBoolean") refl refl refl
-take_named payloads.Text = fixed (codes "takeString") refl refl refl
+take_named : (kind : Payload) → IsNamed (session_method (take_call kind)).name
+take_named payloads.Nothing = fixed (session_method calls.Take).name refl refl refl
+take_named payloads.Int = fixed (session_method calls.TakeInt).name refl refl refl
+take_named payloads.Boolean = fixed (session_method calls.TakeBoolean).name refl refl refl
+take_named payloads.Text = fixed (session_method calls.TakeString).name refl refl refl
 
 part_bytes : (kind : Payload) → AllPasses is_word_byte (payload_part kind)
 part_bytes payloads.Nothing = tt

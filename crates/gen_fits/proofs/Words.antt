@@ -15,8 +15,8 @@ use Rattle.vm_model.specs.Types.{type_text, result_text, signature_text, main_si
 use Rattle.vm_model.specs.BuiltIns.{session_class}
 use Rattle.jv_core.specs.declared.program.CoreType.{CoreType}
 use Rattle.jv_core.specs.declared.program.CoreType.TheVariants as types
-use Rattle.jv_core.specs.declared.tree.SessionCall.{SessionCall}
-use Rattle.jv_core.specs.declared.tree.SessionCall.TheVariants as calls
+use Rattle.jv_tree.specs.declared.built_in.SessionCall.{SessionCall}
+use Rattle.jv_tree.specs.declared.built_in.SessionCall.TheVariants as calls
 use Rattle.jv_core.specs.Lookup.{text_at, is_main, param_types}
 use Rattle.jv_core.specs.Tree.{Class, Field, Method, Program}
 use Rattle.jv_core.specs.Types.{session_params, session_result}

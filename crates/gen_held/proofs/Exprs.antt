@@ -1,23 +1,27 @@
 -- What an expression that a file has is resolved to can be held.
 use Rattle.std.proofs.Common.{◌≡◌, ℕ, ◌<◌, ◌≤◌, ◌^◌, Bool, true, false, List, [], ◌∷◌, length, Option, Some, None, option_map, slice_get}
 use Rattle.std.proofs.Common.{position, subst, arith}
-use Rattle.std.specs.Prelude.{codes, if◌then◌else◌}
+use Rattle.std.specs.Prelude.{codes}
 use Rattle.std.specs.List.{AllByRecursion}
 use Rattle.std.specs.Str.{bytes_eq}
 use Rattle.std.proofs.lemmas.List.Quantifiers.{position-Some}
 use Rattle.mg_text.specs.Call.{Name}
 use Rattle.mg_text.specs.declared.place.Place.{Place}
+use Rattle.jv_tree.specs.declared.built_in.TextCall.{TextCall}
+use Rattle.jv_tree.specs.declared.built_in.TextCall.TheVariants as texts
+use Rattle.jv_tree.specs.BuiltIn.{session_named, text_named}
 use Rattle.jv_tree.specs.Source
 use Rattle.jv_meaning.specs.Program.{constant_position}
 use Rattle.jv_core.specs.declared.tree.CoreVar.{CoreVar}
 use Rattle.jv_core.specs.declared.program.CoreType.TheVariants as types
 use Rattle.jv_core.specs.Tree as Core
+use Rattle.jv_core.specs.Types.{text_result}
 use Rattle.jv_core.specs.View.{exprs_of}
 use Rattle.jv_names.proofs.Tables.{some_is, none_some}
 use Rattle.jv_kept.proofs.Slots.{all_holds}
 use Rattle.jv_resolve_law.specs.Tables.{◌>>=◌, Tables, Callee, Numbered, class_called, enum_called, enum_names, method_called, type_meant}
 use Rattle.jv_resolve_law.specs.Expressions.{Given, OfNull, Of, Resolved, Known, Standing, Found, Receiver, OnThis, OnClass, OnValue}
-use Rattle.jv_resolve_law.specs.Expressions.{variable_in, only, text_call, session_named, session_call}
+use Rattle.jv_resolve_law.specs.Expressions.{variable_in, only, typed, text_form, text_call, session_call}
 use Rattle.jv_resolve_law.specs.Expressions.{constant, initial, static_call, helper_call, object_call, call_class, call_protocol}
 use Rattle.jv_resolve_law.specs.Expressions.{call_typed, own_found, call_own, call_on, found, variable_at, constant_at, member}
 use Rattle.jv_resolve_law.specs.Expressions.{named_receiver, receiver, resolved, resolved_all}
@@ -41,13 +45,11 @@ below i n m a b = omega (arith, a, b)
 
 text_call_held : (p : Place) (text : Core.Expr) (f : Name) (arg : Core.Expr) (r : Resolved) → HoldsExpr text → HoldsExpr arg →
     text_call p text f arg ≡ Some r → Holds r
-text_call_held p text f arg r a b e = go (bytes_eq f (codes "equals")) (bytes_eq f (codes "concat")) e
+text_call_held p text f arg r a b e = let c = bound (text_named f) _ r e in go c.item c.gives
   where
-    go : (x y : Bool) → (if x then Some (record { expr = Core.Equals p text arg; given = Of types.Boolean })
-        else if y then Some (record { expr = Core.Concat p text arg; given = Of types.Text }) else None) ≡ Some r → Holds r
-    go true y e = subst Holds (some_is e) (a, b)
-    go false true e = subst Holds (some_is e) (a, b)
-    go false false e = absurd (none_some e)
+    go : (c : TextCall) → Some (typed (text_form p text arg c) (text_result c)) ≡ Some r → Holds r
+    go texts.Equals e = subst Holds (some_is e) (a, b)
+    go texts.Concat e = subst Holds (some_is e) (a, b)
 
 session_held : (p : Place) (f : Name) (args : List Core.Expr) (r : Resolved) → AllHold args → session_call p f args ≡ Some r → Holds r
 session_held p f args r h e = let b = bound (session_named f) _ r e in subst Holds (some_is b.gives) h

@@ -1,15 +1,17 @@
 -- All instructions of a method of a core link.
 use Rattle.std.proofs.Common.{◌≡◌, inl, inr, ℕ, suc, pos, ◌+◌, ◌<◌, List, [], ◌∷◌, length}
-use Rattle.std.proofs.Common.{Bool, true, false, Option, Some, None, slice_get, option_map}
+use Rattle.std.proofs.Common.{Bool, true, false, Option, Some, None, Ok, slice_get, option_map}
 use Rattle.std.proofs.Common.{option_and_then, refl, sym, subst, arith}
 use Rattle.std.specs.List.{AllByRecursion}
 use Rattle.mg_text.specs.declared.place.Place.{Place}
+use Rattle.cls_tree.specs.declared.opcodes.TheConstants.{INVOKESTATIC}
+use Rattle.cls_tree.specs.Pool.{Reference}
 use Rattle.jv_tree.specs.declared.tree.Op.{Op}
 use Rattle.jv_tree.specs.declared.tree.Op.TheVariants as ops
 use Rattle.jv_core.specs.declared.tree.Var.{Var}
 use Rattle.jv_core.specs.declared.tree.Var.TheVariants as vars
-use Rattle.jv_core.specs.declared.tree.SessionCall.{SessionCall}
-use Rattle.jv_core.specs.declared.tree.SessionCall.TheVariants as calls
+use Rattle.jv_tree.specs.declared.built_in.SessionCall.{SessionCall}
+use Rattle.jv_tree.specs.declared.built_in.SessionCall.TheVariants as calls
 use Rattle.jv_core.specs.declared.program.CoreType.{CoreType}
 use Rattle.jv_core.specs.declared.program.CoreType.TheVariants as types
 use Rattle.jv_core.specs.Tree.{Expr, Int, Truth, Text, Null, Variable, Constant, Neg}
@@ -24,8 +26,10 @@ use Rattle.jv_core.specs.Conditions.{IsMethod}
 use Rattle.jv_core.specs.Lookup.{variable_type, field_type}
 use Rattle.vm_model.specs.Types.{signature_of, type_of}
 use Rattle.vm_model.specs.Program as machine
+use Rattle.vm_model.specs.declared.linked.Built.{Built}
 use Rattle.vm_model.specs.declared.linked.Built.TheVariants as built
-use Rattle.vm_model.specs.Links.{Outline}
+use Rattle.vm_model.specs.Linked.{fits_code}
+use Rattle.vm_model.specs.Links.{Outline, member_args, method_types, judged_reference}
 use Rattle.vm_model.specs.BuiltIns.{object_class}
 use Rattle.gen_rules.specs.Symbolic.{Instr, push}
 use Rattle.gen_rules.specs.Symbolic.{ifeq, ifne, ifnull, ifnonnull, if_icmp, opposite, goto}
@@ -80,72 +84,26 @@ module _ (os : List Outline) (n : ℕ) where
   unfolding signature_of
   right_of_truth = (inr (inr refl), record { args = machine.Built built.ValueOfTruth; judged = refl; found = refl; fits = refl })
 
+  -- a static member of a built-in class, in the form in which it is judged
+  right_static : (r : Reference) (b : Built) →
+      judged_reference os INVOKESTATIC r (method_types r.member.name r.member.descriptor) ≡ Ok (machine.Built b) →
+      member_args os INVOKESTATIC r ≡ Some (machine.Built b) → fits_code n INVOKESTATIC (machine.Built b) ≡ true →
+      IsRight os n (invokestatic r)
+  right_static r b judged found fits =
+      (inr (inr refl), record { args = machine.Built b; judged = judged; found = found; fits = fits })
+
   right_session : (p : Program) (c : SessionCall) → IsRight os n (invokestatic (session_reference p c))
   unfolding signature_of
-  right_session p calls.Send = (inr (inr refl), record { args = machine.Built built.Send; judged = refl; found = refl; fits = refl })
-  right_session p calls.SendInt = (
-    inr (inr refl),
-    record {
-      args = machine.Built built.SendInt;
-      judged = refl;
-      found = refl;
-      fits
-          = refl;
-    },
-  )
-  right_session p calls.SendBoolean = (
-    inr (inr refl),
-    record {
-      args = machine.Built built.SendTruth;
-      judged = refl;
-      found
-          = refl;
-      fits = refl;
-    },
-  )
-  right_session p calls.SendString = (
-    inr (inr refl),
-    record {
-      args = machine.Built built.SendText;
-      judged = refl;
-      found
-          = refl;
-      fits = refl;
-    },
-  )
-  right_session p calls.Look = (inr (inr refl), record { args = machine.Built built.Look; judged = refl; found = refl; fits = refl })
-  right_session p calls.Take = (inr (inr refl), record { args = machine.Built built.Take; judged = refl; found = refl; fits = refl })
-  right_session p calls.TakeInt = (
-    inr (inr refl),
-    record {
-      args = machine.Built built.TakeInt;
-      judged = refl;
-      found = refl;
-      fits
-          = refl;
-    },
-  )
-  right_session p calls.TakeBoolean = (
-    inr (inr refl),
-    record {
-      args = machine.Built built.TakeTruth;
-      judged = refl;
-      found
-          = refl;
-      fits = refl;
-    },
-  )
-  right_session p calls.TakeString = (
-    inr (inr refl),
-    record {
-      args = machine.Built built.TakeText;
-      judged = refl;
-      found
-          = refl;
-      fits = refl;
-    },
-  )
-  right_session p calls.Refuse = (inr (inr refl), record { args = machine.Built built.Refuse; judged = refl; found = refl; fits = refl })
+  right_session p calls.Send = right_static (session_reference p calls.Send) built.Send refl refl refl
+  right_session p calls.SendInt = right_static (session_reference p calls.SendInt) built.SendInt refl refl refl
+  right_session p calls.SendBoolean = right_static (session_reference p calls.SendBoolean) built.SendTruth refl refl refl
+  right_session p calls.SendString = right_static (session_reference p calls.SendString) built.SendText refl refl refl
+  right_session p calls.Look = right_static (session_reference p calls.Look) built.Look refl refl refl
+  right_session p calls.Take = right_static (session_reference p calls.Take) built.Take refl refl refl
+  right_session p calls.TakeInt = right_static (session_reference p calls.TakeInt) built.TakeInt refl refl refl
+  right_session p calls.TakeBoolean = right_static (session_reference p calls.TakeBoolean) built.TakeTruth refl refl refl
+  right_session p calls.TakeString = right_static (session_reference p calls.TakeString) built.TakeText refl refl refl
+  right_session p calls.Refuse = right_static (session_reference p calls.Refuse) built.Refuse refl refl refl
 
   -- Pieces.
 

@@ -4,7 +4,7 @@ use Rattle.std.specs.Prelude.{true, false, ◌&&◌, ◌==◌, Option, Some, Non
 use Rattle.std.specs.List.{list_all}
 use Rattle.std.specs.Str.{bytes_eq}
 use Rattle.jv_tree.specs.declared.tree.Op.TheVariants as ops
-use Rattle.jv_core.specs.declared.tree.SessionCall.{SessionCall}
+use Rattle.jv_tree.specs.declared.built_in.SessionCall.{SessionCall}
 use Rattle.jv_core.specs.declared.program.CoreType.{CoreType}
 use Rattle.jv_core.specs.Tree.{Expr, Null, Method, Program}
 use Rattle.jv_core.specs.Types.{Has}

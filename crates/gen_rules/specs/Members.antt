@@ -7,8 +7,9 @@ use Rattle.vm_model.specs.Types as descriptors
 use Rattle.vm_model.specs.declared.linked.Built.{Built}
 use Rattle.vm_model.specs.declared.linked.Built.TheVariants as built
 use Rattle.vm_model.specs.BuiltIns.{string_class, session_class, built_member, reference_of}
-use Rattle.jv_core.specs.declared.tree.SessionCall.{SessionCall}
-use Rattle.jv_core.specs.declared.tree.SessionCall.TheVariants as calls
+use Rattle.jv_tree.specs.BuiltIn.{session_method}
+use Rattle.jv_tree.specs.declared.built_in.SessionCall.{SessionCall}
+use Rattle.jv_tree.specs.declared.built_in.SessionCall.TheVariants as calls
 use Rattle.jv_core.specs.declared.program.CoreType.{CoreType}
 use Rattle.jv_core.specs.declared.program.CoreType.TheVariants as types
 use Rattle.jv_core.specs.Tree.{Field, Method, Program}
@@ -109,7 +110,7 @@ session_member calls.TakeString = built.TakeText
 session_member calls.Refuse = built.Refuse
 
 abbrev pub session_name : SessionCall → Name
-session_name c = (built_member (session_member c)).name
+session_name c = (session_method c).name
 
 -- its descriptor is that of its types
 abbrev pub session_reference : Program → SessionCall → Reference

@@ -29,7 +29,7 @@ use Rattle.jv_core.specs.Types.{HasTypestate}
 use Rattle.jv_core.specs.Types.{session_params, session_result}
 use Rattle.jv_core.specs.Types
 use Rattle.jv_values.specs.Operators.{operator_of}
-use Rattle.jv_core.specs.Meaning.{Lower, session_of, result_of, runs_on_object, read, protocol_call, eval, eval_all, new_fields}
+use Rattle.jv_core.specs.Meaning.{Lower, result_of, runs_on_object, read, protocol_call, eval, eval_all, new_fields}
 use Rattle.vm_model.specs.declared.value.Value.{Value as Held}
 use Rattle.vm_model.specs.declared.value.Value.TheVariants as held
 use Rattle.vm_model.specs.Program as linked
@@ -641,10 +641,10 @@ module _ (p : Program) (ok : IsCore p) (os : List Outline) (program : linked.Pro
         (λ from to st x s q h room g heap holds.
         next_place p ok os program inputs me r m code runs n
         (λ k. Follows (step program me) n (Value_at p ok os program inputs me r m code runs n ls k st) (moment p r from st ls s q)
-        (and_then (all_meant row args s) (session inputs (session_of call)))) h.0 to h.2.1
+        (and_then (all_meant row args s) (session inputs call))) h.0 to h.2.1
         (after_args h.0 st (Value_at p ok os program inputs me r m code runs n ls (h.0 + 1) st)
         (value_closed p ok os program inputs me r m code runs n ls (h.0 + 1) st) (moment p r from st ls s q) x (session_params call)
-        (all_meant row args s) (session inputs (session_of call))
+        (all_meant row args s) (session inputs call)
         ((args_good p ok inputs low well number m at this xs (session_usable p ok call) w o f).run x g s heap)
         (arguments_do xs c (session_usable p ok call) w o f l from h.0 st x s q h.1 (omega (arith, room)) g heap holds)
         (λ y vs u q1 grown fits heap1 holds1. session_last p ok os program inputs me r m code runs n ls call h.0 st y vs u q1 h.2.0 fits

@@ -14,11 +14,10 @@ use Rattle.jv_values.specs.Values as values
 use Rattle.jv_values.specs.Doing.{Run, Outcome, and_then, ◌>>=◌, give, stop, note, happened}
 use Rattle.jv_values.specs.Messages.{messages_of, taken, there_or, sends, looks, takes, refuses, nothing_in, int_in, truth_in, text_in}
 use Rattle.jv_values.specs.Messages.{session}
-use Rattle.jv_core.specs.declared.tree.SessionCall.{SessionCall}
-use Rattle.jv_core.specs.declared.tree.SessionCall.TheVariants as calls
+use Rattle.jv_tree.specs.declared.built_in.SessionCall.{SessionCall}
+use Rattle.jv_tree.specs.declared.built_in.SessionCall.TheVariants as calls
 use Rattle.jv_core.specs.Tree.{Method, Program}
 use Rattle.jv_core.specs.Types.{session_params, session_result}
-use Rattle.jv_core.specs.Meaning.{session_of}
 use Rattle.jv_core.specs.Conditions.{IsCore}
 use Rattle.vm_model.specs.declared.value.Value.{Value as Held}
 use Rattle.vm_model.specs.declared.value.Value.TheVariants as held
@@ -244,7 +243,7 @@ module _ (p : Program) (ok : IsCore p) (os : List Outline) (program : linked.Pro
   pub session_last : (call : SessionCall) (place : ℕ) (st : List Held) (x : World) (vs : List Value) (s : Shared) (q : Messages) →
       slice_get code place ≡ Some (invokestatic (session_reference p call)) → AllFit p x vs (session_params call) →
       length st + left_by (Some (session_result call)) ≤ max_stack p m → Holds inputs q me s.events →
-      F (V (place + 1) st) (A place (st ++ map flat vs) s q) (session inputs (session_of call) vs s)
+      F (V (place + 1) st) (A place (st ++ map flat vs) s q) (session inputs call vs s)
   session_last calls.Send place st x vs s q at (worlds.value (worlds.text {t = a}) (worlds.value (worlds.text {t = b}) worlds.no_values))
       room holds =
       sends_go place st (held.Text a ∷ held.Text b ∷ []) a b carried.Nothing s q

@@ -2,7 +2,6 @@
 
 ghost use Rattle.std.specs.Prelude.{◌≡◌, max};
 ghost use Rattle.jv_core.specs.View.{expr_of};
-ghost use Rattle.jv_core.specs.Types.{session_result};
 ghost use Rattle.jv_core.specs.Meaning.{result_of};
 ghost use Rattle.gen_rules.specs.Typed.{is_text, joins, type_of, operator_type};
 ghost use Rattle.gen_rules.specs.Cases.{constants_of};
@@ -10,7 +9,7 @@ ghost use Rattle.gen_symbolic.specs.inner.Held.{method_in, is_null};
 ghost use Rattle.jv_tree.specs.declared.tree.Op.TheVariants as ops;
 
 use crate::coder::Coder;
-use jv_core::{CoreExpr, CoreExprKind, CoreOp, CoreType, SessionCall};
+use jv_core::{CoreExpr, CoreExprKind, CoreOp, CoreType};
 
 /// Whether an expression is `null`.
 #[tactic(auto, using(crate::proofs::Seen::seen))]
@@ -25,20 +24,6 @@ pub(crate) fn is_null(expr: &CoreExpr) -> bool
         CoreExprKind::Protocol { .. } | CoreExprKind::Helper { .. } => false,
         CoreExprKind::Static { .. } | CoreExprKind::Session { .. } => false,
         CoreExprKind::Equals(_, _) | CoreExprKind::Concat(_, _) => false,
-    }
-}
-
-// What a call of `Session` gives.
-fn session_result(call: SessionCall) -> CoreType
-    ensures { result ≡ session_result call }
-{
-    match call {
-        SessionCall::Look => CoreType::Text,
-        SessionCall::TakeInt => CoreType::Int,
-        SessionCall::TakeBoolean => CoreType::Boolean,
-        SessionCall::TakeString => CoreType::Text,
-        SessionCall::Send | SessionCall::SendInt | SessionCall::SendBoolean => CoreType::Void,
-        SessionCall::SendString | SessionCall::Take | SessionCall::Refuse => CoreType::Void,
     }
 }
 
@@ -96,7 +81,7 @@ impl<'a> Coder<'a> {
             CoreExprKind::Static { method, .. } => self.result_of(*method),
             CoreExprKind::Equals(_, _) => Some(CoreType::Boolean),
             CoreExprKind::Concat(_, _) => Some(CoreType::Text),
-            CoreExprKind::Session { call, .. } => Some(session_result(*call)),
+            CoreExprKind::Session { call, .. } => Some(CoreType::plain(call.method().result)),
             CoreExprKind::New(class) => Some(CoreType::Object(*class)),
         }
     }

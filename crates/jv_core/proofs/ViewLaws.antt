@@ -8,7 +8,7 @@ use Rattle.mg_text.specs.declared.place.Place.{Place}
 use Rattle.jv_tree.specs.declared.tree.Op.{Op}
 use Rattle.jv_core.specs.declared.tree.Var.{Var}
 use Rattle.jv_core.specs.declared.tree.CoreVar.{CoreVar}
-use Rattle.jv_core.specs.declared.tree.SessionCall.{SessionCall}
+use Rattle.jv_tree.specs.declared.built_in.SessionCall.{SessionCall}
 use Rattle.jv_core.specs.declared.tree.CoreExpr.{CoreExpr, fold_out-CoreExpr}
 use Rattle.jv_core.specs.declared.tree.CoreExprKind.{fold-roll-CoreExprKind}
 use Rattle.jv_core.specs.declared.tree.CoreExprKind.TheOpen as F

@@ -10,14 +10,11 @@ use Rattle.jv_values.specs.Doing.{Run, ◌>>=◌, give, stop, found, valued, val
 use Rattle.jv_values.specs.Operators.{operator_of, binary, negative, opposite, equal_texts, joined_texts, print}
 use Rattle.jv_values.specs.Objects.{object_of, read_field, write_field, make, receiver, telling}
 use Rattle.jv_values.specs.Messages.{session}
-use Rattle.jv_values.specs.Messages as messages
 use Rattle.jv_values.specs.Statements.{Normal, Breaks, Continues, Returns, Does, next_do, assigned, Mine, while_turn, do_turn, is_default}
 use Rattle.jv_values.specs.Statements.{case_at, any_label, after_switch}
 use Rattle.jv_values.specs.Budget.{Below, Language, ran}
 use Rattle.jv_core.specs.declared.tree.Var.{Var}
 use Rattle.jv_core.specs.declared.tree.Var.TheVariants as vars
-use Rattle.jv_core.specs.declared.tree.SessionCall.{SessionCall}
-use Rattle.jv_core.specs.declared.tree.SessionCall.TheVariants as calls
 use Rattle.jv_core.specs.declared.program.CoreType.{CoreType}
 use Rattle.jv_core.specs.declared.program.CoreType.TheVariants as types
 use Rattle.jv_core.specs.declared.program.MethodKind.{MethodKind}
@@ -29,18 +26,6 @@ use Rattle.jv_core.specs.Tree.{Stmt, Block, Empty, Local, Assign, If, IfElse, Wh
 use Rattle.jv_core.specs.Tree.{Stmts, NoStmt, Then, Declare, Groups, NoGroup, Group, Field, Method, Program}
 use Rattle.jv_core.specs.Lookup.{text_at, class_text, enum_text, variable_type, class_numbered, is_main}
 use Rattle.jv_core.specs.Numbering.{numbers_from}
-
-abbrev pub session_of : SessionCall → messages.SessionCall
-session_of calls.Send = messages.Send
-session_of calls.SendInt = messages.SendInt
-session_of calls.SendBoolean = messages.SendTruth
-session_of calls.SendString = messages.SendText
-session_of calls.Look = messages.Look
-session_of calls.Take = messages.Take
-session_of calls.TakeInt = messages.TakeInt
-session_of calls.TakeBoolean = messages.TakeTruth
-session_of calls.TakeString = messages.TakeText
-session_of calls.Refuse = messages.Refuse
 
 -- Methods, as they run.
 
@@ -181,7 +166,7 @@ module _ (p : Program) (inputs : Inputs) (low : Lower) (n : ℕ) (here : Here �
     eval locals (Static q m args) = eval_all locals args >>= low.call m None
     eval locals (Equals q l r) = valuing (valued (eval locals l) >>= λ v. valued (eval locals r) >>= λ w. equal_texts v w)
     eval locals (Concat q l r) = valuing (valued (eval locals l) >>= λ v. valued (eval locals r) >>= λ w. joined_texts v w)
-    eval locals (Session q c args) = eval_all locals args >>= session inputs (session_of c)
+    eval locals (Session q c args) = eval_all locals args >>= session inputs c
     eval locals (New q c) = do
       k ← found (slice_get p.classes c)
       row ← found (new_fields p k.fields)

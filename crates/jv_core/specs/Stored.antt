@@ -7,7 +7,7 @@ use Rattle.mg_text.specs.declared.place.Place.{Place}
 use Rattle.jv_tree.specs.declared.tree.Op.{Op}
 use Rattle.jv_core.specs.declared.tree.Var.{Var}
 use Rattle.jv_core.specs.declared.tree.CoreVar.{CoreVar}
-use Rattle.jv_core.specs.declared.tree.SessionCall.{SessionCall}
+use Rattle.jv_tree.specs.declared.built_in.SessionCall.{SessionCall}
 use Rattle.jv_core.specs.Tree as tree
 
 -- what a node is, with what is neither an expression nor a statement

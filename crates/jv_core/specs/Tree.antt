@@ -6,7 +6,7 @@ use Rattle.ts_tree.specs.Typestate.{Typestate}
 use Rattle.jv_tree.specs.declared.tree.Op.{Op}
 use Rattle.jv_core.specs.declared.tree.Var.{Var}
 use Rattle.jv_core.specs.declared.tree.CoreVar.{CoreVar}
-use Rattle.jv_core.specs.declared.tree.SessionCall.{SessionCall}
+use Rattle.jv_tree.specs.declared.built_in.SessionCall.{SessionCall}
 use Rattle.jv_core.specs.declared.program.CoreType.{CoreType}
 use Rattle.jv_core.specs.declared.program.MethodKind.{MethodKind}
 

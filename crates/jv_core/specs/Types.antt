@@ -1,13 +1,16 @@
 -- The types of expressions, in a method and with these slots in scope.
-use Rattle.std.specs.Prelude.{◌≡◌, ◌⊎◌, ◌<◌, ℕ, ℤ, Bool, List, [], ◌∷◌, length, Some, slice_get, Contains}
+use Rattle.std.specs.Prelude.{◌≡◌, ◌⊎◌, ◌<◌, ℕ, ℤ, Bool, List, [], ◌∷◌, map, length, Some, slice_get, Contains}
 use Rattle.mg_text.specs.declared.place.Place.{Place}
 use Rattle.jv_tree.specs.declared.tree.Op.{Op}
 use Rattle.jv_tree.specs.declared.tree.Op.TheVariants as ops
 use Rattle.jv_core.specs.declared.tree.Var.{Var}
 use Rattle.jv_core.specs.declared.tree.Var.TheVariants as vars
 use Rattle.jv_core.specs.declared.tree.CoreVar.{CoreVar}
-use Rattle.jv_core.specs.declared.tree.SessionCall.{SessionCall}
-use Rattle.jv_core.specs.declared.tree.SessionCall.TheVariants as calls
+use Rattle.jv_tree.specs.declared.built_in.SessionCall.{SessionCall}
+use Rattle.jv_tree.specs.declared.built_in.PlainType.{PlainType}
+use Rattle.jv_tree.specs.declared.built_in.PlainType.TheVariants as plain
+use Rattle.jv_tree.specs.declared.built_in.TextCall.{TextCall}
+use Rattle.jv_tree.specs.BuiltIn.{session_method, text_method}
 use Rattle.jv_core.specs.declared.program.CoreType.{CoreType}
 use Rattle.jv_core.specs.declared.program.CoreType.TheVariants as types
 use Rattle.jv_core.specs.declared.program.MethodKind.{MethodKind}
@@ -61,26 +64,22 @@ IsCompared types.Boolean = Unit {0}
 IsCompared (types.Enum e) = Unit {0}
 IsCompared _ = ⊥
 
--- The methods of `Session`: what they take, and what they give.
+-- The methods that every program has: what those of `Session` take and give, and what those of texts give.
+
+abbrev pub plain_type : PlainType → CoreType
+plain_type plain.Void = types.Void
+plain_type plain.Int = types.Int
+plain_type plain.Boolean = types.Boolean
+plain_type plain.Text = types.Text
 
 abbrev pub session_params : SessionCall → List CoreType
-session_params calls.Send = types.Text ∷ types.Text ∷ []
-session_params calls.SendInt = types.Text ∷ types.Text ∷ types.Int ∷ []
-session_params calls.SendBoolean = types.Text ∷ types.Text ∷ types.Boolean ∷ []
-session_params calls.SendString = types.Text ∷ types.Text ∷ types.Text ∷ []
-session_params calls.Look = types.Text ∷ []
-session_params calls.Take = types.Text ∷ types.Text ∷ []
-session_params calls.TakeInt = types.Text ∷ types.Text ∷ []
-session_params calls.TakeBoolean = types.Text ∷ types.Text ∷ []
-session_params calls.TakeString = types.Text ∷ types.Text ∷ []
-session_params calls.Refuse = types.Text ∷ types.Text ∷ []
+session_params c = map plain_type (session_method c).params
 
 abbrev pub session_result : SessionCall → CoreType
-session_result calls.Look = types.Text
-session_result calls.TakeInt = types.Int
-session_result calls.TakeBoolean = types.Boolean
-session_result calls.TakeString = types.Text
-session_result _ = types.Void
+session_result c = plain_type (session_method c).result
+
+abbrev pub text_result : TextCall → CoreType
+text_result c = plain_type (text_method c).result
 
 -- Helper calls in the arguments of a call on an own field.
 

@@ -8,11 +8,10 @@ mod texts;
 mod tree;
 
 pub use jv_tree::Op as CoreOp;
+pub use jv_tree::SessionCall;
 pub use program::{
     CoreClass, CoreEnum, CoreField, CoreLoop, CoreMethod, CoreSlot, CoreType, MethodKind,
 };
 pub use resolved::Core;
 pub use texts::name_text;
-pub use tree::{
-    CoreExpr, CoreExprKind, CoreGroup, CoreStmt, CoreStmtKind, CoreVar, SessionCall, Var,
-};
+pub use tree::{CoreExpr, CoreExprKind, CoreGroup, CoreStmt, CoreStmtKind, CoreVar, Var};

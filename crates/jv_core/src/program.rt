@@ -2,6 +2,7 @@
 //! Names stand in them by their numbers in the program's table of names.
 
 use crate::{CoreExpr, CoreStmt};
+use jv_tree::PlainType;
 use mg_text::{List, Name, Place};
 
 /// A type. Classes and enums stand in it by their numbers, and `Text` is Java's String.
@@ -15,6 +16,23 @@ pub enum CoreType {
     Object(u32),
     /// The number of the enum.
     Enum(u32),
+}
+
+impl CoreType {
+    ghost use Rattle.std.specs.Prelude.{◌≡◌};
+    ghost use Rattle.jv_core.specs.Types.{plain_type};
+
+    /// The type that a plain one is.
+    pub fn plain(plain: PlainType) -> CoreType
+        ensures { result ≡ plain_type plain }
+    {
+        match plain {
+            PlainType::Void => CoreType::Void,
+            PlainType::Int => CoreType::Int,
+            PlainType::Boolean => CoreType::Boolean,
+            PlainType::Text => CoreType::Text,
+        }
+    }
 }
 
 /// A class, and the place of its name. `typestate` is the number of its typestate, and `methods`

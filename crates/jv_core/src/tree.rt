@@ -1,7 +1,7 @@
 //! The statements and expressions of a resolved program.
 //! Slots, fields, methods, classes, enums and loops stand in them by their numbers.
 
-use jv_tree::Op;
+use jv_tree::{Op, SessionCall};
 use mg_text::{List, Place, Text};
 
 /// A variable: a slot of the method, or a field of the object that the method runs on.
@@ -16,21 +16,6 @@ pub enum Var {
 pub struct CoreVar {
     pub place: Place,
     pub var: Var,
-}
-
-/// A method of the class `Session`, through which a role speaks with its peers.
-#[derive(Clone, Copy, Debug, PartialEq, Eq)]
-pub enum SessionCall {
-    Send,
-    SendInt,
-    SendBoolean,
-    SendString,
-    Look,
-    Take,
-    TakeInt,
-    TakeBoolean,
-    TakeString,
-    Refuse,
 }
 
 /// A statement, with the place of the statement that it comes from.

@@ -16,14 +16,15 @@ use Rattle.jv_rules.specs.Scope.{Scope, is_variable}
 use Rattle.jv_rules.specs.Typing.{type_of, is_text, operator_type}
 use Rattle.jv_rules.specs.Taking.{Fitting, Writable, ClassVariable, Nothing, Taken, taken, all_taken, both, compared, operands, IsClass}
 use Rattle.jv_rules.specs.Conditions.{TypeMismatch}
+use Rattle.jv_tree.specs.BuiltIn.{session_method}
+use Rattle.jv_core.proofs.PlainTypes.{no_object}
 use Rattle.jv_core.specs.declared.tree.Var.{Var}
 use Rattle.jv_core.specs.declared.program.CoreType.{CoreType}
 use Rattle.jv_core.specs.declared.program.CoreType.TheVariants as types
 use Rattle.jv_core.specs.Tree as Core
 use Rattle.jv_core.specs.Types.{Has, IsEquality, IsArithmetic, IsOrder, IsLogic, IsVariable, session_result}
 use Rattle.jv_core.specs.Types as has
-use Rattle.jv_core.specs.declared.tree.SessionCall.{SessionCall}
-use Rattle.jv_core.specs.declared.tree.SessionCall.TheVariants as calls
+use Rattle.jv_tree.specs.declared.built_in.SessionCall.{SessionCall}
 use Rattle.jv_core.specs.Members.{type_names}
 use Rattle.jv_names.specs.Resolves.{Numbers, IsVar, IsExpr, Resolves}
 use Rattle.jv_names.specs.Resolves as is
@@ -41,16 +42,7 @@ pub record IsNull (e : Core.Expr) : Type 0 where
   pub is : e ≡ Core.Null place
 
 no_session : (c : SessionCall) (n : ℕ) → session_result c ≡ types.Object n → ⊥
-no_session calls.Send n e = cc
-no_session calls.SendInt n e = cc
-no_session calls.SendBoolean n e = cc
-no_session calls.SendString n e = cc
-no_session calls.Look n e = cc
-no_session calls.Take n e = cc
-no_session calls.TakeInt n e = cc
-no_session calls.TakeBoolean n e = cc
-no_session calls.TakeString n e = cc
-no_session calls.Refuse n e = cc
+no_session c n e = no_object (session_method c).result n e
 
 object_is : {c d : ℕ} → types.Object c ≡ types.Object d → c ≡ d
 object_is e = cc

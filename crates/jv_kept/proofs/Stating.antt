@@ -17,9 +17,10 @@ use Rattle.jv_rules.specs.Taking.{Fitting, Nothing, taken, all_taken, assigned, 
 use Rattle.jv_rules.specs.Conditions.{TypeMismatch}
 use Rattle.jv_rules.specs.Members.{mentions_in, mentions_in_stmt, mentions_in_stmts, mentions_in_groups}
 use Rattle.jv_rules.specs.Declarations.{UnknownClass}
+use Rattle.jv_tree.specs.BuiltIn.{session_method}
+use Rattle.jv_core.proofs.PlainTypes.{no_enum as plain_no_enum}
 use Rattle.jv_core.specs.declared.tree.CoreVar.{CoreVar}
-use Rattle.jv_core.specs.declared.tree.SessionCall.{SessionCall}
-use Rattle.jv_core.specs.declared.tree.SessionCall.TheVariants as calls
+use Rattle.jv_tree.specs.declared.built_in.SessionCall.{SessionCall}
 use Rattle.jv_core.specs.declared.program.CoreType.{CoreType}
 use Rattle.jv_core.specs.declared.program.CoreType.TheVariants as types
 use Rattle.jv_core.specs.Tree as Core
@@ -52,16 +53,7 @@ enum_is : {a b : ℕ} → types.Enum a ≡ types.Enum b → a ≡ b
 enum_is e = cc
 
 no_enum : (c : SessionCall) (n : ℕ) → session_result c ≡ types.Enum n → ⊥
-no_enum calls.Send n e = cc
-no_enum calls.SendInt n e = cc
-no_enum calls.SendBoolean n e = cc
-no_enum calls.SendString n e = cc
-no_enum calls.Look n e = cc
-no_enum calls.Take n e = cc
-no_enum calls.TakeInt n e = cc
-no_enum calls.TakeBoolean n e = cc
-no_enum calls.TakeString n e = cc
-no_enum calls.Refuse n e = cc
+no_enum c n e = plain_no_enum (session_method c).result n e
 
 -- the enum whose constants an expression gives
 enum_given : (core : Core.Program) (m : Core.Method) (slots : List ℕ) (number : ℕ) → slice_get core.methods number ≡ Some m →

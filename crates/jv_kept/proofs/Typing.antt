@@ -1,6 +1,6 @@
 -- What is resolved of a clean expression has the type of its source.
-use Rattle.std.proofs.Common.{◌≡◌, ◌≢◌, inl, ⊎_elim, ℕ, ◌<◌, Bool, true, false, true≢false, List, [], ◌∷◌, ◌++◌, length, Option, Some, None}
-use Rattle.std.proofs.Common.{option_map, refl, sym, ap, ◌∙◌, subst, arith}
+use Rattle.std.proofs.Common.{◌≡◌, ◌≢◌, inl, ⊎_elim, ℕ, ◌<◌, Bool, true, false, true≢false, List, [], ◌∷◌, ◌++◌, map, length, Option, Some}
+use Rattle.std.proofs.Common.{None, option_map, refl, sym, ap, ◌∙◌, subst, arith}
 use Rattle.std.specs.Prelude.{codes, if◌then◌else◌}
 use Rattle.std.specs.List.{list_any}
 use Rattle.std.specs.Str.{bytes_eq}
@@ -10,6 +10,11 @@ use Rattle.mg_text.specs.declared.place.Place.{Place}
 use Rattle.mg_read.specs.Culprit.{Culprit, culprit}
 use Rattle.mg_read.specs.First.{Clean}
 use Rattle.ts_tree.specs.Proper.{AreDistinct}
+use Rattle.jv_tree.specs.declared.built_in.PlainType.{PlainType}
+use Rattle.jv_tree.specs.declared.built_in.PlainType.TheVariants as plain
+use Rattle.jv_tree.specs.declared.built_in.TextCall.TheVariants as texts
+use Rattle.jv_tree.specs.BuiltIn.{session_method, text_method}
+use Rattle.jv_core.specs.Types.{plain_type as core_plain}
 use Rattle.jv_tree.specs.Source
 use Rattle.jv_tree.specs.Source.{place_of}
 use Rattle.jv_meaning.specs.Program.{class_named, method_named, constant_position}
@@ -18,7 +23,8 @@ use Rattle.jv_rules.specs.Types.{ValueType, IntType, BooleanType, TextType, Enum
 use Rattle.jv_rules.specs.Types.{meant}
 use Rattle.jv_rules.specs.Scope.{Scope, variable_type, field_of}
 use Rattle.jv_rules.specs.Typing.{type_of, operator_type, constant_type, called, called_on, called_on_value, static_of, own_instance}
-use Rattle.jv_rules.specs.Typing.{own_method, protocol_method, built_in, session_methods, text_methods}
+use Rattle.jv_rules.specs.Typing.{own_method, protocol_method, built_in, session_methods, text_methods, plain_type, plain_signature}
+use Rattle.jv_rules.proofs.BuiltInTypes.{session_typed}
 use Rattle.jv_rules.specs.Spots.{Value, nodes, nodes_in}
 use Rattle.jv_rules.specs.Taking.{Fitting, Writable, AnyEnum, IsEnum, Taken, taken, all_taken, paired, arguments, receiver, count_of}
 use Rattle.jv_rules.specs.Conditions as rules
@@ -27,7 +33,7 @@ use Rattle.jv_rules.specs.Members.{mentions_in, mentions_in_args}
 use Rattle.jv_rules.specs.Declarations.{UnknownClass, IsUsableClass}
 use Rattle.jv_core.specs.declared.tree.Var.{Var}
 use Rattle.jv_core.specs.declared.tree.CoreVar.{CoreVar}
-use Rattle.jv_core.specs.declared.tree.SessionCall.{SessionCall}
+use Rattle.jv_tree.specs.declared.built_in.SessionCall.{SessionCall}
 use Rattle.jv_core.specs.declared.program.CoreType.{CoreType}
 use Rattle.jv_core.specs.declared.program.CoreType.TheVariants as types
 use Rattle.jv_core.specs.Tree as Core
@@ -167,76 +173,31 @@ record SessionIs (program : Program) (core : Core.Program) (f : Name) (call : Se
 abbrev signature : List ValueType → ValueType → Signature
 signature params result = record { params = params; result = result }
 
+-- a plain type is the same type in sources and cores
+plain_meets : (program : Program) (core : Core.Program) (t : PlainType) → Meets program core (plain_type t) (core_plain t)
+plain_meets program core plain.Void = meets.no_value
+plain_meets program core plain.Int = meets.int
+plain_meets program core plain.Boolean = meets.boolean
+plain_meets program core plain.Text = meets.text
+
+plain_known : (t : PlainType) → IsKnown (plain_type t)
+plain_known plain.Void = tt
+plain_known plain.Int = tt
+plain_known plain.Boolean = tt
+plain_known plain.Text = tt
+
+params_meet : (program : Program) (core : Core.Program) (ts : List PlainType) →
+    Aligned (Meets program core) (map plain_type ts) (map core_plain ts)
+params_meet program core [] = is.none
+params_meet program core (t ∷ ts) = is.more (plain_meets program core t) (params_meet program core ts)
+
 session_is : (program : Program) (core : Core.Program) (f : Name) (call : SessionCall) → IsSession f call → SessionIs program core f call
-session_is program core _ _ is.session_send = record {
-  sig = signature (TextType ∷ TextType ∷ []) NoValue;
-  is = refl;
-  params = is.more meets.text (is.more meets.text is.none);
-  result = meets.no_value;
-  known = tt;
-}
-session_is program core _ _ is.session_send_int = record {
-  sig = signature (TextType ∷ TextType ∷ IntType ∷ []) NoValue;
-  is = refl;
-  params = is.more meets.text (is.more meets.text (is.more meets.int is.none));
-  result = meets.no_value;
-  known = tt;
-}
-session_is program core _ _ is.session_send_boolean = record {
-  sig = signature (TextType ∷ TextType ∷ BooleanType ∷ []) NoValue;
-  is = refl;
-  params = is.more meets.text (is.more meets.text (is.more meets.boolean is.none));
-  result = meets.no_value;
-  known = tt;
-}
-session_is program core _ _ is.session_send_string = record {
-  sig = signature (TextType ∷ TextType ∷ TextType ∷ []) NoValue;
-  is = refl;
-  params = is.more meets.text (is.more meets.text (is.more meets.text is.none));
-  result = meets.no_value;
-  known = tt;
-}
-session_is program core _ _ is.session_look = record {
-  sig = signature (TextType ∷ []) TextType;
-  is = refl;
-  params = is.more meets.text is.none;
-  result = meets.text;
-  known = tt;
-}
-session_is program core _ _ is.session_take = record {
-  sig = signature (TextType ∷ TextType ∷ []) NoValue;
-  is = refl;
-  params = is.more meets.text (is.more meets.text is.none);
-  result = meets.no_value;
-  known = tt;
-}
-session_is program core _ _ is.session_take_int = record {
-  sig = signature (TextType ∷ TextType ∷ []) IntType;
-  is = refl;
-  params = is.more meets.text (is.more meets.text is.none);
-  result = meets.int;
-  known = tt;
-}
-session_is program core _ _ is.session_take_boolean = record {
-  sig = signature (TextType ∷ TextType ∷ []) BooleanType;
-  is = refl;
-  params = is.more meets.text (is.more meets.text is.none);
-  result = meets.boolean;
-  known = tt;
-}
-session_is program core _ _ is.session_take_string = record {
-  sig = signature (TextType ∷ TextType ∷ []) TextType;
-  is = refl;
-  params = is.more meets.text (is.more meets.text is.none);
-  result = meets.text;
-  known = tt;
-}
-session_is program core _ _ is.session_refuse = record {
-  sig = signature (TextType ∷ TextType ∷ []) NoValue;
-  is = refl;
-  params = is.more meets.text (is.more meets.text is.none);
-  result = meets.no_value;
-  known = tt;
+session_is program core f call named = record {
+  sig = plain_signature (session_method call);
+  is = subst (λ f. built_in session_methods f ≡ Some (plain_signature (session_method call))) (sym named) (session_typed call);
+  params = params_meet program core (session_method call).params;
+  result = plain_meets program core (session_method call).result;
+  known = plain_known (session_method call).result;
 }
 
 module _ (core : Core.Program) (m : Core.Method) (scope : Scope) (ns : Numbers) (res : Resolves scope.program core)
@@ -615,16 +576,18 @@ module _ (core : Core.Program) (m : Core.Method) (scope : Scope) (ns : Numbers) 
         (record { all = all_typed xs inner (clean_right (UnknownClass scope.program) (mentions_in e) (mentions_in_args args) made) })
         (λ h. calls_back_in core m scope ns runs xs inner h) clean t g
     typed (is.equals {p = p} {e = e} {a = a} {e' = e'} {a' = a'} te x y) clean made t g =
-        let h = text_call p (codes "equals") e a e' a' BooleanType refl te x y (λ c k t g. typed x c k t g) (λ c k t g. typed y c k t g)
+        let h = text_call p (text_method texts.Equals).name e a e' a' BooleanType refl te x y (λ c k t g. typed x c k t g)
+        (λ c k t g. typed y c k t g)
         clean made in
         subst (λ t. T t (Core.Equals p e' a'))
-        (text_result p e a (codes "equals") BooleanType refl te (not_this core m scope ns runs x) t g)
+        (text_result p e a (text_method texts.Equals).name BooleanType refl te (not_this core m scope ns runs x) t g)
         (is_known BooleanType types.Boolean (Core.Equals p e' a') meets.boolean tt (has.equals h.receiver_is h.argument_is h.moves))
     typed (is.concat {p = p} {e = e} {a = a} {e' = e'} {a' = a'} te x y) clean made t g =
-        let h = text_call p (codes "concat") e a e' a' TextType refl te x y (λ c k t g. typed x c k t g) (λ c k t g. typed y c k t g) clean
+        let h = text_call p (text_method texts.Concat).name e a e' a' TextType refl te x y (λ c k t g. typed x c k t g)
+        (λ c k t g. typed y c k t g) clean
         made in
         subst (λ t. T t (Core.Concat p e' a'))
-        (text_result p e a (codes "concat") TextType refl te (not_this core m scope ns runs x) t g)
+        (text_result p e a (text_method texts.Concat).name TextType refl te (not_this core m scope ns runs x) t g)
         (is_known TextType types.Text (Core.Concat p e' a') meets.text tt (has.concat h.receiver_is h.argument_is h.moves))
     typed (is.new {p = p} {c = c} {k = k} i) clean made t g = at_type (typed_new p c k i made) g
 
@@ -728,8 +691,10 @@ module _ (core : Core.Program) (m : Core.Method) (scope : Scope) (ns : Numbers) 
   has_type (is.helper {p = p} {f = f} {args = args} i s xs) clean = own_call_has_type p f args clean
   has_type (is.this_helper {p = p} {q = q} {f = f} {args = args} i s xs) clean = call_has_type p (Source.This q) f args clean
   has_type (is.protocol {p = p} {e = e} {f = f} {args = args} v te i s xs) clean = call_has_type p e f args clean
-  has_type (is.equals {p = p} {e = e} {a = a} te x y) clean = call_has_type p e (codes "equals") (Source.Argument a Source.NoExpr) clean
-  has_type (is.concat {p = p} {e = e} {a = a} te x y) clean = call_has_type p e (codes "concat") (Source.Argument a Source.NoExpr) clean
+  has_type (is.equals {p = p} {e = e} {a = a} te x y) clean =
+      call_has_type p e (text_method texts.Equals).name (Source.Argument a Source.NoExpr) clean
+  has_type (is.concat {p = p} {e = e} {a = a} te x y) clean =
+      call_has_type p e (text_method texts.Concat).name (Source.Argument a Source.NoExpr) clean
   has_type (is.new {c = c} i) clean = (ClassType c, refl)
 
   -- any expression

@@ -3,6 +3,8 @@ use Rattle.std.proofs.Common.{◌≡◌, Bool, List, [], ◌∷◌, Option, Some
 use Rattle.std.specs.Prelude.{if◌then◌else◌, codes}
 use Rattle.std.specs.Str.{bytes_eq}
 use Rattle.mg_text.specs.Call.{Name}
+use Rattle.jv_tree.specs.declared.built_in.TextCall.TheVariants as texts
+use Rattle.jv_tree.specs.BuiltIn.{session_named, text_method}
 use Rattle.jv_tree.specs.Source.{Expr, Int, Truth, Text, Null, This, Variable, Member, Neg, Not, Binary, Call, MethodCall, New, Exprs}
 use Rattle.jv_tree.specs.Source.{NoExpr, Argument}
 use Rattle.jv_tree.specs.Source.{Stmt, Block, Empty, Local, Assign, If, IfElse, While, Do, Switch, Break, Continue, Return, Print, Eval}
@@ -20,7 +22,7 @@ use Rattle.jv_values.proofs.Further as further
 use Rattle.jv_values.proofs.FurtherSteps.{E, then_e, give_e, stop_e, found_e, valued_e, valuing_e}
 use Rattle.jv_meaning.specs.Program.{Sources, class_named, enum_named}
 use Rattle.jv_values.specs.Operators.{operator_of}
-use Rattle.jv_meaning.specs.Names.{session_named, method_of, main_of, Referent, ALocal, AField, NoVariable, referent, constant_named}
+use Rattle.jv_meaning.specs.Names.{method_of, main_of, Referent, ALocal, AField, NoVariable, referent, constant_named}
 use Rattle.jv_meaning.specs.Names.{new_fields}
 use Rattle.jv_meaning.specs.Meaning.{Lower, read, read_constant, member, write_own, write_member, write, mine, case_label, has_group}
 use Rattle.jv_meaning.specs.Meaning.{Target, Own, OfClass, OfValue, target_of, passed, text_call, class_call, value_call, member_call, eval}
@@ -67,9 +69,9 @@ write_q here _ v = wrong_q
 
 text_call_e : (t : Value) (m : Name) (vs : List Value) → E (text_call t m vs) (text_call t m vs)
 text_call_e t m (w ∷ []) =
-    if_alike FurtherShared further_shares.closed (bytes_eq m (codes "equals"))
+    if_alike FurtherShared further_shares.closed (bytes_eq m (text_method texts.Equals).name)
     (expressions.equal_texts_same FurtherShared further_shares t w)
-    (if_alike FurtherShared further_shares.closed (bytes_eq m (codes "concat"))
+    (if_alike FurtherShared further_shares.closed (bytes_eq m (text_method texts.Concat).name)
     (expressions.joined_texts_same FurtherShared further_shares t w) stop_e)
 text_call_e t m _ = stop_e
 

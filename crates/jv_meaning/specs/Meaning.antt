@@ -2,6 +2,8 @@
 use Rattle.std.specs.Prelude.{ℕ, Bool, true, false, List, [], ◌∷◌, Option, Some, None, ◌||◌, if◌then◌else◌, codes}
 use Rattle.std.specs.Str.{bytes_eq}
 use Rattle.mg_text.specs.Call.{Name}
+use Rattle.jv_tree.specs.declared.built_in.TextCall.TheVariants as texts
+use Rattle.jv_tree.specs.BuiltIn.{session_named, text_method}
 use Rattle.jv_tree.specs.Source.{Expr, Int, Truth, Text, Null, This, Variable, Member, Neg, Not, Binary, Call, MethodCall, New, Exprs}
 use Rattle.jv_tree.specs.Source.{NoExpr, Argument}
 use Rattle.jv_tree.specs.Source.{Stmt, Block, Empty, Local, Assign, If, IfElse, While, Do, Switch, Break, Continue, Return, Print, Eval}
@@ -17,7 +19,7 @@ use Rattle.jv_values.specs.Statements.{case_at, any_label, after_switch}
 use Rattle.jv_values.specs.Budget.{Below, Language, ran}
 use Rattle.jv_meaning.specs.Program.{Sources, class_named, enum_named, constant_position}
 use Rattle.jv_values.specs.Operators.{operator_of}
-use Rattle.jv_meaning.specs.Names.{session_named, Called, method_of, main_of, Referent, ALocal, AField, NoVariable, referent}
+use Rattle.jv_meaning.specs.Names.{Called, method_of, main_of, Referent, ALocal, AField, NoVariable, referent}
 use Rattle.jv_meaning.specs.Names.{constant_named, new_fields}
 
 abbrev pub Lower : Type 0
@@ -96,8 +98,8 @@ passed this (Some m) = if m.on_object then this else None
 -- `equals` and `concat` of a text
 abbrev pub text_call : Value → Name → List Value → Run Shared Value
 text_call t m (w ∷ []) =
-    if bytes_eq m (codes "equals") then equal_texts t w
-    else if bytes_eq m (codes "concat") then joined_texts t w
+    if bytes_eq m (text_method texts.Equals).name then equal_texts t w
+    else if bytes_eq m (text_method texts.Concat).name then joined_texts t w
     else stop Wrong
 text_call t m _ = stop Wrong
 

@@ -10,23 +10,7 @@ use Rattle.jv_tree.specs.declared.tree.Param.{Param}
 use Rattle.jv_tree.specs.Source.{Expr, Int, Truth, Text, Null, Variable, Member, Stmt, Block, Field, Method}
 use Rattle.jv_values.specs.Values.{Value, Row, Here, find}
 use Rattle.jv_values.specs.Values as values
-use Rattle.jv_values.specs.Messages.{SessionCall, Send, SendInt, SendTruth, SendText, Look, Take, TakeInt, TakeTruth, TakeText, Refuse}
 use Rattle.jv_meaning.specs.Program.{Sources, class_named, enum_named, field_named, method_named, constant_position}
-
--- the method of the class `Session` that has this name
-abbrev pub session_named : Name → Option SessionCall
-session_named name =
-    if bytes_eq name (codes "send") then Some Send
-    else if bytes_eq name (codes "sendInt") then Some SendInt
-    else if bytes_eq name (codes "sendBoolean") then Some SendTruth
-    else if bytes_eq name (codes "sendString") then Some SendText
-    else if bytes_eq name (codes "look") then Some Look
-    else if bytes_eq name (codes "take") then Some Take
-    else if bytes_eq name (codes "takeInt") then Some TakeInt
-    else if bytes_eq name (codes "takeBoolean") then Some TakeTruth
-    else if bytes_eq name (codes "takeString") then Some TakeText
-    else if bytes_eq name (codes "refuse") then Some Refuse
-    else None
 
 -- a method is named by its class and its name
 abbrev pub Called : Type 0

@@ -4,6 +4,9 @@ use Rattle.std.specs.Prelude.{if◌then◌else◌, codes}
 use Rattle.std.specs.Str.{bytes_eq}
 use Rattle.std.proofs.lemmas.Slice.Eq.{bytes_eq-Decides}
 use Rattle.mg_text.specs.Call.{Name}
+use Rattle.jv_tree.specs.declared.built_in.TextCall.TheVariants as texts
+use Rattle.jv_tree.specs.BuiltIn.{session_named, text_method}
+use Rattle.jv_tree.proofs.BuiltInLaws.{named_itself}
 use Rattle.jv_tree.specs.Source
 use Rattle.jv_values.specs.Values.{Value, Text, Row, Shared, Instance, Inputs, Wrong}
 use Rattle.jv_values.specs.Values as values
@@ -19,7 +22,7 @@ use Rattle.jv_meaning.specs.Names as names
 use Rattle.jv_meaning.specs.Meaning as meant
 use Rattle.jv_rules.specs.Program.{Program}
 use Rattle.jv_rules.specs.Scope.{Scope, variable_type}
-use Rattle.jv_core.specs.declared.tree.SessionCall.{SessionCall}
+use Rattle.jv_tree.specs.declared.built_in.SessionCall.{SessionCall}
 use Rattle.jv_core.specs.Tree as Core
 use Rattle.jv_core.specs.Lookup.{text_at, class_text, enum_text}
 use Rattle.jv_core.specs.Meaning as core_meaning
@@ -53,17 +56,8 @@ group_right : {A B C : Type 0} (n : Run Shared A) (f : A → Run Shared B) (g : 
     (n >>= λ a. f a >>= g) → Equals m ((n >>= f) >>= g)
 group_right n f g m h = record { by = λ s t e. subst (λ o. Alike ◌≡◌ ◌≡◌ SameEnd (m s) o) (sym (grouped (n t) f g)) (h.by s t e) }
 
-session_same : (f : Name) (call : SessionCall) → IsSession f call → names.session_named f ≡ Some (core_meaning.session_of call)
-session_same f call resolves.session_send = refl
-session_same f call resolves.session_send_int = refl
-session_same f call resolves.session_send_boolean = refl
-session_same f call resolves.session_send_string = refl
-session_same f call resolves.session_look = refl
-session_same f call resolves.session_take = refl
-session_same f call resolves.session_take_int = refl
-session_same f call resolves.session_take_boolean = refl
-session_same f call resolves.session_take_string = refl
-session_same f call resolves.session_refuse = refl
+session_same : (f : Name) (call : SessionCall) → IsSession f call → session_named f ≡ Some call
+session_same f call is = subst (λ f. session_named f ≡ Some call) (sym is) (named_itself call)
 
 module _ (program : Program) (core : Core.Program) where
   abbrev pub DoesAlike : Scope → Numbers → Does ℕ → Does Name → Type 0
@@ -156,12 +150,12 @@ module _ (program : Program) (core : Core.Program) (res : Resolves program core)
 
   -- `equals` and `concat`
   equals_like : (v w : Value) → Equals (valuing (equal_texts v w))
-      (meant.value_call program.files inputs high (on_source scope.class.name this) v (codes "equals") (w ∷ []))
+      (meant.value_call program.files inputs high (on_source scope.class.name this) v (text_method texts.Equals).name (w ∷ []))
   equals_like (Text t) w = same_run _
   equals_like _ w = record { by = λ s t st. inl refl }
 
   concat_like : (v w : Value) → Equals (valuing (joined_texts v w))
-      (meant.value_call program.files inputs high (on_source scope.class.name this) v (codes "concat") (w ∷ []))
+      (meant.value_call program.files inputs high (on_source scope.class.name this) v (text_method texts.Concat).name (w ∷ []))
   concat_like (Text t) w = same_run _
   concat_like _ w = record { by = λ s t st. inl refl }
 
@@ -256,15 +250,15 @@ module _ (program : Program) (core : Core.Program) (res : Resolves program core)
   class_call_like : (d f : Name) (m : ℕ) (k : Source.Method) → d ≢ codes "Session" → IsMethod program core d f m k → (vs : List Value) →
       Equals (low.call m None vs) (meant.class_call program.files inputs high (on_source scope.class.name this) d f vs)
   class_call_like d f m k n is vs =
-      subst (λ t. Equals (low.call m None vs) (if t then (found (names.session_named f) >>= λ call. session inputs call vs) else high.call
+      subst (λ t. Equals (low.call m None vs) (if t then (found (session_named f) >>= λ call. session inputs call vs) else high.call
       (d, f) None vs))
       (sym (bytes_differ d (codes "Session") (λ e. n (sym e)))) (b.call d f m k is None vs)
 
   session_call_like : (f : Name) (call : SessionCall) → IsSession f call → (vs : List Value) →
-      Equals (session inputs (core_meaning.session_of call) vs)
+      Equals (session inputs call vs)
       (meant.class_call program.files inputs high (on_source scope.class.name this) (codes "Session") f vs)
   session_call_like f call is vs =
-      subst (λ o. Equals (session inputs (core_meaning.session_of call) vs) (found o >>= λ call. session inputs call vs))
+      subst (λ o. Equals (session inputs call vs) (found o >>= λ call. session inputs call vs))
       (sym (session_same f call is)) (same_run _)
 
   mutual
@@ -295,7 +289,7 @@ module _ (program : Program) (core : Core.Program) (res : Resolves program core)
         (then_like (args_like xs h) (λ vs. class_call_like d f m k n is vs))
     eval_like {r = r} {r' = r'} (resolves.session {q = q} {f = f} {call = call} {args = args} {args' = args'} away is xs) h =
         at_target _ (meant.OfClass (codes "Session")) (class_target r' (codes "Session") h away)
-        (core_values r args' >>= session inputs (core_meaning.session_of call))
+        (core_values r args' >>= session inputs call)
         (valued (source_value r' (Source.Variable q (codes "Session")))) f (source_values r' args)
         (then_like (args_like xs h) (λ vs. session_call_like f call is vs))
     eval_like (resolves.helper {f = f} {m = m} {method = k} is st xs) h =
@@ -311,15 +305,15 @@ module _ (program : Program) (core : Core.Program) (res : Resolves program core)
         (λ v. then_like (args_like xs h) (λ vs. protocol_like d f m k is v vs)))
     eval_like {r = r} {r' = r'} (resolves.equals {p = p} {e = e} {a = a} {e' = e'} {a' = a'} ty x y) h =
         at_target (meant.target_of program.files (on_source scope.class.name this) r' e) meant.OfValue (expr_target x h)
-        (core_value r (Core.Equals p e' a')) (valued (source_value r' e)) (codes "equals")
+        (core_value r (Core.Equals p e' a')) (valued (source_value r' e)) (text_method texts.Equals).name
         (source_values r' (Source.Argument a Source.NoExpr))
-        (text_call_like equal_texts (codes "equals") equals_like (same.valued_same E shares (eval_like x h))
+        (text_call_like equal_texts (text_method texts.Equals).name equals_like (same.valued_same E shares (eval_like x h))
         (same.valued_same E shares (eval_like y h)))
     eval_like {r = r} {r' = r'} (resolves.concat {p = p} {e = e} {a = a} {e' = e'} {a' = a'} ty x y) h =
         at_target (meant.target_of program.files (on_source scope.class.name this) r' e) meant.OfValue (expr_target x h)
-        (core_value r (Core.Concat p e' a')) (valued (source_value r' e)) (codes "concat")
+        (core_value r (Core.Concat p e' a')) (valued (source_value r' e)) (text_method texts.Concat).name
         (source_values r' (Source.Argument a Source.NoExpr))
-        (text_call_like joined_texts (codes "concat") concat_like (same.valued_same E shares (eval_like x h))
+        (text_call_like joined_texts (text_method texts.Concat).name concat_like (same.valued_same E shares (eval_like x h))
         (same.valued_same E shares (eval_like y h)))
     eval_like (resolves.new {c = d} {k = n} is) h = new_like d n is
 

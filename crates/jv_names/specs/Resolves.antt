@@ -9,6 +9,8 @@ use Rattle.ts_tree.specs.declared.parts.TypeName.{TypeName}
 use Rattle.ts_tree.specs.declared.parts.TypeName.TheVariants as written
 use Rattle.jv_tree.specs.declared.tree.Op.{Op}
 use Rattle.jv_tree.specs.declared.tree.Param.{Param}
+use Rattle.jv_tree.specs.declared.built_in.TextCall.TheVariants as texts
+use Rattle.jv_tree.specs.BuiltIn.{session_method, text_method}
 use Rattle.jv_tree.specs.Source
 use Rattle.jv_tree.specs.Source.{place_of}
 use Rattle.jv_meaning.specs.Program.{classes_of, enums_of, class_named, enum_named, method_named, typestate_named, constant_position}
@@ -20,8 +22,7 @@ use Rattle.jv_rules.specs.Typing.{type_of}
 use Rattle.jv_core.specs.declared.tree.Var.{Var}
 use Rattle.jv_core.specs.declared.tree.Var.TheVariants as vars
 use Rattle.jv_core.specs.declared.tree.CoreVar.{CoreVar}
-use Rattle.jv_core.specs.declared.tree.SessionCall.{SessionCall}
-use Rattle.jv_core.specs.declared.tree.SessionCall.TheVariants as calls
+use Rattle.jv_tree.specs.declared.built_in.SessionCall.{SessionCall}
 use Rattle.jv_core.specs.declared.program.CoreType.{CoreType}
 use Rattle.jv_core.specs.declared.program.CoreType.TheVariants as types
 use Rattle.jv_core.specs.declared.program.MethodKind.{MethodKind}
@@ -105,17 +106,8 @@ pub data ContinueLeads : List Target → List (Option ℕ) → Option Name → �
       ContinueLeads (Switch ∷ ts) (None ∷ ks) l k
 
 -- the method of the class `Session` that has this name
-pub data IsSession : Name → SessionCall → Type 0 where
-  session_send : IsSession (codes "send") calls.Send
-  session_send_int : IsSession (codes "sendInt") calls.SendInt
-  session_send_boolean : IsSession (codes "sendBoolean") calls.SendBoolean
-  session_send_string : IsSession (codes "sendString") calls.SendString
-  session_look : IsSession (codes "look") calls.Look
-  session_take : IsSession (codes "take") calls.Take
-  session_take_int : IsSession (codes "takeInt") calls.TakeInt
-  session_take_boolean : IsSession (codes "takeBoolean") calls.TakeBoolean
-  session_take_string : IsSession (codes "takeString") calls.TakeString
-  session_refuse : IsSession (codes "refuse") calls.Refuse
+abbrev pub IsSession : Name → SessionCall → Type 0
+IsSession name call = name ≡ (session_method call).name
 
 module _ (program : Program) (core : Core.Program) where
   -- a number of the table of names stands for this name
@@ -221,10 +213,12 @@ module _ (program : Program) (core : Core.Program) where
       -- `e.equals(a)` and `e.concat(a)`, where e is a text
       equals : {p : Place} {e a : Source.Expr} {e' a' : Core.Expr} → type_of scope e ≡ Some TextType → IsExpr scope numbers e e' →
           IsExpr scope numbers a a' →
-          IsExpr scope numbers (Source.MethodCall p e (codes "equals") (Source.Argument a Source.NoExpr)) (Core.Equals p e' a')
+          IsExpr scope numbers (Source.MethodCall p e (text_method texts.Equals).name (Source.Argument a Source.NoExpr))
+              (Core.Equals p e' a')
       concat : {p : Place} {e a : Source.Expr} {e' a' : Core.Expr} → type_of scope e ≡ Some TextType → IsExpr scope numbers e e' →
           IsExpr scope numbers a a' →
-          IsExpr scope numbers (Source.MethodCall p e (codes "concat") (Source.Argument a Source.NoExpr)) (Core.Concat p e' a')
+          IsExpr scope numbers (Source.MethodCall p e (text_method texts.Concat).name (Source.Argument a Source.NoExpr))
+              (Core.Concat p e' a')
       new : {p : Place} {c : Name} {k : ℕ} → IsClass c k → IsExpr scope numbers (Source.New p c) (Core.New p k)
 
     pub data IsExprs (scope : Scope) (numbers : Numbers) : Source.Exprs → Core.Exprs → Type 0 where

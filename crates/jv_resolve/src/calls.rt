@@ -2,12 +2,11 @@
 //! Contracts see expressions as trees.
 
 ghost use Rattle.std.specs.Prelude.{◌≡◌, map};
-ghost use Rattle.jv_core.specs.Types.{session_result};
 ghost use Rattle.jv_core.specs.Tree as Core;
 ghost use Rattle.jv_core.specs.View.{expr_of};
 ghost use Rattle.jv_core.specs.declared.program.CoreType.TheVariants as types;
 ghost use Rattle.jv_resolve_law.specs.Expressions.{call_own, call_on, call_this, call_class, call_typed, call_protocol, static_call};
-ghost use Rattle.jv_resolve_law.specs.Expressions.{helper_call, object_call, text_call, only, typed, session_call, session_named};
+ghost use Rattle.jv_resolve_law.specs.Expressions.{helper_call, object_call, text_call, only, typed, session_call};
 ghost use Rattle.jv_resolve_law.specs.Expressions.{variable_in};
 ghost use Rattle.jv_resolve.specs.inner.Gives.{Gives};
 ghost use Rattle.jv_resolve.specs.inner.Seen.{tables_seen, standing_seen, callee_seen, given_seen, resolved_seen};
@@ -18,6 +17,7 @@ use crate::given::{Given, Operand, Resolved, Unresolved, boxed, typed};
 use crate::lookup::{Callee, class_at, class_named, meant, method_named};
 use crate::scope::Scope;
 use jv_core::{CoreExpr, CoreExprKind, CoreType, CoreVar, SessionCall};
+use jv_tree::TextCall;
 use mg_text::{List, Place};
 
 /// What a call is on.
@@ -273,13 +273,11 @@ fn text_method(
 ) -> Result<Resolved, Unresolved>
     ensures { Gives resolved_seen result (text_call place (expr_of text.value) name.now (expr_of arg.value)) }
 {
-    if name == "equals" {
-        return Ok(equals(place, text, arg));
+    match TextCall::named(name) {
+        Some(TextCall::Equals) => Ok(equals(place, text, arg)),
+        Some(TextCall::Concat) => Ok(concat(place, text, arg)),
+        None => Err(Unresolved::Fault),
     }
-    if name == "concat" {
-        return Ok(concat(place, text, arg));
-    }
-    Err(Unresolved::Fault)
 }
 
 // `text.equals(arg)`
@@ -315,66 +313,12 @@ fn only(args: List<CoreExpr>) -> Result<CoreExpr, Unresolved>
 fn session_call(place: Place, name: &str, args: List<CoreExpr>) -> Result<Resolved, Unresolved>
     ensures { Gives resolved_seen result (session_call place name.now (map expr_of args.items)) }
 {
-    let Some(call) = session_method(name) else {
+    let Some(call) = SessionCall::named(name) else {
         return Err(Unresolved::Fault);
     };
     Ok(typed(
         place,
         CoreExprKind::Session { call, args },
-        session_result(call),
+        CoreType::plain(call.method().result),
     ))
-}
-
-// The method of the session that has this name.
-fn session_method(name: &str) -> Option<SessionCall>
-    ensures { result ≡ session_named name.now }
-{
-    if name == "send" {
-        return Some(SessionCall::Send);
-    }
-    if name == "sendInt" {
-        return Some(SessionCall::SendInt);
-    }
-    if name == "sendBoolean" {
-        return Some(SessionCall::SendBoolean);
-    }
-    if name == "sendString" {
-        return Some(SessionCall::SendString);
-    }
-    if name == "look" {
-        return Some(SessionCall::Look);
-    }
-    if name == "take" {
-        return Some(SessionCall::Take);
-    }
-    if name == "takeInt" {
-        return Some(SessionCall::TakeInt);
-    }
-    if name == "takeBoolean" {
-        return Some(SessionCall::TakeBoolean);
-    }
-    if name == "takeString" {
-        return Some(SessionCall::TakeString);
-    }
-    if name == "refuse" {
-        return Some(SessionCall::Refuse);
-    }
-    None
-}
-
-// What a method of the session gives.
-fn session_result(call: SessionCall) -> CoreType
-    ensures { result ≡ session_result call }
-{
-    match call {
-        SessionCall::Send
-        | SessionCall::SendInt
-        | SessionCall::SendBoolean
-        | SessionCall::SendString
-        | SessionCall::Take
-        | SessionCall::Refuse => CoreType::Void,
-        SessionCall::Look | SessionCall::TakeString => CoreType::Text,
-        SessionCall::TakeInt => CoreType::Int,
-        SessionCall::TakeBoolean => CoreType::Boolean,
-    }
 }

@@ -6,20 +6,26 @@ use Rattle.std.specs.List.{AllByRecursion}
 use Rattle.std.specs.Str.{bytes_eq}
 use Rattle.std.proofs.lemmas.Slice.Eq.{bytes_eq-Decides}
 use Rattle.mg_text.specs.Call.{Name}
+use Rattle.jv_tree.specs.declared.built_in.PlainType.{PlainType}
+use Rattle.jv_tree.specs.declared.built_in.PlainType.TheVariants as plain
+use Rattle.jv_tree.specs.BuiltIn.{session_method, session_named}
+use Rattle.jv_tree.proofs.BuiltInLaws.{named_so}
+use Rattle.jv_core.specs.Types.{plain_type as core_plain}
 use Rattle.jv_tree.specs.Source
 use Rattle.jv_meaning.specs.Program.{class_named, method_named}
 use Rattle.jv_rules.specs.Program.{Program, is_of_protocol}
 use Rattle.jv_rules.specs.Types.{ValueType, NoValue, IntType, BooleanType, TextType, ClassType, Signature, signature_of, meant}
 use Rattle.jv_rules.specs.Scope.{Scope}
 use Rattle.jv_rules.specs.Typing.{called, called_on_this, called_on_class, called_on_value, static_of, own_instance, own_method}
-use Rattle.jv_rules.specs.Typing.{protocol_method, built_in, session_methods}
-use Rattle.jv_core.specs.declared.tree.SessionCall.{SessionCall}
+use Rattle.jv_rules.specs.Typing.{protocol_method, built_in, session_methods, plain_type, plain_signature}
+use Rattle.jv_rules.proofs.BuiltInTypes.{session_typed}
+use Rattle.jv_tree.specs.declared.built_in.SessionCall.{SessionCall}
 use Rattle.jv_core.specs.Types.{session_result}
 use Rattle.jv_core.specs.Tree as Core
 use Rattle.jv_names.specs.Resolves.{IsSession}
 use Rattle.jv_names.specs.Resolves as is
 use Rattle.jv_names.proofs.Tables.{some_is, none_some}
-use Rattle.jv_resolve_law.specs.Expressions.{Of, paired_with, session_names, session_named}
+use Rattle.jv_resolve_law.specs.Expressions.{Of}
 use Rattle.jv_resolve_law.proofs.Given.{IsGiven, no_value, int_given, boolean_given, text_given}
 
 -- there is no signature, or it is this one
@@ -132,39 +138,14 @@ called_on_object_gives program class f c m owner named n =
 
 -- The methods of the session.
 
-pub paired : {A : Type 0} (P : Name → A → Type 0) (ps : List (Name × A)) → AllByRecursion (λ p. P p.0 p.1) ps → (f : Name) (a : A) →
-    paired_with ps f ≡ Some a → P f a
-paired P [] all f a e = absurd (none_some e)
-paired P (p ∷ ps) all f a e = go (bytes_eq f p.0) (bytes_eq-Decides f p.0).0 e (λ e. paired P ps all.1 f a e)
-  where
-    go : (b : Bool) → (b ≡ true → f ≡ p.0) → (if b then Some p.1 else paired_with ps f) ≡ Some a → (paired_with ps f ≡ Some a → P f a) →
-        P f a
-    go true same e later = subst (λ f. P f a) (sym (same refl)) (subst (P p.0) (some_is e) all.0)
-    go false same e later = later e
-
 pub session_is : (f : Name) (c : SessionCall) → session_named f ≡ Some c → IsSession f c
-session_is f c e = paired IsSession session_names all f c e
-  where
-    all : AllByRecursion (λ p. IsSession p.0 p.1) session_names
-    all = (
-      is.session_send,
-      (
-        is.session_send_int,
-        (
-          is.session_send_boolean,
-          (
-            is.session_send_string,
-            (
-              is.session_look,
-              (
-                is.session_take,
-                (is.session_take_int, (is.session_take_boolean, (is.session_take_string, (is.session_refuse, tt)))),
-              ),
-            ),
-          ),
-        ),
-      ),
-    )
+session_is f c e = named_so f c e
+
+plain_given : (program : Program) (core : Core.Program) (t : PlainType) → IsGiven program core (plain_type t) (Of (core_plain t))
+plain_given program core plain.Void = no_value
+plain_given program core plain.Int = int_given
+plain_given program core plain.Boolean = boolean_given
+plain_given program core plain.Text = text_given
 
 -- what a method of the session gives
 pub record SessionGives (program : Program) (core : Core.Program) (f : Name) (c : SessionCall) : Type 0 where
@@ -173,13 +154,8 @@ pub record SessionGives (program : Program) (core : Core.Program) (f : Name) (c 
   pub given : IsGiven program core type (Of (session_result c))
 
 pub session_gives : (program : Program) (core : Core.Program) (f : Name) (c : SessionCall) → IsSession f c → SessionGives program core f c
-session_gives program core _ _ is.session_send = record { type = NoValue; is = refl; given = no_value }
-session_gives program core _ _ is.session_send_int = record { type = NoValue; is = refl; given = no_value }
-session_gives program core _ _ is.session_send_boolean = record { type = NoValue; is = refl; given = no_value }
-session_gives program core _ _ is.session_send_string = record { type = NoValue; is = refl; given = no_value }
-session_gives program core _ _ is.session_look = record { type = TextType; is = refl; given = text_given }
-session_gives program core _ _ is.session_take = record { type = NoValue; is = refl; given = no_value }
-session_gives program core _ _ is.session_take_int = record { type = IntType; is = refl; given = int_given }
-session_gives program core _ _ is.session_take_boolean = record { type = BooleanType; is = refl; given = boolean_given }
-session_gives program core _ _ is.session_take_string = record { type = TextType; is = refl; given = text_given }
-session_gives program core _ _ is.session_refuse = record { type = NoValue; is = refl; given = no_value }
+session_gives program core f c named = record {
+  type = plain_type (session_method c).result;
+  is = ap result_in (subst (λ f. built_in session_methods f ≡ Some (plain_signature (session_method c))) (sym named) (session_typed c));
+  given = plain_given program core (session_method c).result;
+}

@@ -20,16 +20,20 @@ use Rattle.jv_rules.specs.Typing.{type_of, operator_type, constant_type, called,
 use Rattle.jv_rules.specs.Typing.{called_on_value, built_in, session_methods, text_methods}
 use Rattle.jv_rules.specs.Typing as typing
 use Rattle.jv_rules.specs.Spots.{Value, AtNode, nodes, nodes_in}
+use Rattle.jv_tree.specs.declared.built_in.TextCall.{TextCall}
+use Rattle.jv_tree.specs.declared.built_in.TextCall.TheVariants as texts
+use Rattle.jv_tree.specs.BuiltIn.{session_method, session_named, text_method, text_named}
+use Rattle.jv_tree.proofs.BuiltInLaws.{text_named_so}
+use Rattle.jv_core.proofs.PlainTypes.{no_enum}
 use Rattle.jv_core.specs.declared.tree.Var.{Var}
 use Rattle.jv_core.specs.declared.tree.CoreVar.{CoreVar}
-use Rattle.jv_core.specs.declared.tree.SessionCall.{SessionCall}
-use Rattle.jv_core.specs.declared.tree.SessionCall.TheVariants as calls
+use Rattle.jv_tree.specs.declared.built_in.SessionCall.{SessionCall}
 use Rattle.jv_core.specs.declared.program.CoreType.{CoreType}
 use Rattle.jv_core.specs.declared.program.CoreType.TheVariants as types
 use Rattle.jv_core.specs.Tree as Core
 use Rattle.jv_core.specs.View.{exprs_of}
 use Rattle.jv_core.specs.Lookup as core_lookup
-use Rattle.jv_core.specs.Types.{session_result}
+use Rattle.jv_core.specs.Types.{session_result, text_result}
 use Rattle.jv_core.specs.Meaning.{type_given, result_of}
 use Rattle.jv_names.specs.Resolves.{Numbers, IsVar, IsPlaced, IsClass, IsMethod, IsExpr, IsExprs, GivesEnum}
 use Rattle.jv_names.specs.Resolves as is
@@ -39,7 +43,7 @@ use Rattle.jv_kept.proofs.Clean.{right_operand}
 use Rattle.jv_kept.proofs.Moving.{IsNotThis, arguments_clean, call_clean}
 use Rattle.jv_resolve_law.specs.Tables.{◌>>=◌, Entry, Tables, Callee, class_called, enum_called, method_called, type_meant}
 use Rattle.jv_resolve_law.specs.Expressions.{Given, Of, Resolved, Known, Standing, Found, Receiver, OnThis, OnClass, OnValue, typed}
-use Rattle.jv_resolve_law.specs.Expressions.{is_text, operator_gives, variable_in, only, text_call, session_named, session_call, found_at}
+use Rattle.jv_resolve_law.specs.Expressions.{is_text, operator_gives, variable_in, only, text_form, text_call, session_call, found_at}
 use Rattle.jv_resolve_law.specs.Expressions.{constant, static_call, helper_call, object_call, call_class, call_protocol, call_typed}
 use Rattle.jv_resolve_law.specs.Expressions.{own_found, call_own, call_this, call_on, make, found, variable_at, constant_at, member}
 use Rattle.jv_resolve_law.specs.Expressions.{named_receiver, receiver, resolved, resolved_all}
@@ -122,16 +126,7 @@ operator_no_enum ops.Div g h n e = cc
 operator_no_enum ops.Rem g h n e = cc
 
 session_no_enum : (c : SessionCall) (n : ℕ) → session_result c ≡ types.Enum n → ⊥
-session_no_enum calls.Send n e = cc
-session_no_enum calls.SendInt n e = cc
-session_no_enum calls.SendBoolean n e = cc
-session_no_enum calls.SendString n e = cc
-session_no_enum calls.Look n e = cc
-session_no_enum calls.Take n e = cc
-session_no_enum calls.TakeInt n e = cc
-session_no_enum calls.TakeBoolean n e = cc
-session_no_enum calls.TakeString n e = cc
-session_no_enum calls.Refuse n e = cc
+session_no_enum c n e = no_enum (session_method c).result n e
 
 -- a call on a value
 pub called_on_some : (scope : Scope) (e : Source.Expr) (t : ValueType) (f : Name) → IsNotThis e →
@@ -413,36 +408,26 @@ module _ (core : Core.Program) (tables : Tables) (method : Core.Method) (scope :
   right_text p e e' f args as' r xs not_this i y given =
       let b = bound (only as') (text_call p e' f) r given in
       let a = single args as' b.item xs b.is in
+      let c = bound (text_named f) _ r b.gives in
       subst (λ args. Right (Source.MethodCall p e f args) r) (sym a.are)
-      (equal b.item a.one a.is (bytes_eq f (codes "equals")) refl b.gives)
+      (subst (λ f. Right (Source.MethodCall p e f (Source.Argument a.one Source.NoExpr)) r) (sym (text_named_so f c.item c.is))
+      (subst (Right (Source.MethodCall p e (text_method c.item).name (Source.Argument a.one Source.NoExpr))) (some_is c.gives)
+      (called_by b.item a.one a.is c.item)))
     where
       called_as : (f : Name) → called_on scope e (type_of scope e) f ≡ built_in text_methods f
       called_as f = ap (λ o. called_on scope e o f) y ∙ called_on_some scope e TextType f not_this
 
-      joined : (arg : Core.Expr) (a : Source.Expr) → E a arg → (t : Bool) → bytes_eq f (codes "concat") ≡ t →
-          (if t then Some (typed (Core.Concat p e' arg) types.Text) else None) ≡ Some r →
-          Right (Source.MethodCall p e f (Source.Argument a Source.NoExpr)) r
-      joined arg a x false t h = absurd (none_some h)
-      joined arg a x true t h =
-          subst (λ f. Right (Source.MethodCall p e f (Source.Argument a Source.NoExpr)) r)
-          (sym ((bytes_eq-Decides f (codes "concat")).0 t))
-          (subst (Right (Source.MethodCall p e (codes "concat") (Source.Argument a Source.NoExpr))) (some_is h)
-          (plain (Source.MethodCall p e (codes "concat") (Source.Argument a Source.NoExpr)) (Core.Concat p e' arg) TextType types.Text
-          (is.concat y i x)
-          (ap result_in (called_as (codes "concat"))) text_given (λ n q. cc)))
-
-      equal : (arg : Core.Expr) (a : Source.Expr) → E a arg → (t : Bool) → bytes_eq f (codes "equals") ≡ t →
-          (if t then Some (typed (Core.Equals p e' arg) types.Boolean) else if bytes_eq f (codes "concat") then Some
-          (typed (Core.Concat p e' arg) types.Text) else None) ≡ Some r →
-          Right (Source.MethodCall p e f (Source.Argument a Source.NoExpr)) r
-      equal arg a x false t h = joined arg a x (bytes_eq f (codes "concat")) refl h
-      equal arg a x true t h =
-          subst (λ f. Right (Source.MethodCall p e f (Source.Argument a Source.NoExpr)) r)
-          (sym ((bytes_eq-Decides f (codes "equals")).0 t))
-          (subst (Right (Source.MethodCall p e (codes "equals") (Source.Argument a Source.NoExpr))) (some_is h)
-          (plain (Source.MethodCall p e (codes "equals") (Source.Argument a Source.NoExpr)) (Core.Equals p e' arg) BooleanType
-          types.Boolean (is.equals y i x)
-          (ap result_in (called_as (codes "equals"))) boolean_given (λ n q. cc)))
+      called_by : (arg : Core.Expr) (a : Source.Expr) → E a arg → (c : TextCall) →
+          Right (Source.MethodCall p e (text_method c).name (Source.Argument a Source.NoExpr))
+          (typed (text_form p e' arg c) (text_result c))
+      called_by arg a x texts.Equals =
+          plain (Source.MethodCall p e (text_method texts.Equals).name (Source.Argument a Source.NoExpr)) (Core.Equals p e' arg)
+          BooleanType types.Boolean (is.equals y i x)
+          (ap result_in (called_as (text_method texts.Equals).name)) boolean_given (λ n q. cc)
+      called_by arg a x texts.Concat =
+          plain (Source.MethodCall p e (text_method texts.Concat).name (Source.Argument a Source.NoExpr)) (Core.Concat p e' arg)
+          TextType types.Text (is.concat y i x)
+          (ap result_in (called_as (text_method texts.Concat).name)) text_given (λ n q. cc)
 
   -- what is resolved to a variable is one
   pub right_placed : {e : Source.Expr} {e' : Core.Expr} →

@@ -9,6 +9,11 @@ use Rattle.mg_text.specs.declared.place.Place.{Place}
 use Rattle.mg_text.proofs.Numbered.{list_any-from_None}
 use Rattle.mg_read.specs.Culprit.{Culprit, culprit}
 use Rattle.mg_read.specs.First.{Clean}
+use Rattle.jv_tree.specs.declared.built_in.TextCall.{TextCall}
+use Rattle.jv_tree.specs.declared.built_in.TextCall.TheVariants as texts
+use Rattle.jv_tree.specs.BuiltIn.{session_method, session_named, text_method, text_named}
+use Rattle.jv_rules.specs.Typing.{plain_signature}
+use Rattle.jv_rules.proofs.BuiltInTypes.{session_signed, text_signed}
 use Rattle.jv_tree.specs.Source
 use Rattle.jv_tree.specs.Source.{place_of}
 use Rattle.jv_meaning.specs.Program.{class_named, enum_named, method_named, constant_position}
@@ -40,12 +45,11 @@ use Rattle.jv_kept.proofs.Moving.{IsNotThis, arguments_clean, call_clean}
 use Rattle.jv_resolve_law.specs.Tables.{◌>>=◌, Numbered, Entry, Tables, Callee, Placed, class_called, enum_called, method_called}
 use Rattle.jv_resolve_law.specs.Tables.{field_called, type_meant}
 use Rattle.jv_resolve_law.specs.Expressions.{Given, Of, Resolved, Known, Standing, Found, Receiver, OnThis, OnClass, OnValue, variable_in}
-use Rattle.jv_resolve_law.specs.Expressions.{only, text_call, session_named, session_names, paired_with, session_call}
+use Rattle.jv_resolve_law.specs.Expressions.{only, text_call, session_call}
 use Rattle.jv_resolve_law.specs.Expressions.{constant, static_call, helper_call, object_call, call_class, call_protocol, call_typed}
 use Rattle.jv_resolve_law.specs.Expressions.{own_found, call_own, call_this, call_on, make, found, variable_at, constant_at, member}
 use Rattle.jv_resolve_law.specs.Expressions.{named_receiver, resolved, resolved_all}
 use Rattle.jv_resolve_law.specs.Expressions as expressions
-use Rattle.jv_resolve_law.proofs.Steps.{flipped}
 use Rattle.jv_resolve_law.proofs.Tabled.{IsEntry, enum_called_is, MethodCalled, method_called_is, ClassCalled, class_called_is}
 use Rattle.jv_resolve_law.proofs.Tabled.{field_called_is}
 use Rattle.jv_resolve_law.proofs.Given.{IsGiven, no_value, int_given, boolean_given, text_given, null_given, class_given, AreKnown, Falls}
@@ -61,25 +65,12 @@ pub record AreMeant (program : Program) (tables : Tables) (entry : Entry) : Type
   pub fields : (k : ℕ) (f : Source.Field) → slice_get entry.class.fields k ≡ Some f → type_meant tables f.ty ≡ None → ⊥
   pub results : (n : ℕ) (o : Owned) → slice_get (methods_of program) n ≡ Some o → type_meant tables o.method.result ≡ None → ⊥
 
--- a name that pairs don't have is none of those of other pairs with these names
-not_paired : {A B : Type 0} (ps : List (Name × A)) (qs : List (Name × B)) → map (λ p. p.0) ps ≡ map (λ q. q.0) qs → (f : Name) →
-    paired_with ps f ≡ None → find (λ m. bytes_eq m.0 f) qs ≡ None
-not_paired [] [] same f e = refl
-not_paired [] (q ∷ qs) same f e = absurd (cc)
-not_paired (p ∷ ps) [] same f e = absurd (cc)
-not_paired (p ∷ ps) (q ∷ qs) same f e =
-    let first : p.0 ≡ q.0 = cc in
-    let rest : map (λ p. p.0) ps ≡ map (λ q. q.0) qs = cc in
-    go (bytes_eq f p.0) (flipped q.0 f ∙ ap (bytes_eq f) (sym first)) e (λ e. not_paired ps qs rest f e)
-  where
-    go : (b : Bool) → bytes_eq q.0 f ≡ b → (if b then Some p.1 else paired_with ps f) ≡ None →
-        (paired_with ps f ≡ None → find (λ m. bytes_eq m.0 f) qs ≡ None) →
-        cond (bytes_eq q.0 f) (Some q) (find (λ m. bytes_eq m.0 f) qs) ≡ None
-    go true t e later = absurd (none_some (sym e))
-    go false t e later = ap (λ b. cond b (Some q) (find (λ m. bytes_eq m.0 f) qs)) t ∙ later e
-
+-- a name that no method of the session has, or of texts, has no signature
 no_session : (f : Name) → session_named f ≡ None → built_in session_methods f ≡ None
-no_session f e = ap (option_map (λ m. m.1)) (not_paired session_names session_methods refl f e)
+no_session f e = session_signed f ∙ ap (option_map (λ c. plain_signature (session_method c))) e
+
+no_text : (f : Name) → text_named f ≡ None → built_in text_methods f ≡ None
+no_text f e = text_signed f ∙ ap (option_map (λ c. plain_signature (text_method c))) e
 
 abbrev as_field : Placed → CoreType → Option (Option Found)
 as_field f ty = Some (Some (record { var = vars.Field f.place; ty = ty }))
@@ -292,42 +283,16 @@ module _ (core : Core.Program) (tables : Tables) (method : Core.Method) (scope :
 
   -- what a text's methods take is one argument
   takes_one : (f : Name) (sig : Signature) → built_in text_methods f ≡ Some sig → length sig.params ≡ 1
-  takes_one f sig e = go (bytes_eq (codes "equals") f) e
+  takes_one f sig e = go (text_named f) (sym (text_signed f) ∙ e)
     where
-      second : (t : Bool) → option_map (λ (m : Name × Signature). m.1)
-          (if t then Some (codes "concat", takes_and_gives (TextType ∷ []) TextType) else None) ≡ Some sig → length sig.params ≡ 1
-      second true e = ap (λ (s : Signature). length s.params) (sym (some_is e))
-      second false e = absurd (none_some e)
-
-      go : (t : Bool) → option_map (λ (m : Name × Signature). m.1)
-          (if t then Some (codes "equals", takes_and_gives (TextType ∷ []) BooleanType)
-          else if bytes_eq (codes "concat") f then Some (codes "concat", takes_and_gives (TextType ∷ []) TextType) else None) ≡ Some
-          sig → length sig.params ≡ 1
-      go true e = ap (λ (s : Signature). length s.params) (sym (some_is e))
-      go false e = second (bytes_eq (codes "concat") f) e
+      go : (o : Option TextCall) → option_map (λ c. plain_signature (text_method c)) o ≡ Some sig → length sig.params ≡ 1
+      go None e = absurd (none_some e)
+      go (Some texts.Equals) e = ap (λ (s : Signature). length s.params) (sym (some_is e))
+      go (Some texts.Concat) e = ap (λ (s : Signature). length s.params) (sym (some_is e))
 
   -- a text has a method of this name
   given_text : (p : Place) (e' : Core.Expr) (f : Name) (arg : Core.Expr) → G (built_in text_methods f) → G (text_call p e' f arg)
-  given_text p e' f arg n h = n (go (bytes_eq f (codes "equals")) (flipped (codes "equals") f) h)
-    where
-      last : (t : Bool) → bytes_eq (codes "concat") f ≡ t →
-          (if t then Some (expressions.typed (Core.Concat p e' arg) types.Text) else None) ≡ None →
-          option_map (λ (m : Name × Signature). m.1)
-          (if bytes_eq (codes "concat") f then Some (codes "concat", takes_and_gives (TextType ∷ []) TextType) else None) ≡ None
-      last true t h = absurd (none_some (sym h))
-      last false t h = ap (λ b. option_map (λ (m : Name × Signature). m.1)
-          (if b then Some (codes "concat", takes_and_gives (TextType ∷ []) TextType) else None)) t
-
-      go : (t : Bool) → bytes_eq (codes "equals") f ≡ t →
-          (if t then Some (expressions.typed (Core.Equals p e' arg) types.Boolean) else
-          if bytes_eq f (codes "concat") then Some (expressions.typed (Core.Concat p e' arg) types.Text) else None) ≡ None →
-          built_in text_methods f ≡ None
-      go true t h = absurd (none_some (sym h))
-      go false t h =
-          ap (λ b. option_map (λ (m : Name × Signature). m.1)
-          (if b then Some (codes "equals", takes_and_gives (TextType ∷ []) BooleanType)
-          else if bytes_eq (codes "concat") f then Some (codes "concat", takes_and_gives (TextType ∷ []) TextType) else None)) t
-          ∙ last (bytes_eq f (codes "concat")) (flipped (codes "concat") f) h
+  given_text p e' f arg n = given_bind (text_named f) _ (λ e. n (no_text f e)) (λ c e. given_some _)
 
   -- what has the form of a variable is resolved to one
   pub given_placed : {e : Source.Expr} {e' : Core.Expr} →

@@ -3,6 +3,9 @@ use Rattle.std.specs.Prelude.{ℕ, List, [], ◌∷◌, Option, Some, None, opti
 use Rattle.std.specs.Str.{bytes_eq}
 use Rattle.mg_text.specs.Call.{Name}
 use Rattle.mg_text.specs.declared.place.Place.{Place}
+use Rattle.jv_tree.specs.declared.built_in.TextCall.{TextCall}
+use Rattle.jv_tree.specs.declared.built_in.TextCall.TheVariants as texts
+use Rattle.jv_tree.specs.BuiltIn.{session_named, text_named}
 use Rattle.jv_tree.specs.declared.tree.Op.{Op}
 use Rattle.jv_tree.specs.declared.tree.Op.TheVariants as ops
 use Rattle.jv_tree.specs.Source
@@ -11,12 +14,10 @@ use Rattle.jv_meaning.specs.Program.{constant_position}
 use Rattle.jv_core.specs.declared.tree.Var.{Var}
 use Rattle.jv_core.specs.declared.tree.Var.TheVariants as vars
 use Rattle.jv_core.specs.declared.tree.CoreVar.{CoreVar}
-use Rattle.jv_core.specs.declared.tree.SessionCall.{SessionCall}
-use Rattle.jv_core.specs.declared.tree.SessionCall.TheVariants as calls
 use Rattle.jv_core.specs.declared.program.CoreType.{CoreType}
 use Rattle.jv_core.specs.declared.program.CoreType.TheVariants as types
 use Rattle.jv_core.specs.Tree as Core
-use Rattle.jv_core.specs.Types.{session_result}
+use Rattle.jv_core.specs.Types.{session_result, text_result}
 use Rattle.jv_core.specs.View.{exprs_of}
 use Rattle.jv_resolve_law.specs.Tables.{◌>>=◌, Entry, Tables, Callee, class_called, enum_called, method_called, field_called, type_meant}
 
@@ -53,21 +54,6 @@ pub record Found : Type 0 where
 
 abbrev pub known_named : List Known → Name → Option Known
 known_named locals name = find (λ l. bytes_eq l.name name) locals
-
--- of pairs, what stands with the first of this name
-abbrev pub paired_with : {A : Type 0} → List (Name × A) → Name → Option A
-paired_with [] name = None
-paired_with (p ∷ ps) name = if bytes_eq name p.0 then Some p.1 else paired_with ps name
-
-abbrev pub session_names : List (Name × SessionCall)
-session_names =
-    (codes "send", calls.Send) ∷ (codes "sendInt", calls.SendInt) ∷ (codes "sendBoolean", calls.SendBoolean)
-    ∷ (codes "sendString", calls.SendString) ∷ (codes "look", calls.Look) ∷ (codes "take", calls.Take) ∷ (codes "takeInt", calls.TakeInt)
-    ∷ (codes "takeBoolean", calls.TakeBoolean) ∷ (codes "takeString", calls.TakeString) ∷ (codes "refuse", calls.Refuse) ∷ []
-
--- the method of the session that has this name
-abbrev pub session_named : Name → Option SessionCall
-session_named = paired_with session_names
 
 -- whether a type is String
 abbrev pub is_text : Given → Bool
@@ -111,11 +97,14 @@ abbrev pub found_at : Place → Found → Resolved
 found_at p x = typed (Core.Variable p x.var) x.ty
 
 -- `equals` or `concat` of a text, with one argument
+abbrev pub text_form : Place → Core.Expr → Core.Expr → TextCall → Core.Expr
+text_form p text arg texts.Equals = Core.Equals p text arg
+text_form p text arg texts.Concat = Core.Concat p text arg
+
 abbrev pub text_call : Place → Core.Expr → Name → Core.Expr → Option Resolved
-text_call p text f arg =
-    if bytes_eq f (codes "equals") then Some (typed (Core.Equals p text arg) types.Boolean)
-    else if bytes_eq f (codes "concat") then Some (typed (Core.Concat p text arg) types.Text)
-    else None
+text_call p text f arg = do
+  c ← text_named f
+  Some (typed (text_form p text arg c) (text_result c))
 
 abbrev pub session_call : Place → Name → List Core.Expr → Option Resolved
 session_call p f args = do

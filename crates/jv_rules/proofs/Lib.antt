@@ -4,3 +4,4 @@ pub mod Deciding
 pub mod Judged
 pub mod Positive
 pub mod Once
+pub mod BuiltInTypes

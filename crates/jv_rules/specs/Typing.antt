@@ -1,10 +1,13 @@
 -- The types of expressions. They know nothing of faults: an expression at fault may have a type, too.
-use Rattle.std.specs.Prelude.{List, [], ◌∷◌, Option, Some, None, option_map, Bool, true, false, if◌then◌else◌, codes}
+use Rattle.std.specs.Prelude.{List, [], ◌∷◌, Option, Some, None, map, option_map, Bool, true, false, if◌then◌else◌, codes}
 use Rattle.std.specs.List.{find, list_any}
 use Rattle.std.specs.Str.{bytes_eq}
 use Rattle.mg_text.specs.Call.{Name}
 use Rattle.jv_tree.specs.declared.tree.Op.{Op}
 use Rattle.jv_tree.specs.declared.tree.Op.TheVariants as ops
+use Rattle.jv_tree.specs.declared.built_in.PlainType.{PlainType}
+use Rattle.jv_tree.specs.declared.built_in.PlainType.TheVariants as plain
+use Rattle.jv_tree.specs.BuiltIn.{PlainMethod, session_method, session_calls, text_method, text_calls}
 use Rattle.jv_tree.specs.Source.{Method, Class, Expr, Int, Truth, Text, Null, This, Variable, Member, Neg, Not, Binary, Call, MethodCall}
 use Rattle.jv_tree.specs.Source.{New}
 use Rattle.jv_meaning.specs.Program.{class_named, enum_named, method_named}
@@ -15,27 +18,26 @@ use Rattle.jv_rules.specs.Scope.{Scope, variable_type, field_type}
 abbrev pub takes_and_gives : List ValueType → ValueType → Signature
 takes_and_gives params result = record { params = params; result = result }
 
+-- the type that a plain one is
+abbrev pub plain_type : PlainType → ValueType
+plain_type plain.Void = NoValue
+plain_type plain.Int = IntType
+plain_type plain.Boolean = BooleanType
+plain_type plain.Text = TextType
+
+abbrev pub plain_signature : PlainMethod → Signature
+plain_signature m = takes_and_gives (map plain_type m.params) (plain_type m.result)
+
+abbrev pub signed : PlainMethod → Name × Signature
+signed m = (m.name, plain_signature m)
+
 -- the methods of the class `Session`
 abbrev pub session_methods : List (Name × Signature)
-session_methods =
-    (codes "send", takes_and_gives (TextType ∷ TextType ∷ []) NoValue)
-    ∷ (codes "sendInt", takes_and_gives (TextType ∷ TextType ∷ IntType ∷ []) NoValue)
-    ∷ (codes "sendBoolean", takes_and_gives (TextType ∷ TextType ∷ BooleanType ∷ []) NoValue)
-    ∷ (codes "sendString", takes_and_gives (TextType ∷ TextType ∷ TextType ∷ []) NoValue)
-    ∷ (codes "look", takes_and_gives (TextType ∷ []) TextType)
-    ∷ (codes "take", takes_and_gives (TextType ∷ TextType ∷ []) NoValue)
-    ∷ (codes "takeInt", takes_and_gives (TextType ∷ TextType ∷ []) IntType)
-    ∷ (codes "takeBoolean", takes_and_gives (TextType ∷ TextType ∷ []) BooleanType)
-    ∷ (codes "takeString", takes_and_gives (TextType ∷ TextType ∷ []) TextType)
-    ∷ (codes "refuse", takes_and_gives (TextType ∷ TextType ∷ []) NoValue)
-    ∷ []
+session_methods = map (λ c. signed (session_method c)) session_calls
 
 -- the methods of a text
 abbrev pub text_methods : List (Name × Signature)
-text_methods =
-    (codes "equals", takes_and_gives (TextType ∷ []) BooleanType)
-    ∷ (codes "concat", takes_and_gives (TextType ∷ []) TextType)
-    ∷ []
+text_methods = map (λ c. signed (text_method c)) text_calls
 
 abbrev pub built_in : List (Name × Signature) → Name → Option Signature
 built_in methods name = option_map (λ m. m.1) (find (λ m. bytes_eq m.0 name) methods)

@@ -22,7 +22,7 @@ use Rattle.jv_core.specs.Tree.{Stmt, Block, Empty, Local, Assign, If, IfElse, Wh
 use Rattle.jv_core.specs.Tree.{Stmts, NoStmt, Then, Declare, Groups, NoGroup, Group, Program}
 use Rattle.jv_core.specs.Lookup.{text_at, class_text, enum_text}
 use Rattle.jv_values.specs.Operators.{operator_of}
-use Rattle.jv_core.specs.Meaning.{Lower, Code, session_of, mine, new_fields, enum_given, has_group, own_field, read, write, protocol_call}
+use Rattle.jv_core.specs.Meaning.{Lower, Code, mine, new_fields, enum_given, has_group, own_field, read, write, protocol_call}
 use Rattle.jv_core.specs.Meaning.{eval, eval_all, value, test, position, exec, exec_all, exec_from, exec_groups, language, main_of}
 use Rattle.jv_sound.specs.Laws.{BudgetLaw}
 
@@ -79,7 +79,7 @@ module _ (p : Program) (inputs : Inputs) (low high : Lower) (b : FurtherBelow lo
     eval_e r (Concat q x y) = valuing_e (then_e (valued_e (eval_e r x)) (λ v. then_e (valued_e (eval_e r y)) (λ w.
         expressions.joined_texts_same FurtherShared further_shares v w)))
     eval_e r (Session q c args) = then_e (args_e r args) (λ vs. expressions.session_same FurtherShared further_shares inputs
-        (session_of c) vs)
+        c vs)
     eval_e r (New q c) = then_e (found_e (slice_get p.classes c)) (λ k. then_e (found_e (new_fields p k.fields)) (λ row.
         valuing_e (expressions.make_same FurtherShared further_shares (record { class = text_at p k.name; fields = row }))))
 

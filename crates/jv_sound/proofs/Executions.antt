@@ -11,9 +11,10 @@ use Rattle.jv_values.specs.Objects.{write_field}
 use Rattle.mg_text.specs.declared.event.Event.TheVariants as seen
 use Rattle.jv_values.specs.Statements.{Completion, Normal, Breaks, Continues, Returns, Does, next_do, assigned, after_body, after_switch}
 use Rattle.jv_values.specs.Statements.{is_default, case_at, any_label}
+use Rattle.jv_tree.specs.BuiltIn.{session_method}
+use Rattle.jv_core.proofs.PlainTypes.{no_enum}
 use Rattle.jv_core.specs.declared.tree.Var.{Var}
 use Rattle.jv_core.specs.declared.tree.Var.TheVariants as vars
-use Rattle.jv_core.specs.declared.tree.SessionCall.TheVariants as calls
 use Rattle.jv_core.specs.declared.program.CoreType.{CoreType}
 use Rattle.jv_core.specs.declared.program.CoreType.TheVariants as types
 use Rattle.jv_core.specs.Tree.{Expr, Truth, Stmt, Stmts, Groups, NoGroup, Group, Program, Method}
@@ -157,16 +158,7 @@ module _ (p : Program) (ok : IsCore p) where
     type_is sc _ of t (Types.static c xs e) g = ap (option_map (λ (m : Method). m.result)) c.at ∙ ap Some e
     type_is sc _ of t (Types.equals x y s) g = absurd (cc)
     type_is sc _ of t (Types.concat x y s) g = absurd (cc)
-    type_is sc _ of t (Types.session {c = calls.Send} xs e) g = absurd (cc)
-    type_is sc _ of t (Types.session {c = calls.SendInt} xs e) g = absurd (cc)
-    type_is sc _ of t (Types.session {c = calls.SendBoolean} xs e) g = absurd (cc)
-    type_is sc _ of t (Types.session {c = calls.SendString} xs e) g = absurd (cc)
-    type_is sc _ of t (Types.session {c = calls.Look} xs e) g = absurd (cc)
-    type_is sc _ of t (Types.session {c = calls.Take} xs e) g = absurd (cc)
-    type_is sc _ of t (Types.session {c = calls.TakeInt} xs e) g = absurd (cc)
-    type_is sc _ of t (Types.session {c = calls.TakeBoolean} xs e) g = absurd (cc)
-    type_is sc _ of t (Types.session {c = calls.TakeString} xs e) g = absurd (cc)
-    type_is sc _ of t (Types.session {c = calls.Refuse} xs e) g = absurd (cc)
+    type_is sc _ of t (Types.session {c = c} xs e) g = absurd (no_enum (session_method c).result of (e ∙ g))
     type_is sc _ of t (Types.new h) g = absurd (cc)
 
     position_runs : (sc : List ℕ) (e : Expr) (of : ℕ) → Has p m sc e (types.Enum of) → (w : World) → This w →

@@ -12,8 +12,8 @@ use Rattle.jv_values.specs.Messages.{session}
 use Rattle.jv_values.specs.Calls.{suits}
 use Rattle.jv_core.specs.declared.tree.Var.{Var}
 use Rattle.jv_core.specs.declared.tree.Var.TheVariants as vars
-use Rattle.jv_core.specs.declared.tree.SessionCall.{SessionCall}
-use Rattle.jv_core.specs.declared.tree.SessionCall.TheVariants as calls
+use Rattle.jv_tree.specs.declared.built_in.SessionCall.{SessionCall}
+use Rattle.jv_tree.specs.declared.built_in.SessionCall.TheVariants as calls
 use Rattle.jv_core.specs.declared.program.CoreType.{CoreType}
 use Rattle.jv_core.specs.declared.program.CoreType.TheVariants as types
 use Rattle.jv_core.specs.declared.program.MethodKind.TheVariants as kinds
@@ -23,7 +23,7 @@ use Rattle.jv_core.specs.Types.{session_params, session_result, IsVariable, IsCa
 use Rattle.jv_core.specs.Types
 use Rattle.jv_core.specs.Members.{IsUsable, IsField}
 use Rattle.jv_core.specs.Conditions.{IsSlot, IsMethod, IsCore}
-use Rattle.jv_core.specs.Meaning.{Lower, runs_on_object, session_of, new_fields, own_field, read, protocol_call, eval, eval_all}
+use Rattle.jv_core.specs.Meaning.{Lower, runs_on_object, new_fields, own_field, read, protocol_call, eval, eval_all}
 use Rattle.jv_sound.proofs.Lists.{some_is, each_at}
 use Rattle.jv_sound.proofs.Worlds.{World, Extends, stays, same_world, further, Runs, runs_give, runs_then, runs_stop, runs_found, runs_at}
 use Rattle.jv_sound.proofs.Worlds.{runs_later, runs_as, Fits, fits_more, GivesA, gives_more, AllFit, all_more, RowFits, row_more, finds}
@@ -323,9 +323,9 @@ module _ (p : Program) (ok : IsCore p) where
           (valued_runs p H types.Text w _ text_value (eval_good x w o r))
           (valued_runs p H types.Text w _ text_value (eval_good y w o r)) (λ z v u f g. joined_texts_runs p H z v u f g))
       eval_good {t} {row} (Types.session {c = c} {args = args} xs e) w o r =
-          subst (λ t. Runs H (Result t) w (eval_all p inputs low n here row args >>= session inputs (session_of c))) e
+          subst (λ t. Runs H (Result t) w (eval_all p inputs low n here row args >>= session inputs c)) e
           (runs_then H (Args (session_params c)) (Result (session_result c)) w (eval_all p inputs low n here row args)
-          (session inputs (session_of c)) (args_good xs (session_usable c) w o r)
+          (session inputs c) (args_good xs (session_usable c) w o r)
           (λ y vs q fs. session_runs p H (noted p ok) inputs c y vs fs))
       eval_good (Types.new {c = c} has) w o r =
           let b = begun p has.class.fields (ok.classes c has.class has.at).fields in

@@ -15,11 +15,10 @@ use Rattle.jv_values.specs.Messages.{messages_of, taken, there_or, peer, next_me
 use Rattle.jv_values.specs.Messages.{takes, refuses, session}
 use Rattle.jv_core.specs.declared.program.CoreType.{CoreType}
 use Rattle.jv_core.specs.declared.program.CoreType.TheVariants as types
-use Rattle.jv_core.specs.declared.tree.SessionCall.{SessionCall}
-use Rattle.jv_core.specs.declared.tree.SessionCall.TheVariants as calls
+use Rattle.jv_tree.specs.declared.built_in.SessionCall.{SessionCall}
+use Rattle.jv_tree.specs.declared.built_in.SessionCall.TheVariants as calls
 use Rattle.jv_core.specs.Tree.{Program}
 use Rattle.jv_core.specs.Types.{session_params, session_result}
-use Rattle.jv_core.specs.Meaning.{session_of}
 use Rattle.jv_sound.proofs.Worlds.{World, Extends, Runs, runs_give, runs_then, runs_stop, good_give, Fits, fits_more, GivesA, AllFit}
 use Rattle.jv_sound.proofs.Worlds as worlds
 use Rattle.jv_sound.proofs.Operators.{Anything}
@@ -132,7 +131,7 @@ module _ (p : Program) (St : World → Shared → Type 0)
       (peer_runs inputs w q) (λ x ms z u. runs_stop St (Result t) x (Mismatch q f) (λ e. cc))
 
   pub session_runs : (inputs : Inputs) (c : SessionCall) (w : World) (vs : List Value) → AllFit p w vs (session_params c) →
-      Runs St (Result (session_result c)) w (session inputs (session_of c) vs)
+      Runs St (Result (session_result c)) w (session inputs c vs)
   session_runs inputs calls.Send w vs (worlds.value (worlds.text {t = q}) (worlds.value (worlds.text {t = l}) worlds.no_values)) =
       sends_runs inputs w q l carried.Nothing
   session_runs inputs calls.SendInt w vs (worlds.value (worlds.text {t = q})

@@ -1,4 +1,5 @@
 pub mod Source
+pub mod BuiltIn
 pub mod Depth
 pub mod View
 pub mod Tokens

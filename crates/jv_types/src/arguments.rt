@@ -10,7 +10,7 @@ ghost use Rattle.jv_types.specs.Tables.{program_in};
 use crate::name_table::Table;
 use crate::operands::misfit;
 use crate::signature::Params;
-use crate::value_type::{ValueType, meant};
+use crate::value_type::{ValueType, meant, plain_type};
 use jv_tree::Expr;
 use mg_text::Place;
 
@@ -28,27 +28,10 @@ pub(crate) fn param_at<'a>(
             Some(param) => Some(meant(table, &param.ty)),
             None => None,
         },
-        Params::OneText => {
-            if index == 0 {
-                return Some(ValueType::Text);
-            }
-            None
-        }
-        Params::TwoTexts => {
-            if index < 2 {
-                return Some(ValueType::Text);
-            }
-            None
-        }
-        Params::TwoTextsAnd(last) => {
-            if index < 2 {
-                return Some(ValueType::Text);
-            }
-            if index == 2 {
-                return Some(last);
-            }
-            None
-        }
+        Params::Plain(plain) => match plain.get(index) {
+            Some(param) => Some(plain_type(*param)),
+            None => None,
+        },
     }
 }
 
@@ -58,9 +41,7 @@ pub(crate) fn count_of(table: &Table<'_>, params: Params<'_>) -> usize
 {
     match params {
         Params::Declared(declared) => declared.len(),
-        Params::OneText => 1,
-        Params::TwoTexts => 2,
-        Params::TwoTextsAnd(_last) => 3,
+        Params::Plain(plain) => plain.len(),
     }
 }
 

@@ -1,25 +1,24 @@
 //! What calls take and give.
 
-ghost use Rattle.std.specs.Prelude.{◌≡◌, drop, option_map, take};
+ghost use Rattle.std.specs.Prelude.{◌≡◌, option_map};
+ghost use Rattle.jv_tree.specs.BuiltIn.{method_seen};
 ghost use Rattle.jv_tree.specs.View.{method_of};
 ghost use Rattle.jv_rules.specs.Program.{Program};
 ghost use Rattle.jv_rules.specs.Types.{signature_of};
-ghost use Rattle.jv_rules.specs.Typing.{built_in, session_methods, text_methods};
+ghost use Rattle.jv_rules.specs.Typing.{built_in, plain_signature, session_methods, text_methods};
 ghost use Rattle.jv_types.specs.inner.Signatures.{signature_seen};
 ghost use Rattle.jv_types.specs.Tables.{program_in};
 
 use crate::name_table::Table;
-use crate::value_type::{ValueType, meant};
-use jv_tree::{MethodDecl, Param};
+use crate::value_type::{ValueType, meant, plain_type};
+use jv_tree::{MethodDecl, Param, PlainMethod, PlainType, SessionCall, TextCall};
 
 /// The parameters of a call.
 #[derive(Clone, Copy)]
 pub(crate) enum Params<'a> {
     Declared(&'a [Param]),
-    /// One text, two, or two and a last one of this type.
-    OneText,
-    TwoTexts,
-    TwoTextsAnd(ValueType<'a>),
+    /// Those of a method that every program has.
+    Plain(&'static [PlainType]),
 }
 
 /// What a call takes and gives.
@@ -39,87 +38,23 @@ pub(crate) fn signature_of<'a>(table: &Table<'_>, method: &'a MethodDecl) -> Sig
     }
 }
 
-// The method of `Session` that sends, of a name.
-fn sending<'a>(name: &str) -> Option<Signature<'a>>
-    ensures { (program : Program) → option_map (signature_seen program) result ≡ built_in (take 4 session_methods) name.now }
+// What calls of a method that every program has take and give.
+fn plain_signature<'a>(method: PlainMethod) -> Signature<'a>
+    ensures { (program : Program) → signature_seen program result ≡ plain_signature (method_seen method) }
 {
-    if "send" == name {
-        return Some(Signature {
-            params: Params::TwoTexts,
-            result: ValueType::NoValue,
-        });
+    Signature {
+        params: Params::Plain(method.params),
+        result: plain_type(method.result),
     }
-    if "sendInt" == name {
-        return Some(Signature {
-            params: Params::TwoTextsAnd(ValueType::Int),
-            result: ValueType::NoValue,
-        });
-    }
-    if "sendBoolean" == name {
-        return Some(Signature {
-            params: Params::TwoTextsAnd(ValueType::Boolean),
-            result: ValueType::NoValue,
-        });
-    }
-    if "sendString" == name {
-        return Some(Signature {
-            params: Params::TwoTextsAnd(ValueType::Text),
-            result: ValueType::NoValue,
-        });
-    }
-    None
-}
-
-// The method of `Session` that looks, takes or refuses, of a name.
-fn taking<'a>(name: &str) -> Option<Signature<'a>>
-    ensures { (program : Program) → option_map (signature_seen program) result ≡ built_in (drop 4 session_methods) name.now }
-{
-    if "look" == name {
-        return Some(Signature {
-            params: Params::OneText,
-            result: ValueType::Text,
-        });
-    }
-    if "take" == name {
-        return Some(Signature {
-            params: Params::TwoTexts,
-            result: ValueType::NoValue,
-        });
-    }
-    if "takeInt" == name {
-        return Some(Signature {
-            params: Params::TwoTexts,
-            result: ValueType::Int,
-        });
-    }
-    if "takeBoolean" == name {
-        return Some(Signature {
-            params: Params::TwoTexts,
-            result: ValueType::Boolean,
-        });
-    }
-    if "takeString" == name {
-        return Some(Signature {
-            params: Params::TwoTexts,
-            result: ValueType::Text,
-        });
-    }
-    if "refuse" == name {
-        return Some(Signature {
-            params: Params::TwoTexts,
-            result: ValueType::NoValue,
-        });
-    }
-    None
 }
 
 /// The method of `Session` of a name.
 pub(crate) fn session_method<'a>(name: &str) -> Option<Signature<'a>>
     ensures { (program : Program) → option_map (signature_seen program) result ≡ built_in session_methods name.now }
 {
-    match sending(name) {
-        Some(signature) => Some(signature),
-        None => taking(name),
+    match SessionCall::named(name) {
+        Some(call) => Some(plain_signature(call.method())),
+        None => None,
     }
 }
 
@@ -127,17 +62,8 @@ pub(crate) fn session_method<'a>(name: &str) -> Option<Signature<'a>>
 pub(crate) fn text_method<'a>(name: &str) -> Option<Signature<'a>>
     ensures { (program : Program) → option_map (signature_seen program) result ≡ built_in text_methods name.now }
 {
-    if "equals" == name {
-        return Some(Signature {
-            params: Params::OneText,
-            result: ValueType::Boolean,
-        });
+    match TextCall::named(name) {
+        Some(call) => Some(plain_signature(call.method())),
+        None => None,
     }
-    if "concat" == name {
-        return Some(Signature {
-            params: Params::OneText,
-            result: ValueType::Text,
-        });
-    }
-    None
 }

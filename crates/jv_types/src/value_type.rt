@@ -2,11 +2,13 @@
 
 ghost use Rattle.std.specs.Prelude.{◌≡◌};
 ghost use Rattle.jv_rules.specs.Types.{meant};
+ghost use Rattle.jv_rules.specs.Typing.{plain_type};
 ghost use Rattle.jv_rules.specs.inner.Deciding.{same_type, fits, is_writable};
 ghost use Rattle.jv_types.specs.inner.View.{type_seen};
 ghost use Rattle.jv_types.specs.Tables.{program_in};
 
 use crate::name_table::Table;
+use jv_tree::PlainType;
 use ts_tree::TypeName;
 
 /// The type of a value.
@@ -35,6 +37,18 @@ pub(crate) fn meant<'a>(table: &Table<'_>, written: &'a TypeName) -> ValueType<'
             Some(_class) => ValueType::Class(name.as_str()),
             None => ValueType::Enum(name.as_str()),
         },
+    }
+}
+
+/// The type that a plain one is.
+pub(crate) fn plain_type<'a>(plain: PlainType) -> ValueType<'a>
+    ensures { type_seen result ≡ plain_type plain }
+{
+    match plain {
+        PlainType::Void => ValueType::NoValue,
+        PlainType::Int => ValueType::Int,
+        PlainType::Boolean => ValueType::Boolean,
+        PlainType::Text => ValueType::Text,
     }
 }
 

@@ -15,7 +15,9 @@ use Rattle.jv_values.specs.Operators.{Operator, wrap, Or, And, Equal, Unequal, L
 use Rattle.jv_values.specs.Operators.{Remain, int_same, nonzero, shown, joined, sum, computed, compared, same, unless_decided, both}
 use Rattle.jv_values.specs.Operators.{applied, binary, negative, opposite, equal_texts, joined_texts, print}
 use Rattle.jv_values.specs.Objects.{object, object_of, read_field, write_field, make, receiver, answer_of, telling}
-use Rattle.jv_values.specs.Messages.{SessionCall, Send, SendInt, SendTruth, SendText, Look, Take, TakeInt, TakeTruth, TakeText, Refuse}
+use Rattle.jv_tree.specs.declared.built_in.SessionCall.{SessionCall}
+use Rattle.jv_tree.specs.declared.built_in.SessionCall.TheVariants.{Send, SendInt, SendBoolean, SendString, Look, Refuse}
+use Rattle.jv_tree.specs.declared.built_in.SessionCall.TheVariants.{Take, TakeInt, TakeBoolean, TakeString}
 use Rattle.jv_values.specs.Messages.{messages_of, taken, there_or, peer, next_message, sends, looks, nothing_in, int_in, truth_in, text_in}
 use Rattle.jv_values.specs.Messages.{takes, refuses, session}
 use Rattle.jv_values.specs.Alike.{Relation, Shares}
@@ -208,12 +210,12 @@ module _ (R : Relation Shared Shared) (h : Shares R) where
   pub session_same : (inputs : Inputs) (call : SessionCall) (vs : List Value) → Same (session inputs call vs)
   session_same i Send (q ∷ l ∷ []) = texts_same q l _ (λ q l. sends_same i q l carried.Nothing)
   session_same i SendInt (q ∷ l ∷ v ∷ []) = texts_same q l _ (λ q l. then_same (number_same v) (λ z. sends_same i q l (carried.Int z)))
-  session_same i SendTruth (q ∷ l ∷ v ∷ []) = texts_same q l _ (λ q l. then_same (truth_same v) (λ b. sends_same i q l (carried.Truth b)))
-  session_same i SendText (q ∷ l ∷ v ∷ []) = texts_same q l _ (λ q l. then_same (text_same v) (λ t. sends_same i q l (carried.Text t)))
+  session_same i SendBoolean (q ∷ l ∷ v ∷ []) = texts_same q l _ (λ q l. then_same (truth_same v) (λ b. sends_same i q l (carried.Truth b)))
+  session_same i SendString (q ∷ l ∷ v ∷ []) = texts_same q l _ (λ q l. then_same (text_same v) (λ t. sends_same i q l (carried.Text t)))
   session_same i Look (q ∷ []) = then_same (text_same q) (λ q. looks_same i q)
   session_same i Take (q ∷ l ∷ []) = texts_same q l _ (λ q l. takes_same i nothing_in q l)
   session_same i TakeInt (q ∷ l ∷ []) = texts_same q l _ (λ q l. takes_same i int_in q l)
-  session_same i TakeTruth (q ∷ l ∷ []) = texts_same q l _ (λ q l. takes_same i truth_in q l)
-  session_same i TakeText (q ∷ l ∷ []) = texts_same q l _ (λ q l. takes_same i text_in q l)
+  session_same i TakeBoolean (q ∷ l ∷ []) = texts_same q l _ (λ q l. takes_same i truth_in q l)
+  session_same i TakeString (q ∷ l ∷ []) = texts_same q l _ (λ q l. takes_same i text_in q l)
   session_same i Refuse (q ∷ f ∷ []) = texts_same q f _ (λ q f. refuses_same i q f)
   session_same i _ _ = stop_same Wrong

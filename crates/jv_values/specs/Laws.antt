@@ -1,11 +1,12 @@
 -- The laws of the library.
 use Rattle.std.specs.Prelude.{◌≡◌, ℕ, Option, List}
 use Rattle.mg_text.specs.Call.{Name}
+use Rattle.jv_tree.specs.declared.built_in.SessionCall.{SessionCall}
 use Rattle.jv_values.specs.Values.{Value, Inputs, Instance, Shared}
 use Rattle.jv_values.specs.Doing.{Run}
 use Rattle.jv_values.specs.Operators.{Operator, binary, negative, opposite, equal_texts, joined_texts, print}
 use Rattle.jv_values.specs.Objects.{read_field, write_field, make, receiver, telling}
-use Rattle.jv_values.specs.Messages.{SessionCall, session}
+use Rattle.jv_values.specs.Messages.{session}
 use Rattle.jv_values.specs.Alike.{Relation}
 use Rattle.jv_values.specs.Further.{FurtherShared, BudgetLaw}
 

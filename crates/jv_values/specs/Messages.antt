@@ -8,11 +8,11 @@ use Rattle.mg_text.specs.declared.event.Event.TheVariants as seen
 use Rattle.mg_text.specs.declared.event.Sent.{Sent}
 use Rattle.mg_text.specs.declared.event.Carried.{Carried}
 use Rattle.mg_text.specs.declared.event.Carried.TheVariants as carried
+use Rattle.jv_tree.specs.declared.built_in.SessionCall.{SessionCall}
+use Rattle.jv_tree.specs.declared.built_in.SessionCall.TheVariants.{Send, SendInt, SendBoolean, SendString, Look, Refuse}
+use Rattle.jv_tree.specs.declared.built_in.SessionCall.TheVariants.{Take, TakeInt, TakeBoolean, TakeString}
 use Rattle.jv_values.specs.Values.{Value, Int, Truth, Text, Inputs, Finish, Wrong, Mismatch, NoPeer, Wait, Shared}
 use Rattle.jv_values.specs.Doing.{Run, ◌>>=◌, give, stop, note, happened, number, truth, text}
-
-pub data SessionCall : Type 0 where
-  Send SendInt SendTruth SendText Look Take TakeInt TakeTruth TakeText Refuse : SessionCall
 
 -- the messages of a role, where it is another role of the run
 abbrev pub messages_of : Inputs → Name → Option (List Sent)
@@ -88,12 +88,12 @@ refuses inputs q f = peer inputs q >>= λ ms. stop (Mismatch q f)
 abbrev pub session : Inputs → SessionCall → List Value → Run Shared (Option Value)
 session inputs Send (q ∷ l ∷ []) = text q >>= λ q. text l >>= λ l. sends inputs q l carried.Nothing
 session inputs SendInt (q ∷ l ∷ v ∷ []) = text q >>= λ q. text l >>= λ l. number v >>= λ z. sends inputs q l (carried.Int z)
-session inputs SendTruth (q ∷ l ∷ v ∷ []) = text q >>= λ q. text l >>= λ l. truth v >>= λ b. sends inputs q l (carried.Truth b)
-session inputs SendText (q ∷ l ∷ v ∷ []) = text q >>= λ q. text l >>= λ l. text v >>= λ t. sends inputs q l (carried.Text t)
+session inputs SendBoolean (q ∷ l ∷ v ∷ []) = text q >>= λ q. text l >>= λ l. truth v >>= λ b. sends inputs q l (carried.Truth b)
+session inputs SendString (q ∷ l ∷ v ∷ []) = text q >>= λ q. text l >>= λ l. text v >>= λ t. sends inputs q l (carried.Text t)
 session inputs Look (q ∷ []) = text q >>= λ q. looks inputs q
 session inputs Take (q ∷ l ∷ []) = text q >>= λ q. text l >>= λ l. takes inputs nothing_in q l
 session inputs TakeInt (q ∷ l ∷ []) = text q >>= λ q. text l >>= λ l. takes inputs int_in q l
-session inputs TakeTruth (q ∷ l ∷ []) = text q >>= λ q. text l >>= λ l. takes inputs truth_in q l
-session inputs TakeText (q ∷ l ∷ []) = text q >>= λ q. text l >>= λ l. takes inputs text_in q l
+session inputs TakeBoolean (q ∷ l ∷ []) = text q >>= λ q. text l >>= λ l. takes inputs truth_in q l
+session inputs TakeString (q ∷ l ∷ []) = text q >>= λ q. text l >>= λ l. takes inputs text_in q l
 session inputs Refuse (q ∷ f ∷ []) = text q >>= λ q. text f >>= λ f. refuses inputs q f
 session inputs _ _ = stop Wrong

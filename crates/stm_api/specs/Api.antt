@@ -13,6 +13,10 @@ use Rattle.ts_tree.specs.declared.parts.TypeName.{TypeName}
 use Rattle.ts_tree.specs.declared.parts.TypeName.TheVariants as types
 use Rattle.stm_gen.specs.Laid.{carried_type, carried_params, choice_enum}
 use Rattle.jv_tree.specs.declared.tree.Param.{Param}
+use Rattle.jv_tree.specs.declared.built_in.SessionCall.{SessionCall}
+use Rattle.jv_tree.specs.declared.built_in.SessionCall.TheVariants as calls
+use Rattle.jv_tree.specs.declared.built_in.TextCall.TheVariants as texts
+use Rattle.jv_tree.specs.BuiltIn.{session_method, text_method}
 use Rattle.jv_tree.specs.Source.{Expr, Text, Variable, Member, MethodCall, NoExpr, Argument, Stmt, Block, Local, If, Return, Eval, NoStmt}
 use Rattle.jv_tree.specs.Source.{Then, Method, Class, ClassDecl, EnumDecl, File}
 use Rattle.jv_tree.specs.View.{exprs_of, stmts_of}
@@ -22,19 +26,25 @@ use Rattle.stm_api.specs.Doings.{Doing, Passes, Asks, all_doings, Firsts}
 -- ---- expressions and statements; all of them stand at one place
 
 -- `Session.call(..)`
-abbrev pub session : Place → Name → List Expr → Expr
-session p call args = MethodCall p (Variable p (codes "Session")) call (exprs_of args)
+abbrev pub session : Place → SessionCall → List Expr → Expr
+session p call args = MethodCall p (Variable p (codes "Session")) (session_method call).name (exprs_of args)
 
 -- `E.label`
 abbrev pub constant : Place → Name → Name → Expr
 constant p enum label = Member p (Variable p enum) label
 
--- the part of a call's name that tells what a message carries
-abbrev pub session_part : Payload → Name
-session_part payloads.Nothing = []
-session_part payloads.Int = codes "Int"
-session_part payloads.Boolean = codes "Boolean"
-session_part payloads.Text = codes "String"
+-- the call that sends what a message carries, and the one that takes it
+abbrev pub send_call : Payload → SessionCall
+send_call payloads.Nothing = calls.Send
+send_call payloads.Int = calls.SendInt
+send_call payloads.Boolean = calls.SendBoolean
+send_call payloads.Text = calls.SendString
+
+abbrev pub take_call : Payload → SessionCall
+take_call payloads.Nothing = calls.Take
+take_call payloads.Int = calls.TakeInt
+take_call payloads.Boolean = calls.TakeBoolean
+take_call payloads.Text = calls.TakeString
 
 -- what is sent behind the peer and the label
 abbrev pub sent : Place → Payload → List Expr
@@ -51,15 +61,15 @@ answered p payloads.Boolean call = Return p (Some call)
 answered p payloads.Text call = Return p (Some call)
 
 abbrev pub send_body : Place → Name → Name → Payload → List Stmt
-send_body p peer label kind = Eval p (session p (codes "send" ++ session_part kind) (Text p peer ∷ (Text p label ∷ sent p kind))) ∷ []
+send_body p peer label kind = Eval p (session p (send_call kind) (Text p peer ∷ (Text p label ∷ sent p kind))) ∷ []
 
 abbrev pub take_body : Place → Name → Name → Payload → List Stmt
-take_body p peer label kind = answered p kind (session p (codes "take" ++ session_part kind) (Text p peer ∷ (Text p label ∷ []))) ∷ []
+take_body p peer label kind = answered p kind (session p (take_call kind) (Text p peer ∷ (Text p label ∷ []))) ∷ []
 
 -- `if (found.equals("label")) { return E.label; }`
 abbrev pub label_test : Place → Name → Name → Stmt
 label_test p enum label =
-    If p (MethodCall p (Variable p (codes "found")) (codes "equals") (Argument (Text p label) NoExpr))
+    If p (MethodCall p (Variable p (codes "found")) (text_method texts.Equals).name (Argument (Text p label) NoExpr))
     (Block p (Then (Return p (Some (constant p enum label))) NoStmt) p)
 
 -- the first label is answered where the session has refused what was found
@@ -69,11 +79,11 @@ first_label p enum (label ∷ labels) = Return p (Some (constant p enum label)) 
 
 -- `String found = Session.look("peer");`
 abbrev pub found_by : Place → Name → Stmt
-found_by p peer = Local p types.Text (codes "found") (session p (codes "look") (Text p peer ∷ []))
+found_by p peer = Local p types.Text (codes "found") (session p calls.Look (Text p peer ∷ []))
 
 -- `Session.refuse("peer", found);`
 abbrev pub refusal : Place → Name → Stmt
-refusal p peer = Eval p (session p (codes "refuse") (Text p peer ∷ (Variable p (codes "found") ∷ [])))
+refusal p peer = Eval p (session p calls.Refuse (Text p peer ∷ (Variable p (codes "found") ∷ [])))
 
 -- what was found is compared with each label; it is refused if it is none of them
 abbrev pub look_body : Place → Name → Name → List Name → List Stmt

@@ -1,14 +1,14 @@
 //! The bodies of API methods.
 
-ghost use Rattle.std.specs.Prelude.{◌≡◌, ◌++◌, [], ◌∷◌, IfOk, OnOk, map, codes, Some as There};
+ghost use Rattle.std.specs.Prelude.{◌≡◌, ◌++◌, [], ◌∷◌, IfOk, OnOk, map, Some as There};
 ghost use Rattle.jv_tree.specs.Source.{Text as Quoted, Return, Eval};
 ghost use Rattle.jv_tree.specs.View.{expr_of, stmt_of};
-ghost use Rattle.stm_api.specs.Api.{session_part, sent, send_body, take_body, answered, found_by, refusal, look_body, label_test};
+ghost use Rattle.stm_api.specs.Api.{send_call, take_call, sent, send_body, take_body, answered, found_by, refusal, look_body, label_test};
 ghost use Rattle.stm_api.specs.Api.{first_label};
 ghost use Rattle.stm_api.specs.inner.View.{names_of};
 
 use crate::exprs::{call_on, constant, one, session, text, two, variable};
-use jv_tree::{Expr, Stmt, StmtKind};
+use jv_tree::{Expr, SessionCall, Stmt, StmtKind, TextCall};
 use mg_text::{List, Memory, Place, Text};
 use scr_tree::{Message, Payload};
 use std::alloc::Global;
@@ -19,7 +19,7 @@ pub fn send_body(alloc: Global, place: Place, message: &Message) -> Result<List<
     ensures { IfOk result (λ ss. map stmt_of ss.items ≡ send_body place message.now.peer message.now.label message.now.payload) }
 {
     let args = sent_args(alloc, place, message)?;
-    let call = session(alloc, place, send_word(message.payload), args)?;
+    let call = session(alloc, place, send_call(message.payload), args)?;
     single(alloc, eval(place, call))
 }
 
@@ -28,31 +28,31 @@ pub fn take_body(alloc: Global, place: Place, message: &Message) -> Result<List<
     ensures { IfOk result (λ ss. map stmt_of ss.items ≡ take_body place message.now.peer message.now.label message.now.payload) }
 {
     let args = address(alloc, place, message)?;
-    let call = session(alloc, place, take_word(message.payload), args)?;
+    let call = session(alloc, place, take_call(message.payload), args)?;
     single(alloc, answered(place, message.payload, call))
 }
 
 // The call of the session that sends this.
-fn send_word(payload: Payload) -> &'static str
-    ensures { result.now ≡ codes "send" ++ session_part payload }
+fn send_call(payload: Payload) -> SessionCall
+    ensures { result ≡ send_call payload }
 {
     match payload {
-        Payload::Nothing => "send",
-        Payload::Int => "sendInt",
-        Payload::Boolean => "sendBoolean",
-        Payload::Text => "sendString",
+        Payload::Nothing => SessionCall::Send,
+        Payload::Int => SessionCall::SendInt,
+        Payload::Boolean => SessionCall::SendBoolean,
+        Payload::Text => SessionCall::SendString,
     }
 }
 
 // The call of the session that takes this.
-fn take_word(payload: Payload) -> &'static str
-    ensures { result.now ≡ codes "take" ++ session_part payload }
+fn take_call(payload: Payload) -> SessionCall
+    ensures { result ≡ take_call payload }
 {
     match payload {
-        Payload::Nothing => "take",
-        Payload::Int => "takeInt",
-        Payload::Boolean => "takeBoolean",
-        Payload::Text => "takeString",
+        Payload::Nothing => SessionCall::Take,
+        Payload::Int => SessionCall::TakeInt,
+        Payload::Boolean => SessionCall::TakeBoolean,
+        Payload::Text => SessionCall::TakeString,
     }
 }
 
@@ -116,7 +116,7 @@ fn found(alloc: Global, place: Place, peer: &str) -> Result<Stmt, Memory>
 {
     let peer = text(alloc, place, peer)?;
     let args = one(alloc, peer)?;
-    let call = session(alloc, place, "look", args)?;
+    let call = session(alloc, place, SessionCall::Look, args)?;
     let name = Text::of(alloc, "found")?;
     Ok(Stmt {
         place,
@@ -131,7 +131,7 @@ fn refusal(alloc: Global, place: Place, peer: &str) -> Result<Stmt, Memory>
     let peer = text(alloc, place, peer)?;
     let found = variable(alloc, place, "found")?;
     let args = two(alloc, peer, found)?;
-    let call = session(alloc, place, "refuse", args)?;
+    let call = session(alloc, place, SessionCall::Refuse, args)?;
     Ok(eval(place, call))
 }
 
@@ -160,7 +160,8 @@ fn label_test(alloc: Global, place: Place, of: &str, label: &str) -> Result<Stmt
 {
     let other = text(alloc, place, label)?;
     let args = one(alloc, other)?;
-    let test = call_on(alloc, place, "found", "equals", args)?;
+    let equals = TextCall::Equals.method().name;
+    let test = call_on(alloc, place, "found", equals, args)?;
     let answer = constant(alloc, place, of, label)?;
     let body = single(alloc, give(place, answer))?;
     let kind = StmtKind::Block(body, place);

@@ -5,7 +5,7 @@ ghost use Rattle.jv_tree.specs.Source.{Text as Quoted, Variable, MethodCall};
 ghost use Rattle.jv_tree.specs.View.{expr_of, exprs_of};
 ghost use Rattle.stm_api.specs.Api.{session, constant};
 
-use jv_tree::{Expr, ExprKind};
+use jv_tree::{Expr, ExprKind, SessionCall};
 use mg_text::{List, Memory, Place, Text};
 use std::alloc::Global;
 
@@ -66,10 +66,15 @@ pub fn call_on(
 }
 
 /// A call on the session.
-pub fn session(alloc: Global, place: Place, name: &str, args: List<Expr>) -> Result<Expr, Memory>
-    ensures { IfOk result (λ e. expr_of e ≡ session place name.now (map expr_of args.items)) }
+pub fn session(
+    alloc: Global,
+    place: Place,
+    call: SessionCall,
+    args: List<Expr>,
+) -> Result<Expr, Memory>
+    ensures { IfOk result (λ e. expr_of e ≡ session place call (map expr_of args.items)) }
 {
-    call_on(alloc, place, "Session", name, args)
+    call_on(alloc, place, "Session", call.method().name, args)
 }
 
 /// One argument.

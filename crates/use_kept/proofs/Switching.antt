@@ -13,6 +13,8 @@ use Rattle.jv_values.specs.Doing.{Outcome, Gives, Ends, and_then, ◌>>=◌, giv
 use Rattle.jv_values.specs.Objects.{answer_of}
 use Rattle.jv_values.specs.Seen.{label_in}
 use Rattle.jv_values.specs.Statements.{Completion, Normal, Does}
+use Rattle.jv_tree.specs.BuiltIn.{session_method}
+use Rattle.jv_core.proofs.PlainTypes.{no_enum}
 use Rattle.jv_core.specs.declared.tree.CoreVar.{CoreVar}
 use Rattle.jv_core.specs.declared.program.CoreType.{CoreType}
 use Rattle.jv_core.specs.declared.program.CoreType.TheVariants as types
@@ -173,19 +175,7 @@ module _ (p : Program) (ok : IsCore p) (reached : List (List Bool)) (rok : AreRe
   enum_typed (typing.static c xs e) g = ap (option_map (λ (m : Method). m.result)) c.at ∙ ap Some e
   enum_typed (typing.equals x y s) g = absurd (cc)
   enum_typed (typing.concat x y s) g = absurd (cc)
-  enum_typed {of} (typing.session {c = c} xs e) g = absurd (no_enum c (e ∙ g))
-    where
-      no_enum : (c : Rattle.jv_core.specs.declared.tree.SessionCall.SessionCall) → typing.session_result c ≡ types.Enum of → ⊥
-      no_enum Rattle.jv_core.specs.declared.tree.SessionCall.TheVariants.Send e = cc
-      no_enum Rattle.jv_core.specs.declared.tree.SessionCall.TheVariants.SendInt e = cc
-      no_enum Rattle.jv_core.specs.declared.tree.SessionCall.TheVariants.SendBoolean e = cc
-      no_enum Rattle.jv_core.specs.declared.tree.SessionCall.TheVariants.SendString e = cc
-      no_enum Rattle.jv_core.specs.declared.tree.SessionCall.TheVariants.Look e = cc
-      no_enum Rattle.jv_core.specs.declared.tree.SessionCall.TheVariants.Take e = cc
-      no_enum Rattle.jv_core.specs.declared.tree.SessionCall.TheVariants.TakeInt e = cc
-      no_enum Rattle.jv_core.specs.declared.tree.SessionCall.TheVariants.TakeBoolean e = cc
-      no_enum Rattle.jv_core.specs.declared.tree.SessionCall.TheVariants.TakeString e = cc
-      no_enum Rattle.jv_core.specs.declared.tree.SessionCall.TheVariants.Refuse e = cc
+  enum_typed {of} (typing.session {c = c} xs e) g = absurd (no_enum (session_method c).result of (e ∙ g))
   enum_typed (typing.new h) g = absurd (cc)
 
   abbrev by_type : Option CoreType → List ℕ

@@ -106,6 +106,7 @@ pub enum Action<'a> {
 }
 
 /// What an opcode without arguments does.
+#[inline(always)]
 fn plain_action<'a>(op: u8) -> Option<Action<'a>>
     ensures { option_map action_of result ≡ model.plain_action op }
 {
@@ -135,6 +136,7 @@ fn plain_action<'a>(op: u8) -> Option<Action<'a>>
 }
 
 /// What an opcode with an int does.
+#[inline(always)]
 fn int_action<'a>(op: u8, value: i32) -> Option<Action<'a>>
     ensures { option_map action_of result ≡ model.int_action op value }
 {
@@ -145,6 +147,7 @@ fn int_action<'a>(op: u8, value: i32) -> Option<Action<'a>>
 }
 
 /// What an opcode with a text does.
+#[inline(always)]
 fn text_action<'a>(op: u8, text: &'a Rc<Text>) -> Option<Action<'a>>
     ensures { option_map action_of result ≡ model.text_action op text.now.value }
 {
@@ -155,6 +158,7 @@ fn text_action<'a>(op: u8, text: &'a Rc<Text>) -> Option<Action<'a>>
 }
 
 /// What an opcode with a local does.
+#[inline(always)]
 fn local_action<'a>(op: u8, local: u8) -> Option<Action<'a>>
     ensures { option_map action_of result ≡ model.local_action op local }
 {
@@ -168,6 +172,7 @@ fn local_action<'a>(op: u8, local: u8) -> Option<Action<'a>>
 }
 
 /// What an opcode with a place does.
+#[inline(always)]
 fn jump_action<'a>(op: u8, target: u32) -> Option<Action<'a>>
     ensures { option_map action_of result ≡ model.jump_action op target }
 {
@@ -193,6 +198,7 @@ fn jump_action<'a>(op: u8, target: u32) -> Option<Action<'a>>
 }
 
 /// What an opcode with a field does.
+#[inline(always)]
 fn field_action<'a>(op: u8, class: u32, field: u32) -> Option<Action<'a>>
     ensures { option_map action_of result ≡ model.field_action op class field }
 {
@@ -205,6 +211,7 @@ fn field_action<'a>(op: u8, class: u32, field: u32) -> Option<Action<'a>>
 
 /// What an opcode with a method does. A protocol method is called by `invokevirtual`, one that no
 /// protocol names by `invokespecial`.
+#[inline(always)]
 fn method_action<'a>(op: u8, class: u32, method: u32) -> Option<Action<'a>>
     ensures { option_map action_of result ≡ model.method_action op class method }
 {
@@ -222,6 +229,7 @@ fn method_action<'a>(op: u8, class: u32, method: u32) -> Option<Action<'a>>
 }
 
 /// What an instruction does. An opcode with arguments of another form does nothing.
+#[inline(always)]
 pub fn action_of(instr: &LinkedInstr) -> Option<Action<'_>>
     ensures { option_map action_of result ≡ model.action instr.now.op (args_of instr.now.args) }
 {

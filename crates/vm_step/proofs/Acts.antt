@@ -206,3 +206,28 @@ module _ (m m' : Machine) where
       IfOk r (λ s. Does (wanted me q) m q m' q s)
   does_plays_for me q (Ok s) wanted h = h me q
   does_plays_for me q (Err e) wanted h = tt
+
+-- An action does what is said of its kind where nothing is wrong.
+module _ {a kind : Action} (p : Program) (m m' : Machine) (is : a ≡ kind) where
+  pub does_so : {other : Program → Messages → Machine → ℕ → model.Stepped} (q q' : Messages) (me : ℕ) →
+      ((p : Program) (q : Messages) (m : Machine) (me : ℕ) → None ≡ wrong p (needs p m kind) m → act p q m me kind ≡ other p q m me) →
+      None ≡ wrong p (needs p m a) m → (r : Result Stepped Memory) → IfOk r (λ s. Does (other p q m me) m q m' q' s) →
+      IfOk r (λ s. Does (act p q m me a) m q m' q' s)
+  does_so {other} q q' me done none r h =
+      does_same m m' q q' r (act p q m me a) (other p q m me) (rw is (done p q m me (rw is at none))) h
+
+  -- the same where it neither looks at messages nor sends any
+  pub does_alone_so : {other : Program → Messages → Machine → ℕ → model.Stepped} (q : Messages) (me : ℕ) →
+      ((p : Program) (q : Messages) (m : Machine) (me : ℕ) → None ≡ wrong p (needs p m kind) m → act p q m me kind ≡ other p q m me) →
+      None ≡ wrong p (needs p m a) m → (r : Result Stepped Memory) → IfOk r (λ s. Plays (λ q. other p q m me) m m' s) →
+      IfOk r (λ s. Does (act p q m me a) m q m' q s)
+  does_alone_so {other} q me done none r h =
+      does_plays_same m m' q r (act p q m me a) (λ q. other p q m me) (rw is (done p q m me (rw is at none))) h
+
+  -- the same whoever runs it
+  pub plays_so : {other : Program → Messages → Machine → model.Stepped} →
+      ((p : Program) (q : Messages) (m : Machine) (me : ℕ) → None ≡ wrong p (needs p m kind) m → act p q m me kind ≡ other p q m) →
+      None ≡ wrong p (needs p m a) m → (r : Result Stepped Memory) → IfOk r (λ s. Plays (λ q. other p q m) m m' s) →
+      IfOk r (λ s. (me : ℕ) → Plays (λ q. act p q m me a) m m' s)
+  plays_so {other} done none r h =
+      plays_for m m' r (λ me q. act p q m me a) (λ q. other p q m) (λ me q. rw is (done p q m me (rw is at none))) h

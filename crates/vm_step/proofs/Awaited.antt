@@ -1,19 +1,23 @@
 -- For whose message looks and takes wait.
-use Rattle.std.proofs.Common.{◌≡◌, ℕ, false, List, Option, Some, None, refl, ap, drop, slice_get}
+use Rattle.std.proofs.Common.{◌≡◌, ℕ, false, List, Option, Some, None, refl, sym, ap, ◌∙◌, drop, slice_get}
 use Rattle.mg_text.specs.Call.{Name}
 use Rattle.mg_text.specs.declared.event.Sent.{Sent}
 use Rattle.vm_model.specs.declared.value.Value.{Value}
 use Rattle.vm_model.specs.declared.linked.Built.{Built as BuiltIn}
 use Rattle.vm_model.specs.declared.linked.Built.TheVariants as built
+use Rattle.vm_model.specs.Program.{Program}
 use Rattle.vm_model.specs.Messages.{Messages, on_way, role_named}
 use Rattle.vm_model.specs.Machine.{Machine}
 use Rattle.vm_model.specs.Actions.{Action, Push, Load, Store, Pop, Double, Swap, Compute, Negate, Increase, IfZero, IfBoth, IfNull, Go}
 use Rattle.vm_model.specs.Actions.{Switch, Return, Read, Write, Make, Call, Use}
-use Rattle.vm_model.specs.Step.{Payload, other_role, takes_first}
+use Rattle.vm_model.specs.Tests.{needs, wrong, below}
+use Rattle.vm_model.specs.Step.{Payload, other_role, takes_first, act}
 use Rattle.vm_step.specs.Doing.{waits_in}
+use Rattle.vm_step.specs.inner.Tops.{at_top, text_in}
 use Rattle.vm_step.specs.inner.Sessions.{looks_head, looks_role, looks_by, taken_where, takes_head, takes_role, takes_by}
 use Rattle.vm_step.specs.inner.Awaiting.{awaited_head, awaited_role, awaited_in, awaited_with, used_in}
 use Rattle.vm_step.proofs.Waiting.{looks, looks_at_messages}
+use Rattle.vm_step.proofs.Whole.{taken}
 
 module _ (q : Messages) (m : Machine) (rest : List Value) (me : ℕ) where
   look_head : (peer : Name) (from : ℕ) (first : Option Sent) → awaited_head from first ≡ waits_in (looks_head q m rest peer from first)
@@ -47,6 +51,15 @@ module _ (q : Messages) (m : Machine) (rest : List Value) (me : ℕ) where
     takes_await (Some peer) (Some label) = take_role peer label (other_role me (role_named q peer))
     takes_await (Some peer) None = refl
     takes_await None label = refl
+
+-- For whom a take waits that does what takes of its kind do where nothing is wrong.
+pub take_awaits : (p : Program) (q : Messages) (m : Machine) (me : ℕ) (carries : Payload) (b kind : BuiltIn) → b ≡ kind →
+    (None ≡ wrong p (needs p m (Use kind)) m → act p q m me (Use kind) ≡ taken p q m me carries) → None ≡ wrong p (needs p m (Use b)) m →
+    awaited_with q me (text_in (at_top m.frame.operands 1)) (text_in (at_top m.frame.operands 0)) ≡ waits_in (act p q m me (Use b))
+take_awaits p q m me carries b kind is done none =
+    rw is
+    (takes_await q m (below 2 m.frame.operands) me carries (text_in (at_top m.frame.operands 1)) (text_in (at_top m.frame.operands 0))
+    ∙ ap waits_in (sym (done (rw is at none))))
 
 -- an action that uses no member looks at no message
 pub none_used : (a : Action) → None ≡ used_in a → looks_at_messages a ≡ false

@@ -16,6 +16,9 @@ use Rattle.vm_model.specs.Program.{Program, MethodOf, Instr, class_name, field_a
 use Rattle.vm_model.specs.Machine as model
 use Rattle.vm_model.specs.Machine.{Machine, Frame, Went}
 use Rattle.vm_model.specs.Types.{FieldType, Named, signature_of}
+use Rattle.vm_model.specs.Kept.{kept_params, type_kept}
+use Rattle.vm_model.specs.declared.linked_type.LinkedType.{LinkedType}
+use Rattle.vm_model.proofs.KeptTypes.{params_are}
 use Rattle.vm_model.specs.declared.linked.Built.TheVariants as built
 use Rattle.vm_model.specs.Actions.{Action, action, Sort, Reference, Read, Write, Call, Return, Use, Static, Silent}
 use Rattle.vm_model.specs.Tests.{Want, Typed, Returned, needs, wrong, taking, returning, returned, call_needs, call_takes, below, on_top}
@@ -95,6 +98,13 @@ pub near_room : (p : Program) (class method operands given : ℕ) (found : Metho
 near_room p class method operands given found [] near is le = absurd near
 near_room p class method operands given found (f ∷ fs) near is le =
     (is ∙ (λ i. method_at p (near.0 i) (near.1 i)), omega (arith, near.2, le))
+
+-- the types of what a method takes, as they are kept
+pub params_kept : (o : Option MethodOf) (m : MethodOf) (kept params : List LinkedType) → Some m ≡ o →
+    kept ≡ kept_params (signature_of m.descriptor) → params ≡ kept → params_in (signature_of (descriptor_in o)) ≡ map type_kept params
+params_kept o m kept params e takes is =
+    ap (λ (o : Option MethodOf). params_in (signature_of (descriptor_in o))) (sym e)
+    ∙ sym (params_are kept (signature_of m.descriptor) takes) ∙ ap (map type_kept) (sym is)
 
 -- it is left to
 pub left_so : (p : Program) (given : ℕ) (found : MethodOf) (fs : List Frame) {R : Type 0} (S : Type 0) (b : Bool) → Awaits p given found fs →

@@ -7,7 +7,7 @@ use Rattle.vm_model.specs.declared.value.Value.TheVariants as values
 use Rattle.vm_model.specs.declared.linked.Built.TheVariants as built
 use Rattle.vm_model.specs.Program.{Program, method_at}
 use Rattle.vm_model.specs.Messages.{Messages}
-use Rattle.vm_model.specs.Machine.{Machine, Frame}
+use Rattle.vm_model.specs.Machine.{Machine, Frame, Stepped}
 use Rattle.vm_model.specs.Types.{signature_of}
 use Rattle.vm_model.specs.Actions.{Sort, Operation, Comparison, Calling, Push, Load, Store, Pop, Double, Swap, Compute, Negate, Increase}
 use Rattle.vm_model.specs.Actions.{IfZero, IfBoth, IfNull, Go, Switch, Return, Read, Write, Make, Call, Use}
@@ -236,35 +236,34 @@ module _ (p : Program) (q : Messages) (m : Machine) (me : ℕ) where
       (send_cases q m (below 2 m.frame.operands) me) m.frame.operands
       (enough p (needs p m (Use built.Send)) m none)
 
-  pub send_int_is : None ≡ wrong p (needs p m (Use built.SendInt)) m →
-      act p q m me (Use built.SendInt) ≡ sends_by q m me (below 3 m.frame.operands) (text_in (at_top m.frame.operands 2))
-      (text_in (at_top m.frame.operands 1)) (payload_in model.IntPayload (at_top m.frame.operands 0))
+  -- what a send does that takes a third operand, by what the message carries
+  abbrev pub sent : model.Payload → Stepped
+  sent carries = sends_by q m me (below 3 m.frame.operands) (text_in (at_top m.frame.operands 2)) (text_in (at_top m.frame.operands 1))
+      (payload_in carries (at_top m.frame.operands 0))
+
+  sent_by : (carries : model.Payload) → ((u v w : Value) → model.sends_args q m me carries (below 3 m.frame.operands) (u ∷ v ∷ w ∷ [])
+      ≡ sends_by q m me (below 3 m.frame.operands) (text_in (Some u)) (text_in (Some v)) (payload_in carries (Some w))) →
+      3 ≤ length m.frame.operands →
+      model.sends_args q m me carries (below 3 m.frame.operands) (on_top 3 m.frame.operands) ≡ sent carries
+  sent_by carries cases some =
+      by_three (model.sends_args q m me carries (below 3 m.frame.operands))
+      (λ u v w. sends_by q m me (below 3 m.frame.operands) (text_in u) (text_in v) (payload_in carries w)) cases m.frame.operands some
+
+  pub send_int_is : None ≡ wrong p (needs p m (Use built.SendInt)) m → act p q m me (Use built.SendInt) ≡ sent model.IntPayload
   send_int_is none =
       act_right p q m me (Use built.SendInt) none
-      ∙ by_three (model.sends_args q m me model.IntPayload (below 3 m.frame.operands))
-      (λ u v w. sends_by q m me (below 3 m.frame.operands) (text_in u) (text_in v) (payload_in model.IntPayload w))
-      (send_int_cases q m (below 3 m.frame.operands) me) m.frame.operands
-      (enough p (needs p m (Use built.SendInt)) m none)
+      ∙ sent_by model.IntPayload (send_int_cases q m (below 3 m.frame.operands) me) (enough p (needs p m (Use built.SendInt)) m none)
 
-  pub send_truth_is : None ≡ wrong p (needs p m (Use built.SendTruth)) m →
-      act p q m me (Use built.SendTruth) ≡ sends_by q m me (below 3 m.frame.operands) (text_in (at_top m.frame.operands 2))
-      (text_in (at_top m.frame.operands 1)) (payload_in model.TruthPayload (at_top m.frame.operands 0))
+  pub send_truth_is : None ≡ wrong p (needs p m (Use built.SendTruth)) m → act p q m me (Use built.SendTruth) ≡ sent model.TruthPayload
   send_truth_is none =
       act_right p q m me (Use built.SendTruth) none
-      ∙ by_three (model.sends_args q m me model.TruthPayload (below 3 m.frame.operands))
-      (λ u v w. sends_by q m me (below 3 m.frame.operands) (text_in u) (text_in v) (payload_in model.TruthPayload w))
-      (send_truth_cases q m (below 3 m.frame.operands) me) m.frame.operands
+      ∙ sent_by model.TruthPayload (send_truth_cases q m (below 3 m.frame.operands) me)
       (enough p (needs p m (Use built.SendTruth)) m none)
 
-  pub send_text_is : None ≡ wrong p (needs p m (Use built.SendText)) m →
-      act p q m me (Use built.SendText) ≡ sends_by q m me (below 3 m.frame.operands) (text_in (at_top m.frame.operands 2))
-      (text_in (at_top m.frame.operands 1)) (payload_in model.TextPayload (at_top m.frame.operands 0))
+  pub send_text_is : None ≡ wrong p (needs p m (Use built.SendText)) m → act p q m me (Use built.SendText) ≡ sent model.TextPayload
   send_text_is none =
       act_right p q m me (Use built.SendText) none
-      ∙ by_three (model.sends_args q m me model.TextPayload (below 3 m.frame.operands))
-      (λ u v w. sends_by q m me (below 3 m.frame.operands) (text_in u) (text_in v) (payload_in model.TextPayload w))
-      (send_text_cases q m (below 3 m.frame.operands) me) m.frame.operands
-      (enough p (needs p m (Use built.SendText)) m none)
+      ∙ sent_by model.TextPayload (send_text_cases q m (below 3 m.frame.operands) me) (enough p (needs p m (Use built.SendText)) m none)
 
   pub look_is : None ≡ wrong p (needs p m (Use built.Look)) m → act p q m me (Use built.Look) ≡ looks_by q m me
       (below 1 m.frame.operands) (text_in (at_top m.frame.operands 0))
@@ -273,45 +272,32 @@ module _ (p : Program) (q : Messages) (m : Machine) (me : ℕ) where
       ∙ by_one (model.looks q m me (below 1 m.frame.operands)) (λ v. looks_by q m me (below 1 m.frame.operands) (text_in v))
       (looks_cases q m (below 1 m.frame.operands) me) m.frame.operands (enough p (needs p m (Use built.Look)) m none)
 
-  pub take_is : None ≡ wrong p (needs p m (Use built.Take)) m →
-      act p q m me (Use built.Take) ≡ takes_by q m me model.NoPayload (below 2 m.frame.operands)
-      (text_in (at_top m.frame.operands 1)) (text_in (at_top m.frame.operands 0))
-  take_is none =
-      act_right p q m me (Use built.Take) none
-      ∙ by_two (model.takes q m me model.NoPayload (below 2 m.frame.operands))
-      (λ v w. takes_by q m me model.NoPayload (below 2 m.frame.operands) (text_in v) (text_in w))
-      (takes_cases q m (below 2 m.frame.operands) me model.NoPayload) m.frame.operands
-      (enough p (needs p m (Use built.Take)) m none)
+  -- what a take does, by what the message carries
+  abbrev pub taken : model.Payload → Stepped
+  taken carries = takes_by q m me carries (below 2 m.frame.operands) (text_in (at_top m.frame.operands 1))
+      (text_in (at_top m.frame.operands 0))
 
-  pub take_int_is : None ≡ wrong p (needs p m (Use built.TakeInt)) m →
-      act p q m me (Use built.TakeInt) ≡ takes_by q m me model.IntPayload (below 2 m.frame.operands)
-      (text_in (at_top m.frame.operands 1)) (text_in (at_top m.frame.operands 0))
+  taken_by : (carries : model.Payload) → 2 ≤ length m.frame.operands →
+      model.takes q m me carries (below 2 m.frame.operands) (on_top 2 m.frame.operands) ≡ taken carries
+  taken_by carries some =
+      by_two (model.takes q m me carries (below 2 m.frame.operands))
+      (λ v w. takes_by q m me carries (below 2 m.frame.operands) (text_in v) (text_in w))
+      (takes_cases q m (below 2 m.frame.operands) me carries) m.frame.operands some
+
+  pub take_is : None ≡ wrong p (needs p m (Use built.Take)) m → act p q m me (Use built.Take) ≡ taken model.NoPayload
+  take_is none = act_right p q m me (Use built.Take) none ∙ taken_by model.NoPayload (enough p (needs p m (Use built.Take)) m none)
+
+  pub take_int_is : None ≡ wrong p (needs p m (Use built.TakeInt)) m → act p q m me (Use built.TakeInt) ≡ taken model.IntPayload
   take_int_is none =
-      act_right p q m me (Use built.TakeInt) none
-      ∙ by_two (model.takes q m me model.IntPayload (below 2 m.frame.operands))
-      (λ v w. takes_by q m me model.IntPayload (below 2 m.frame.operands) (text_in v) (text_in w))
-      (takes_cases q m (below 2 m.frame.operands) me model.IntPayload) m.frame.operands
-      (enough p (needs p m (Use built.TakeInt)) m none)
+      act_right p q m me (Use built.TakeInt) none ∙ taken_by model.IntPayload (enough p (needs p m (Use built.TakeInt)) m none)
 
-  pub take_truth_is : None ≡ wrong p (needs p m (Use built.TakeTruth)) m →
-      act p q m me (Use built.TakeTruth) ≡ takes_by q m me model.TruthPayload (below 2 m.frame.operands)
-      (text_in (at_top m.frame.operands 1)) (text_in (at_top m.frame.operands 0))
+  pub take_truth_is : None ≡ wrong p (needs p m (Use built.TakeTruth)) m → act p q m me (Use built.TakeTruth) ≡ taken model.TruthPayload
   take_truth_is none =
-      act_right p q m me (Use built.TakeTruth) none
-      ∙ by_two (model.takes q m me model.TruthPayload (below 2 m.frame.operands))
-      (λ v w. takes_by q m me model.TruthPayload (below 2 m.frame.operands) (text_in v) (text_in w))
-      (takes_cases q m (below 2 m.frame.operands) me model.TruthPayload) m.frame.operands
-      (enough p (needs p m (Use built.TakeTruth)) m none)
+      act_right p q m me (Use built.TakeTruth) none ∙ taken_by model.TruthPayload (enough p (needs p m (Use built.TakeTruth)) m none)
 
-  pub take_text_is : None ≡ wrong p (needs p m (Use built.TakeText)) m →
-      act p q m me (Use built.TakeText) ≡ takes_by q m me model.TextPayload (below 2 m.frame.operands)
-      (text_in (at_top m.frame.operands 1)) (text_in (at_top m.frame.operands 0))
+  pub take_text_is : None ≡ wrong p (needs p m (Use built.TakeText)) m → act p q m me (Use built.TakeText) ≡ taken model.TextPayload
   take_text_is none =
-      act_right p q m me (Use built.TakeText) none
-      ∙ by_two (model.takes q m me model.TextPayload (below 2 m.frame.operands))
-      (λ v w. takes_by q m me model.TextPayload (below 2 m.frame.operands) (text_in v) (text_in w))
-      (takes_cases q m (below 2 m.frame.operands) me model.TextPayload) m.frame.operands
-      (enough p (needs p m (Use built.TakeText)) m none)
+      act_right p q m me (Use built.TakeText) none ∙ taken_by model.TextPayload (enough p (needs p m (Use built.TakeText)) m none)
 
   pub refuse_is : None ≡ wrong p (needs p m (Use built.Refuse)) m → act p q m me (Use built.Refuse) ≡ refuses_by q me
       (text_in (at_top m.frame.operands 1)) (text_in (at_top m.frame.operands 0))

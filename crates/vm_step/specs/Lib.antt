@@ -1,5 +1,4 @@
 pub mod State
-pub mod Table
 pub mod Doing
 pub mod Alone
 pub mod Steady

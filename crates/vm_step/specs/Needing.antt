@@ -5,7 +5,7 @@ use Rattle.vm_model.specs.Tests as tests
 use Rattle.vm_step.specs.declared.needs.Want.{Want}
 use Rattle.vm_step.specs.declared.needs.Want.TheVariants as wants
 use Rattle.vm_step.specs.declared.needs.Needs.{Needs}
-use Rattle.vm_step.specs.Table.{sort_of}
+use Rattle.vm_actions.specs.Table.{sort_of}
 
 abbrev pub want_of : Want → tests.Want
 want_of wants.Any = tests.Any

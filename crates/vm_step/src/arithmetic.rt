@@ -3,9 +3,9 @@
 
 ghost use Rattle.std.specs.Prelude.{◌≡◌, neg_ℤ, ◌+ℤ◌};
 ghost use Rattle.vm_model.specs.Arithmetic as model;
-ghost use Rattle.vm_step.specs.Table.{operation_of, comparison_of};
+ghost use Rattle.vm_actions.specs.Table.{operation_of, comparison_of};
 
-use crate::action::{Comparison, Operation};
+use vm_actions::{Comparison, Operation};
 
 /// What two ints are computed to; none where the divisor is zero.
 pub(crate) fn computed(operation: Operation, x: i32, y: i32) -> Option<i32>

@@ -11,18 +11,18 @@ ghost use Rattle.vm_model.specs.Tests.{below, on_top, max_locals_in, Typed, para
 ghost use Rattle.vm_model.specs.Tests.{call_needs};
 ghost use Rattle.vm_model.specs.Step as model;
 ghost use Rattle.vm_step.specs.State.{state_of, operands_of};
-ghost use Rattle.vm_step.specs.Table.{calling_of};
+ghost use Rattle.vm_actions.specs.Table.{calling_of};
 ghost use Rattle.vm_step.specs.Doing.{Plays};
 ghost use Rattle.vm_step.specs.Needing.{wants_of, needs_of};
 ghost use Rattle.vm_step.specs.inner.Tops.{at_top};
 ghost use Rattle.vm_step.specs.inner.Calls.{calls_by, IsReceived};
 
-use crate::action::Calling;
 use crate::needs::{Needs, Want, taking, wrong};
 use crate::program::{class_name, max_locals, method_at, method_name};
 use crate::stepped::Stepped;
 use mg_text::{BadKind, Ending, Event, Memory, Text};
 use std::alloc::Global;
+use vm_actions::Calling;
 use vm_frames::{Callee, Cell, State};
 use vm_model::{FieldType, Linked, LinkedMethod, LinkedType};
 

@@ -2,7 +2,6 @@
 //! What a step is stands in the definitions of `vm_model`.
 #![tactic(auto)]
 
-mod action;
 mod arithmetic;
 mod built;
 mod calls;

@@ -9,13 +9,13 @@ ghost use Rattle.mg_text.specs.Call.{Name};
 ghost use Rattle.vm_frames.specs.Seen.{value_in};
 ghost use Rattle.vm_frames.specs.Kept.{most};
 ghost use Rattle.vm_step.specs.State.{state_of, operands_of};
-ghost use Rattle.vm_step.specs.Table.{sort_of};
+ghost use Rattle.vm_actions.specs.Table.{sort_of};
 ghost use Rattle.vm_step.specs.inner.Judged.{judged};
 ghost use Rattle.vm_step.specs.Needing.{want_of, wants_of, needs_of};
 
-use crate::action::Sort;
 use crate::program::{class_name, max_stack, method_at};
 use mg_text::BadKind;
+use vm_actions::Sort;
 use vm_frames::{Cell, State};
 use vm_model::{FieldType, Linked};
 

@@ -13,11 +13,10 @@ ghost use Rattle.vm_model.specs.Tests.{Typed, max_stack_in, method_of_frame, mis
 ghost use Rattle.vm_model.specs.View.{instr_of, method_of};
 ghost use Rattle.vm_frames.specs.Frames.{entered};
 ghost use Rattle.vm_step.specs.State.{state_of, operands_of};
-ghost use Rattle.vm_step.specs.Table.{sort_of, calling_of, action_of};
+ghost use Rattle.vm_actions.specs.Table.{sort_of, calling_of, action_of};
 ghost use Rattle.vm_step.specs.Alone.{Alone, Stays, Runs, Leads, LeadsAlone, AllAlone};
 ghost use Rattle.vm_step.specs.inner.Calls.{Awaits};
 
-use crate::action::{Action, Calling, Sort, action_of};
 use crate::built::is_text;
 use crate::frequent::{act_alone, is_of_sort};
 use crate::needs::{Want, misfit_type};
@@ -25,6 +24,7 @@ use crate::operands::text_at;
 use crate::program::{field_at, method_at, result_type};
 use crate::session::truth;
 use crate::step::field_want;
+use vm_actions::{Action, Calling, Sort, action_of};
 use vm_frames::{Callee, Cell, State};
 use vm_model::{Built, Linked, LinkedInstr, LinkedMethod, LinkedType};
 

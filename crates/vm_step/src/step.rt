@@ -11,12 +11,11 @@ ghost use Rattle.vm_model.specs.Tests as tests;
 ghost use Rattle.vm_model.specs.Step as model;
 ghost use Rattle.vm_frames.specs.Kept.{most};
 ghost use Rattle.vm_step.specs.State.{state_of};
-ghost use Rattle.vm_step.specs.Table.{sort_of, plain_of, action_of};
+ghost use Rattle.vm_actions.specs.Table.{sort_of, plain_of, action_of};
 ghost use Rattle.vm_step.specs.Needing.{want_of, wants_of};
 ghost use Rattle.vm_step.specs.Steady.{is_steady, is_steady_action, next_action};
 ghost use Rattle.vm_step.specs.Doing.{Does, Plays};
 
-use crate::action::{Action, Plain, Sort, action_of};
 use crate::built::{concat, equals, init, print, push_out, show_int, show_truth};
 use crate::calls::call;
 use crate::needs::{Want, number, taking, text, wrong};
@@ -31,6 +30,7 @@ use crate::session::{Payload, look, refuse, send, take};
 use crate::stepped::Stepped;
 use mg_text::{BadKind, Ending, Memory};
 use std::alloc::Global;
+use vm_actions::{Action, Plain, Sort, action_of};
 use vm_frames::State;
 use vm_model::{Built, FieldType, Linked, LinkedField, LinkedInstr, Ports};
 

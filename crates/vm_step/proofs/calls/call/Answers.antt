@@ -4,7 +4,7 @@ use Rattle.vm_model.specs.Program.{method_at}
 use Rattle.vm_model.specs.Actions.{Call}
 use Rattle.vm_model.specs.Tests.{Needs, needs, wrong, call_takes}
 use Rattle.vm_step.specs.State.{state_of}
-use Rattle.vm_step.specs.Table.{calling_of}
+use Rattle.vm_actions.specs.Table.{calling_of}
 use Rattle.vm_step.specs.Needing.{want_of, needs_of}
 use Rattle.vm_step.proofs.Acts.{act_wrong, plays_for, room_in}
 use Rattle.vm_step.proofs.Whole.{call_is}

@@ -5,7 +5,7 @@ use Rattle.std.specs.Prelude.{if◌then◌else◌}
 use mir.Syntax.{w32}
 use Rattle.vm_model.specs.Arithmetic.{compares}
 use Rattle.vm_step.specs.State.{state_of}
-use Rattle.vm_step.specs.Table.{comparison_of}
+use Rattle.vm_actions.specs.Table.{comparison_of}
 use Rattle.vm_step.proofs.Ready.{if_both_alone}
 use Rattle.vm_step.proofs.frequent.jump_on_both.Goals as goal
 

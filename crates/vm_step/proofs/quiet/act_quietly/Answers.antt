@@ -3,7 +3,7 @@ use Rattle.vm_model.specs.Actions as actions
 use Rattle.vm_model.specs.Tests.{max_stack_in}
 use Rattle.vm_model.specs.View.{method_of}
 use Rattle.vm_step.specs.State.{state_of}
-use Rattle.vm_step.specs.Table.{plain_of}
+use Rattle.vm_actions.specs.Table.{plain_of}
 use Rattle.vm_step.specs.Alone.{Leads}
 use Rattle.vm_step.proofs.Quietly.{stays_leads, alone_leads}
 use Rattle.vm_step.proofs.quiet.act_quietly.Goals as goal

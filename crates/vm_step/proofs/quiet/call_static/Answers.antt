@@ -1,14 +1,13 @@
-use Rattle.std.proofs.Common.{◌≡◌, List, Some, None, length, map, sym, ap, ◌∙◌, arith}
+use Rattle.std.proofs.Common.{◌≡◌, List, Some, None, length, map, ap, arith}
 use Rattle.std.proofs.lemmas.List.{length-map}
 use Rattle.vm_model.specs.Program.{method_at}
 use Rattle.vm_model.specs.Types.{FieldType, signature_of}
 use Rattle.vm_model.specs.Kept.{type_kept}
 use Rattle.vm_model.specs.Tests.{params_in, descriptor_in, max_locals_in}
-use Rattle.vm_model.proofs.KeptTypes.{params_are}
 use Rattle.vm_model.specs.View.{method_of}
 use Rattle.vm_step.specs.State.{state_of}
 use Rattle.vm_step.proofs.Ready.{when_true, when_false}
-use Rattle.vm_step.proofs.Quietly.{quiet_static, entered_runs}
+use Rattle.vm_step.proofs.Quietly.{quiet_static, entered_runs, params_kept}
 use Rattle.vm_step.proofs.quiet.call_static.Goals as goal
 
 pub returns : goal.returns
@@ -19,9 +18,8 @@ returns c =
     let e : Some (method_of called) ≡ method_at p c.args.class c.args.method = rw c.in-Some.is at c.method_at.ensures in
     let types : List FieldType = map type_kept c.as_slice-params.result.now in
     let params : params_in (signature_of (descriptor_in (method_at p c.args.class c.args.method))) ≡ types =
-    (λ i. params_in (signature_of (descriptor_in (sym e i)))) ∙
-    sym (params_are called.params.items (signature_of called.descriptor) called.takes)
-    ∙ ap (map type_kept) (sym c.as_slice-params.ensures.items) in
+    params_kept (method_at p c.args.class c.args.method) (method_of called) called.params.items c.as_slice-params.result.now e called.takes
+    c.as_slice-params.ensures.items in
     let is = when_true c.enter.result c.if-not-enter.false c.enter.ensures.yes in (
       quiet_static p m (state_of c.enter.new.state) c.args.class c.args.method called.max_locals types params (ap max_locals_in e)
           (length c.as_slice-params.result.now) (length-map c.as_slice-params.result.now type_kept) (omega arith) (omega arith)

@@ -3,7 +3,7 @@ use Rattle.std.specs.Option.{option_map}
 use Rattle.vm_model.specs.Actions.{action}
 use Rattle.vm_model.specs.View.{args_of, instr_of, method_of}
 use Rattle.vm_step.specs.State.{state_of}
-use Rattle.vm_step.specs.Table.{action_of}
+use Rattle.vm_actions.specs.Table.{action_of}
 use Rattle.vm_step.proofs.Quietly.{next_leads}
 use Rattle.vm_step.proofs.quiet.step_quietly.Goals as goal
 

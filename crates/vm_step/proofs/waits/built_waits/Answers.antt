@@ -8,7 +8,7 @@ use Rattle.vm_step.specs.inner.Tops.{at_top, text_in}
 use Rattle.vm_step.proofs.Acts.{act_wrong}
 use Rattle.vm_step.proofs.Whole.{look_is, take_is, take_int_is, take_truth_is, take_text_is}
 use Rattle.vm_step.proofs.Waiting.{rests}
-use Rattle.vm_step.proofs.Awaited.{looks_await, takes_await, other_member}
+use Rattle.vm_step.proofs.Awaited.{looks_await, take_awaits, other_member}
 use Rattle.vm_step.proofs.waits.built_waits.Goals as goal
 
 pub returns-in-Some : goal.returns-in-Some
@@ -28,47 +28,31 @@ returns-in-Look c =
 
 pub returns-in-Take : goal.returns-in-Take
 returns-in-Take c =
-    rw c.in-Take.is
-    (c.take_waits.ensures
-    ∙ takes_await c.args.ports.now (state_of c.args.state.now) (below 2 (operands_of c.args.state.now)) c.args.me model.NoPayload
-    (text_in (at_top (operands_of c.args.state.now) 1))
-    (text_in (at_top (operands_of c.args.state.now) 0))
-    ∙ ap waits_in
-    (sym (take_is c.args.linked.now c.args.ports.now (state_of c.args.state.now) c.args.me
-    (rw c.in-Take.is at (sym c.in_default.is ∙ c.check_built.ensures.wrong)))))
+    c.take_waits.ensures
+    ∙ take_awaits c.args.linked.now c.args.ports.now (state_of c.args.state.now) c.args.me model.NoPayload _ _ c.in-Take.is
+    (take_is c.args.linked.now c.args.ports.now (state_of c.args.state.now) c.args.me)
+    (sym c.in_default.is ∙ c.check_built.ensures.wrong)
 
 pub returns-in-TakeInt : goal.returns-in-TakeInt
 returns-in-TakeInt c =
-    rw c.in-TakeInt.is
-    (c.take_waits-in-TakeInt.ensures
-    ∙ takes_await c.args.ports.now (state_of c.args.state.now) (below 2 (operands_of c.args.state.now)) c.args.me model.IntPayload
-    (text_in (at_top (operands_of c.args.state.now) 1))
-    (text_in (at_top (operands_of c.args.state.now) 0))
-    ∙ ap waits_in
-    (sym (take_int_is c.args.linked.now c.args.ports.now (state_of c.args.state.now) c.args.me
-    (rw c.in-TakeInt.is at (sym c.in_default.is ∙ c.check_built.ensures.wrong)))))
+    c.take_waits-in-TakeInt.ensures
+    ∙ take_awaits c.args.linked.now c.args.ports.now (state_of c.args.state.now) c.args.me model.IntPayload _ _ c.in-TakeInt.is
+    (take_int_is c.args.linked.now c.args.ports.now (state_of c.args.state.now) c.args.me)
+    (sym c.in_default.is ∙ c.check_built.ensures.wrong)
 
 pub returns-in-TakeTruth : goal.returns-in-TakeTruth
 returns-in-TakeTruth c =
-    rw c.in-TakeTruth.is
-    (c.take_waits-in-TakeTruth.ensures
-    ∙ takes_await c.args.ports.now (state_of c.args.state.now) (below 2 (operands_of c.args.state.now)) c.args.me model.TruthPayload
-    (text_in (at_top (operands_of c.args.state.now) 1))
-    (text_in (at_top (operands_of c.args.state.now) 0))
-    ∙ ap waits_in
-    (sym (take_truth_is c.args.linked.now c.args.ports.now (state_of c.args.state.now) c.args.me
-    (rw c.in-TakeTruth.is at (sym c.in_default.is ∙ c.check_built.ensures.wrong)))))
+    c.take_waits-in-TakeTruth.ensures
+    ∙ take_awaits c.args.linked.now c.args.ports.now (state_of c.args.state.now) c.args.me model.TruthPayload _ _ c.in-TakeTruth.is
+    (take_truth_is c.args.linked.now c.args.ports.now (state_of c.args.state.now) c.args.me)
+    (sym c.in_default.is ∙ c.check_built.ensures.wrong)
 
 pub returns-in-TakeText : goal.returns-in-TakeText
 returns-in-TakeText c =
-    rw c.in-TakeText.is
-    (c.take_waits-in-TakeText.ensures
-    ∙ takes_await c.args.ports.now (state_of c.args.state.now) (below 2 (operands_of c.args.state.now)) c.args.me model.TextPayload
-    (text_in (at_top (operands_of c.args.state.now) 1))
-    (text_in (at_top (operands_of c.args.state.now) 0))
-    ∙ ap waits_in
-    (sym (take_text_is c.args.linked.now c.args.ports.now (state_of c.args.state.now) c.args.me
-    (rw c.in-TakeText.is at (sym c.in_default.is ∙ c.check_built.ensures.wrong)))))
+    c.take_waits-in-TakeText.ensures
+    ∙ take_awaits c.args.linked.now c.args.ports.now (state_of c.args.state.now) c.args.me model.TextPayload _ _ c.in-TakeText.is
+    (take_text_is c.args.linked.now c.args.ports.now (state_of c.args.state.now) c.args.me)
+    (sym c.in_default.is ∙ c.check_built.ensures.wrong)
 
 pub returns-in_default-built : goal.returns-in_default-built
 returns-in_default-built c =

@@ -1,7 +1,7 @@
 use Rattle.std.proofs.Common.{rules, ◌≡◌, ◌∙◌, None, sym, ap}
 use Rattle.vm_model.specs.Step.{act, act_at, act_some, step}
 use Rattle.vm_step.specs.State.{state_of}
-use Rattle.vm_step.specs.Table.{action_of}
+use Rattle.vm_actions.specs.Table.{action_of}
 use Rattle.vm_step.specs.Doing.{waits_in}
 use Rattle.vm_step.proofs.Waiting.{rests}
 use Rattle.vm_step.proofs.Awaited.{none_used}
