@@ -10,7 +10,6 @@ use Rattle.vm_actions.specs.Table.{sort_of}
 abbrev pub want_of : Want → tests.Want
 want_of wants.Any = tests.Any
 want_of (wants.Sorted sort) = tests.Sorted (sort_of sort)
-want_of wants.Text = tests.text
 want_of (wants.Typed type) = tests.Typed (type_view type)
 want_of (wants.Returned sort result) = tests.Returned (sort_of sort) (option_map type_view result)
 

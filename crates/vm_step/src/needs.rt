@@ -24,8 +24,6 @@ use vm_model::{FieldType, Linked};
 pub(crate) enum Want<'a> {
     Any,
     Sorted(Sort),
-    /// A text or null.
-    Text,
     Typed(FieldType<'a>),
     /// A returned value is of the opcode's sort and meets the type of the result.
     Returned(Sort, Option<FieldType<'a>>),
@@ -66,7 +64,7 @@ pub(crate) fn number<'a>() -> Want<'a>
 pub(crate) fn text<'a>() -> Want<'a>
     ensures { want_of result ≡ model.text }
 {
-    Want::Text
+    Want::Typed(FieldType::Named("java/lang/String"))
 }
 
 /// The class of an object, of a text and of the print stream.
@@ -134,17 +132,6 @@ fn misfit_class(linked: &Linked, state: &State, name: &str, cell: Cell) -> Optio
     }
 }
 
-/// Why a value isn't a text or null.
-fn misfit_text(linked: &Linked, state: &State, cell: Cell) -> Option<BadKind>
-    ensures { result ≡ model.misfit_class linked.now (state_of state.now).heap (codes "java/lang/String")
-        (value_in state.now.texts cell) }
-{
-    match cell {
-        Cell::Text(_) => None,
-        _ => misfit_class(linked, state, "java/lang/String", cell),
-    }
-}
-
 /// Why a value doesn't meet a type.
 #[inline(always)]
 pub(crate) fn misfit_type(
@@ -180,7 +167,6 @@ fn misfit(linked: &Linked, state: &State, want: &Want<'_>, cell: Cell) -> Option
     match want {
         Want::Any => None,
         Want::Sorted(sort) => misfit_sort(*sort, cell),
-        Want::Text => misfit_text(linked, state, cell),
         Want::Typed(field_type) => misfit_type(linked, state, *field_type, cell),
         Want::Returned(sort, result) => {
             if let Some(kind) = misfit_sort(*sort, cell) {
