@@ -7,8 +7,7 @@ mod resolved;
 mod texts;
 mod tree;
 
-pub use jv_tree::Op as CoreOp;
-pub use jv_tree::SessionCall;
+pub use jv_tree::{Op as CoreOp, SessionCall};
 pub use program::{
     CoreClass, CoreEnum, CoreField, CoreLoop, CoreMethod, CoreSlot, CoreType, MethodKind,
 };

@@ -214,11 +214,11 @@ module _ (program : Program) (core : Core.Program) where
       equals : {p : Place} {e a : Source.Expr} {e' a' : Core.Expr} → type_of scope e ≡ Some TextType → IsExpr scope numbers e e' →
           IsExpr scope numbers a a' →
           IsExpr scope numbers (Source.MethodCall p e (text_method texts.Equals).name (Source.Argument a Source.NoExpr))
-              (Core.Equals p e' a')
+          (Core.Equals p e' a')
       concat : {p : Place} {e a : Source.Expr} {e' a' : Core.Expr} → type_of scope e ≡ Some TextType → IsExpr scope numbers e e' →
           IsExpr scope numbers a a' →
           IsExpr scope numbers (Source.MethodCall p e (text_method texts.Concat).name (Source.Argument a Source.NoExpr))
-              (Core.Concat p e' a')
+          (Core.Concat p e' a')
       new : {p : Place} {c : Name} {k : ℕ} → IsClass c k → IsExpr scope numbers (Source.New p c) (Core.New p k)
 
     pub data IsExprs (scope : Scope) (numbers : Numbers) : Source.Exprs → Core.Exprs → Type 0 where

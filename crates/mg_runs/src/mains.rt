@@ -60,22 +60,12 @@ fn has_main_in(core: &Core, class: usize) -> bool
 fn some_main(methods: &[CoreMethod], class: usize) -> bool
     ensures { result ≡ list_any (λ m. nat_eq (method_of m).class class && is_main (method_of m).kind) methods.now }
 {
-    methods.iter().any(|method| is_main_of(method, class))
-}
-
-// Whether a method is a `main` of the class of this number.
-fn is_main_of(method: &CoreMethod, class: usize) -> bool
-    ensures { result ≡ (nat_eq (method_of method.now).class class && is_main (method_of method.now).kind) }
-{
-    method.class as usize == class && is_main_kind(method.kind)
+    methods.iter().any(|method| method.class as usize == class && is_main(method.kind))
 }
 
 // Whether methods of this kind are a `main`.
-fn is_main_kind(kind: MethodKind) -> bool
+fn is_main(kind: MethodKind) -> bool
     ensures { result ≡ is_main kind }
 {
-    match kind {
-        MethodKind::Main => true,
-        _ => false,
-    }
+    matches!(kind, MethodKind::Main)
 }

@@ -38,10 +38,7 @@ fn same_at(me: &Text, some: &Statement, other: &Statement) -> bool
     match some {
         Statement::Message(message) => match other {
             Statement::Message(another) => is_same_message(message, another),
-            Statement::Choice { .. } => false,
-            Statement::Rec { .. } => false,
-            Statement::Continue { .. } => false,
-            Statement::Do { .. } => false,
+            _ => false,
         },
         Statement::Choice { at, branches, .. } => match other {
             Statement::Choice {
@@ -53,10 +50,7 @@ fn same_at(me: &Text, some: &Statement, other: &Statement) -> bool
                 let there = *another == *me;
                 same_truth(here, there) && same_in(me, branches.as_slice(), others.as_slice())
             }
-            Statement::Message(_) => false,
-            Statement::Rec { .. } => false,
-            Statement::Continue { .. } => false,
-            Statement::Do { .. } => false,
+            _ => false,
         },
         Statement::Rec { name, body, .. } => match other {
             Statement::Rec {
@@ -64,24 +58,15 @@ fn same_at(me: &Text, some: &Statement, other: &Statement) -> bool
                 body: others,
                 ..
             } => *name == *another && same_all(me, body.as_slice(), others.as_slice()),
-            Statement::Message(_) => false,
-            Statement::Choice { .. } => false,
-            Statement::Continue { .. } => false,
-            Statement::Do { .. } => false,
+            _ => false,
         },
         Statement::Continue { name, .. } => match other {
             Statement::Continue { name: another, .. } => *name == *another,
-            Statement::Message(_) => false,
-            Statement::Choice { .. } => false,
-            Statement::Rec { .. } => false,
-            Statement::Do { .. } => false,
+            _ => false,
         },
         Statement::Do { name, .. } => match other {
             Statement::Do { name: another, .. } => *name == *another,
-            Statement::Message(_) => false,
-            Statement::Choice { .. } => false,
-            Statement::Rec { .. } => false,
-            Statement::Continue { .. } => false,
+            _ => false,
         },
     }
 }

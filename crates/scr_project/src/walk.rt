@@ -2,7 +2,7 @@
 
 ghost use Rattle.std.specs.Prelude.{◌≡◌, IfOk};
 ghost use Rattle.scr_tree.specs.Tree as local;
-ghost use Rattle.scr_tree.specs.View.{statements as local_statements};
+ghost use Rattle.scr_tree.specs.View.{statements as local_statements, bodies as local_bodies};
 ghost use Rattle.scr_global.specs.Texts.{told_in};
 ghost use Rattle.scr_global.specs.Tree.{Nothing, Says};
 ghost use Rattle.scr_global_tree.specs.View.{front, statements, bodies, told};
@@ -72,14 +72,12 @@ fn found_at(
             branches,
         } => {
             let each = found_in(alloc, me, around, branches.as_slice())?;
-            let part = chosen(alloc, me, *place, at, each)?;
-            Ok(part)
+            chosen(alloc, me, *place, at, each)
         }
         GStatement::Rec { place, name, body } => {
             let inside = Names::Inside(name.as_str(), &*around);
             let part = found_all(alloc, me, &inside, body.as_slice())?;
-            let part = turned(alloc, *place, name, part)?;
-            Ok(part)
+            turned(alloc, *place, name, part)
         }
         GStatement::Continue { place, name } => {
             let reach = far(name.as_str(), around)?;
@@ -215,6 +213,26 @@ fn body_of(
     Ok(Some(says))
 }
 
+// A choice of the role itself, alone.
+#[tactic(auto, using(crate::proofs::Steps::saying))]
+fn own_choice(
+    alloc: Global,
+    place: Place,
+    at: &Text,
+    branches: List<List<Statement>>,
+) -> Result<List<Statement>, Memory>
+    ensures { IfOk result (λ l. local_statements l.items ≡ local.Choice place at.now (local_bodies branches.items) local.Nothing) }
+{
+    let at = at.copy()?;
+    let choice = Statement::Choice {
+        place,
+        at,
+        branches,
+    };
+    let says = one(alloc, choice)?;
+    Ok(says)
+}
+
 // A choice with branches of which this is found.
 #[tactic(auto, using(crate::proofs::Steps::choosing))]
 fn chosen(alloc: Global, me: &Text, place: Place, at: &Text, each: Each) -> Result<Part, Memory>
@@ -235,13 +253,7 @@ fn chosen(alloc: Global, me: &Text, place: Place, at: &Text, each: Each) -> Resu
         });
     };
     if *at == *me {
-        let at = at.copy()?;
-        let choice = Statement::Choice {
-            place,
-            at,
-            branches,
-        };
-        let says = one(alloc, choice)?;
+        let says = own_choice(alloc, place, at, branches)?;
         return Ok(Part {
             named,
             reach,
