@@ -14,7 +14,7 @@ ghost use Rattle.vm_model.specs.View.{args_of, instr_of, method_of};
 ghost use Rattle.vm_frames.specs.Frames.{entered};
 ghost use Rattle.vm_step.specs.State.{state_of, operands_of};
 ghost use Rattle.vm_actions.specs.Table.{sort_of, calling_of, action_of};
-ghost use Rattle.vm_step.specs.Alone.{Alone, Stays, Runs, Leads, LeadsAlone, AllAlone};
+ghost use Rattle.vm_step.specs.Alone.{Alone, Stays, Runs, Leads, LeadsAlone, Tried, AllAlone};
 ghost use Rattle.vm_step.specs.inner.Calls.{Awaits};
 
 use crate::built::is_text;
@@ -428,51 +428,60 @@ fn step_by_table<'a>(
     act_quietly(state, linked, method, action)
 }
 
-/// The same of one without arguments: the most frequent by their opcodes.
+/// Acts on the most frequent of those without arguments, by their opcodes, and answers whether nothing was wrong. None where it is
+/// another.
 #[inline(always)]
-fn step_by_opcode<'a>(
-    state: &mut State,
-    linked: &'a Linked,
-    method: &'a LinkedMethod,
-    instr: &LinkedInstr,
-) -> Option<&'a LinkedMethod>
+fn act_by_opcode(state: &mut State, method: &LinkedMethod, instr: &LinkedInstr) -> Option<bool>
     requires place { state.old.machine.frame.place < 2 ^ 32 - 1 }
-    requires runs { Runs linked.now (state_of state.old) (method_of method.now) }
     requires at { slice_get (method_of method.now).code state.old.machine.frame.place ≡ Some (instr_of instr.now) }
     requires bare { args_of instr.now.args ≡ Nothing }
-    ensures { LeadsAlone linked.now (state_of state.old) (state_of state.new)
-        (option_map (λ x. method_of x.now) result) }
+    ensures { (p : Program) → Runs p (state_of state.old) (method_of method.now) →
+        Tried p (state_of state.old) (state_of state.new) (method_of method.now) result }
 {
     let max = method.max_stack;
     match instr.op {
-        ICONST_0 => kept(method, push_constant(state, max, Constant::Int(0))),
-        ICONST_1 => kept(method, push_constant(state, max, Constant::Int(1))),
-        ICONST_2 => kept(method, push_constant(state, max, Constant::Int(2))),
-        ICONST_3 => kept(method, push_constant(state, max, Constant::Int(3))),
-        ICONST_4 => kept(method, push_constant(state, max, Constant::Int(4))),
-        ICONST_5 => kept(method, push_constant(state, max, Constant::Int(5))),
-        ILOAD_0 => kept(method, load(state, max, Sort::Number, 0)),
-        ILOAD_1 => kept(method, load(state, max, Sort::Number, 1)),
-        ILOAD_2 => kept(method, load(state, max, Sort::Number, 2)),
-        ILOAD_3 => kept(method, load(state, max, Sort::Number, 3)),
-        ALOAD_0 => kept(method, load(state, max, Sort::Reference, 0)),
-        ALOAD_1 => kept(method, load(state, max, Sort::Reference, 1)),
-        ALOAD_2 => kept(method, load(state, max, Sort::Reference, 2)),
-        ALOAD_3 => kept(method, load(state, max, Sort::Reference, 3)),
-        ISTORE_0 => kept(method, store(state, max, Sort::Number, 0)),
-        ISTORE_1 => kept(method, store(state, max, Sort::Number, 1)),
-        ISTORE_2 => kept(method, store(state, max, Sort::Number, 2)),
-        ISTORE_3 => kept(method, store(state, max, Sort::Number, 3)),
-        ASTORE_0 => kept(method, store(state, max, Sort::Reference, 0)),
-        ASTORE_1 => kept(method, store(state, max, Sort::Reference, 1)),
-        ASTORE_2 => kept(method, store(state, max, Sort::Reference, 2)),
-        ASTORE_3 => kept(method, store(state, max, Sort::Reference, 3)),
-        POP => kept(method, pop(state, max)),
-        DUP => kept(method, double(state, max)),
-        IADD => kept(method, compute(state, max, Operation::Plus)),
-        ISUB => kept(method, compute(state, max, Operation::Minus)),
-        IMUL => kept(method, compute(state, max, Operation::Times)),
-        _ => step_by_table(state, linked, method, instr),
+        ICONST_0 => Some(push_constant(state, max, Constant::Int(0))),
+        ICONST_1 => Some(push_constant(state, max, Constant::Int(1))),
+        ICONST_2 => Some(push_constant(state, max, Constant::Int(2))),
+        ICONST_3 => Some(push_constant(state, max, Constant::Int(3))),
+        ICONST_4 => Some(push_constant(state, max, Constant::Int(4))),
+        ICONST_5 => Some(push_constant(state, max, Constant::Int(5))),
+        ILOAD_0 => Some(load(state, max, Sort::Number, 0)),
+        ILOAD_1 => Some(load(state, max, Sort::Number, 1)),
+        ILOAD_2 => Some(load(state, max, Sort::Number, 2)),
+        ILOAD_3 => Some(load(state, max, Sort::Number, 3)),
+        ALOAD_0 => Some(load(state, max, Sort::Reference, 0)),
+        ALOAD_1 => Some(load(state, max, Sort::Reference, 1)),
+        ALOAD_2 => Some(load(state, max, Sort::Reference, 2)),
+        ALOAD_3 => Some(load(state, max, Sort::Reference, 3)),
+        ISTORE_0 => Some(store(state, max, Sort::Number, 0)),
+        ISTORE_1 => Some(store(state, max, Sort::Number, 1)),
+        ISTORE_2 => Some(store(state, max, Sort::Number, 2)),
+        ISTORE_3 => Some(store(state, max, Sort::Number, 3)),
+        ASTORE_0 => Some(store(state, max, Sort::Reference, 0)),
+        ASTORE_1 => Some(store(state, max, Sort::Reference, 1)),
+        ASTORE_2 => Some(store(state, max, Sort::Reference, 2)),
+        ASTORE_3 => Some(store(state, max, Sort::Reference, 3)),
+        POP => Some(pop(state, max)),
+        DUP => Some(double(state, max)),
+        IADD => Some(compute(state, max, Operation::Plus)),
+        ISUB => Some(compute(state, max, Operation::Minus)),
+        IMUL => Some(compute(state, max, Operation::Times)),
+        _ => None,
+    }
+}
+
+/// The same where it has no arguments.
+#[inline(always)]
+fn try_opcode(state: &mut State, method: &LinkedMethod, instr: &LinkedInstr) -> Option<bool>
+    requires place { state.old.machine.frame.place < 2 ^ 32 - 1 }
+    requires at { slice_get (method_of method.now).code state.old.machine.frame.place ≡ Some (instr_of instr.now) }
+    ensures { (p : Program) → Runs p (state_of state.old) (method_of method.now) →
+        Tried p (state_of state.old) (state_of state.new) (method_of method.now) result }
+{
+    match &instr.args {
+        LinkedArgs::None => act_by_opcode(state, method, instr),
+        _ => None,
     }
 }
 
@@ -490,9 +499,9 @@ fn step_quietly<'a>(
     let Some(instr) = instr_at(method, state.place()) else {
         return None;
     };
-    match &instr.args {
-        LinkedArgs::None => step_by_opcode(state, linked, method, instr),
-        _ => step_by_table(state, linked, method, instr),
+    match try_opcode(state, method, instr) {
+        Some(stayed) => kept(method, stayed),
+        None => step_by_table(state, linked, method, instr),
     }
 }
 
