@@ -1,5 +1,5 @@
 -- Steps that are taken alone: they look at no message, send none and tell nothing.
-use Rattle.std.specs.Prelude.{◌≡◌, ℕ, zero, suc, Bool, true, false, Option, Some, None}
+use Rattle.std.specs.Prelude.{◌≡◌, ℕ, zero, suc, Bool, true, false, Option, Some, None, if◌then◌else◌}
 use Rattle.vm_model.specs.Program.{Program, MethodOf}
 use Rattle.vm_model.specs.Messages.{Messages}
 use Rattle.vm_model.specs.Machine.{Machine, Went}
@@ -43,6 +43,11 @@ StepAlone p m m' = (me : ℕ) (q : Messages) → step p me m q ≡ Went m' q Non
 abbrev pub LeadsAlone : Program → (m m' : Machine) → Option MethodOf → Type 0
 LeadsAlone p m m' (Some method) = StepAlone p m m' × Runs p m' method
 LeadsAlone p m m' None = m' ≡ m
+
+-- What was tried leads alone to another machine in the same method, or nothing has changed; or it wasn't looked for.
+abbrev pub Tried : Program → (m m' : Machine) → MethodOf → Option Bool → Type 0
+Tried p m m' method (Some b) = LeadsAlone p m m' (if b then Some method else None)
+Tried p m m' method None = m' ≡ m
 
 -- so many of them, one after another
 abbrev pub AllAlone : Program → Machine → ℕ → Machine → Type 0

@@ -50,7 +50,7 @@ fn push(state: &mut State, max: u16, cell: Cell) -> bool
 
 /// Pushes a constant, which is no text or one that the instruction pushed before.
 #[inline(always)]
-fn push_constant(state: &mut State, max: u16, constant: Constant<'_>) -> bool
+pub(crate) fn push_constant(state: &mut State, max: u16, constant: Constant<'_>) -> bool
     requires { state.old.machine.frame.place < 2 ^ 32 - 1 }
     ensures { Alone max (actions.Push (constant_of constant.entry)) (state_of state.old) (state_of state.new) result }
 {
@@ -66,7 +66,7 @@ fn push_constant(state: &mut State, max: u16, constant: Constant<'_>) -> bool
 
 /// Pushes what a local holds.
 #[inline(always)]
-fn load(state: &mut State, max: u16, sort: Sort, local: u8) -> bool
+pub(crate) fn load(state: &mut State, max: u16, sort: Sort, local: u8) -> bool
     requires { state.old.machine.frame.place < 2 ^ 32 - 1 }
     ensures { Alone max (actions.Load (sort_of sort) local) (state_of state.old) (state_of state.new) result }
 {
@@ -81,7 +81,7 @@ fn load(state: &mut State, max: u16, sort: Sort, local: u8) -> bool
 
 /// Takes the operand on top into a local.
 #[inline(always)]
-fn store(state: &mut State, max: u16, sort: Sort, local: u8) -> bool
+pub(crate) fn store(state: &mut State, max: u16, sort: Sort, local: u8) -> bool
     requires { state.old.machine.frame.place < 2 ^ 32 - 1 }
     ensures { Alone max (actions.Store (sort_of sort) local) (state_of state.old) (state_of state.new) result }
 {
@@ -102,7 +102,7 @@ fn store(state: &mut State, max: u16, sort: Sort, local: u8) -> bool
 
 /// Drops the operand on top.
 #[inline(always)]
-fn pop(state: &mut State, max: u16) -> bool
+pub(crate) fn pop(state: &mut State, max: u16) -> bool
     requires { state.old.machine.frame.place < 2 ^ 32 - 1 }
     ensures { Alone max actions.Pop (state_of state.old) (state_of state.new) result }
 {
@@ -117,7 +117,7 @@ fn pop(state: &mut State, max: u16) -> bool
 
 /// Pushes the operand on top once more.
 #[inline(always)]
-fn double(state: &mut State, max: u16) -> bool
+pub(crate) fn double(state: &mut State, max: u16) -> bool
     requires { state.old.machine.frame.place < 2 ^ 32 - 1 }
     ensures { Alone max actions.Double (state_of state.old) (state_of state.new) result }
 {
@@ -130,7 +130,7 @@ fn double(state: &mut State, max: u16) -> bool
 
 /// Computes the two ints on top.
 #[inline(always)]
-fn compute(state: &mut State, max: u16, operation: Operation) -> bool
+pub(crate) fn compute(state: &mut State, max: u16, operation: Operation) -> bool
     requires { state.old.machine.frame.place < 2 ^ 32 - 1 }
     ensures { Alone max (actions.Compute (operation_of operation)) (state_of state.old) (state_of state.new) result }
 {

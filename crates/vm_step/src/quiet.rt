@@ -8,25 +8,26 @@ ghost use Rattle.mg_text.specs.declared.event.BadKind.{BadKind};
 ghost use Rattle.vm_model.specs.declared.linked.Built.TheVariants as builts;
 ghost use Rattle.vm_model.specs.Actions as actions;
 ghost use Rattle.vm_model.specs.Kept.{type_kept};
-ghost use Rattle.vm_model.specs.Program.{Program};
+ghost use Rattle.vm_model.specs.Program.{Program, Nothing};
 ghost use Rattle.vm_model.specs.Tests.{Typed, max_stack_in, method_of_frame, misfits, on_top, some_of};
-ghost use Rattle.vm_model.specs.View.{instr_of, method_of};
+ghost use Rattle.vm_model.specs.View.{args_of, instr_of, method_of};
 ghost use Rattle.vm_frames.specs.Frames.{entered};
 ghost use Rattle.vm_step.specs.State.{state_of, operands_of};
 ghost use Rattle.vm_actions.specs.Table.{sort_of, calling_of, action_of};
-ghost use Rattle.vm_step.specs.Alone.{Alone, Stays, Runs, Leads, LeadsAlone, AllAlone};
+ghost use Rattle.vm_step.specs.Alone.{Alone, Stays, Runs, Leads, LeadsAlone, Tried, AllAlone};
 ghost use Rattle.vm_step.specs.inner.Calls.{Awaits};
 
 use crate::built::is_text;
-use crate::frequent::{act_alone, is_of_sort};
+use crate::frequent::{act_alone, compute, double, is_of_sort, load, pop, push_constant, store};
 use crate::needs::{Want, misfit_type};
 use crate::operands::text_at;
 use crate::program::{field_at, method_at, result_type};
 use crate::session::truth;
 use crate::step::field_want;
-use vm_actions::{Action, Calling, Sort, action_of};
+use cls_tree::opcodes::*;
+use vm_actions::{Action, Calling, Constant, Operation, Sort, action_of};
 use vm_frames::{Callee, Cell, State};
-use vm_model::{Built, Linked, LinkedInstr, LinkedMethod, LinkedType};
+use vm_model::{Built, Linked, LinkedArgs, LinkedInstr, LinkedMethod, LinkedType};
 
 /// The number of an object, where a value is one of the class of this number.
 #[inline(always)]
@@ -407,6 +408,83 @@ fn instr_at(method: &LinkedMethod, place: u32) -> Option<&LinkedInstr>
     method.code.as_slice().get(place as usize)
 }
 
+/// The same of this instruction, which is the next, by the table of actions.
+#[inline(always)]
+fn step_by_table<'a>(
+    state: &mut State,
+    linked: &'a Linked,
+    method: &'a LinkedMethod,
+    instr: &LinkedInstr,
+) -> Option<&'a LinkedMethod>
+    requires place { state.old.machine.frame.place < 2 ^ 32 - 1 }
+    requires runs { Runs linked.now (state_of state.old) (method_of method.now) }
+    requires at { slice_get (method_of method.now).code state.old.machine.frame.place ≡ Some (instr_of instr.now) }
+    ensures { LeadsAlone linked.now (state_of state.old) (state_of state.new)
+        (option_map (λ x. method_of x.now) result) }
+{
+    let Some(action) = action_of(instr) else {
+        return None;
+    };
+    act_quietly(state, linked, method, action)
+}
+
+/// Acts on the most frequent of those without arguments, by their opcodes, and answers whether nothing was wrong. None where it is
+/// another.
+#[inline(always)]
+fn act_by_opcode(state: &mut State, method: &LinkedMethod, instr: &LinkedInstr) -> Option<bool>
+    requires place { state.old.machine.frame.place < 2 ^ 32 - 1 }
+    requires at { slice_get (method_of method.now).code state.old.machine.frame.place ≡ Some (instr_of instr.now) }
+    requires bare { args_of instr.now.args ≡ Nothing }
+    ensures { (p : Program) → Runs p (state_of state.old) (method_of method.now) →
+        Tried p (state_of state.old) (state_of state.new) (method_of method.now) result }
+{
+    let max = method.max_stack;
+    match instr.op {
+        ICONST_0 => Some(push_constant(state, max, Constant::Int(0))),
+        ICONST_1 => Some(push_constant(state, max, Constant::Int(1))),
+        ICONST_2 => Some(push_constant(state, max, Constant::Int(2))),
+        ICONST_3 => Some(push_constant(state, max, Constant::Int(3))),
+        ICONST_4 => Some(push_constant(state, max, Constant::Int(4))),
+        ICONST_5 => Some(push_constant(state, max, Constant::Int(5))),
+        ILOAD_0 => Some(load(state, max, Sort::Number, 0)),
+        ILOAD_1 => Some(load(state, max, Sort::Number, 1)),
+        ILOAD_2 => Some(load(state, max, Sort::Number, 2)),
+        ILOAD_3 => Some(load(state, max, Sort::Number, 3)),
+        ALOAD_0 => Some(load(state, max, Sort::Reference, 0)),
+        ALOAD_1 => Some(load(state, max, Sort::Reference, 1)),
+        ALOAD_2 => Some(load(state, max, Sort::Reference, 2)),
+        ALOAD_3 => Some(load(state, max, Sort::Reference, 3)),
+        ISTORE_0 => Some(store(state, max, Sort::Number, 0)),
+        ISTORE_1 => Some(store(state, max, Sort::Number, 1)),
+        ISTORE_2 => Some(store(state, max, Sort::Number, 2)),
+        ISTORE_3 => Some(store(state, max, Sort::Number, 3)),
+        ASTORE_0 => Some(store(state, max, Sort::Reference, 0)),
+        ASTORE_1 => Some(store(state, max, Sort::Reference, 1)),
+        ASTORE_2 => Some(store(state, max, Sort::Reference, 2)),
+        ASTORE_3 => Some(store(state, max, Sort::Reference, 3)),
+        POP => Some(pop(state, max)),
+        DUP => Some(double(state, max)),
+        IADD => Some(compute(state, max, Operation::Plus)),
+        ISUB => Some(compute(state, max, Operation::Minus)),
+        IMUL => Some(compute(state, max, Operation::Times)),
+        _ => None,
+    }
+}
+
+/// The same where it has no arguments.
+#[inline(always)]
+fn try_opcode(state: &mut State, method: &LinkedMethod, instr: &LinkedInstr) -> Option<bool>
+    requires place { state.old.machine.frame.place < 2 ^ 32 - 1 }
+    requires at { slice_get (method_of method.now).code state.old.machine.frame.place ≡ Some (instr_of instr.now) }
+    ensures { (p : Program) → Runs p (state_of state.old) (method_of method.now) →
+        Tried p (state_of state.old) (state_of state.new) (method_of method.now) result }
+{
+    match &instr.args {
+        LinkedArgs::None => act_by_opcode(state, method, instr),
+        _ => None,
+    }
+}
+
 /// The same of the next instruction.
 #[inline(always)]
 fn step_quietly<'a>(
@@ -421,10 +499,10 @@ fn step_quietly<'a>(
     let Some(instr) = instr_at(method, state.place()) else {
         return None;
     };
-    let Some(action) = action_of(instr) else {
-        return None;
-    };
-    act_quietly(state, linked, method, action)
+    match try_opcode(state, method, instr) {
+        Some(stayed) => kept(method, stayed),
+        None => step_by_table(state, linked, method, instr),
+    }
 }
 
 /// Takes steps that look at no message and tell nothing, at most so many, up to the first with which
