@@ -7,7 +7,7 @@ ghost use Rattle.scr_global_tree.specs.View.{told};
 ghost use Rattle.scr_parse.specs.Answer.{Gives};
 ghost use Rattle.scr_parse.specs.inner.Kinds.{IsTable};
 ghost use Rattle.scr_parse.specs.inner.Reading.{continue_with};
-ghost use Rattle.scr_global_parse.specs.inner.View.{alone};
+ghost use Rattle.scr_global_parse.specs.inner.View.{alone, all_alone, blocks_alone};
 ghost use Rattle.scr_global_parse.specs.inner.Reading.{ends_at, message_at, says_at, plain_at, a_choice, a_rec, a_continue};
 
 use mg_text::{List, Place, Text};
@@ -122,7 +122,9 @@ impl Nest for OfGlobal {
     ghost plain_tree_at = { plain_at };
 
     #[tactic(auto, using(crate::proofs::Views::alones))]
-    fn choice(place: Place, at: Text, branches: List<List<GStatement>>) -> GStatement {
+    fn choice(place: Place, at: Text, branches: List<List<GStatement>>) -> GStatement
+        ensures { alone result ≡ a_choice place at (blocks_alone branches.items) }
+    {
         GStatement::Choice {
             place,
             at,
@@ -131,7 +133,9 @@ impl Nest for OfGlobal {
     }
 
     #[tactic(auto, using(crate::proofs::Views::alones))]
-    fn rec(place: Place, name: Text, body: List<GStatement>) -> GStatement {
+    fn rec(place: Place, name: Text, body: List<GStatement>) -> GStatement
+        ensures { alone result ≡ a_rec place name (all_alone body.items) }
+    {
         GStatement::Rec { place, name, body }
     }
 

@@ -5,7 +5,7 @@ ghost use Rattle.scr_tree.specs.Tok.{toks};
 ghost use Rattle.scr_tree.specs.Tree.{Statements};
 ghost use Rattle.scr_parse.specs.Answer.{Gives};
 ghost use Rattle.scr_parse.specs.inner.Kinds.{IsTable};
-ghost use Rattle.scr_parse.specs.inner.View.{alone};
+ghost use Rattle.scr_parse.specs.inner.View.{alone, all_alone, blocks_alone};
 ghost use Rattle.scr_parse.specs.inner.Reading.{direction_at, payload_at, message_at, do_at, says_at, continue_with, plain_at};
 ghost use Rattle.scr_parse.specs.inner.Reading.{a_choice, a_rec, a_continue};
 
@@ -125,7 +125,9 @@ impl Nest for OfLocal {
     ghost plain_tree_at = { plain_at };
 
     #[tactic(auto, using(crate::proofs::Views::alones))]
-    fn choice(place: Place, at: Text, branches: List<List<Statement>>) -> Statement {
+    fn choice(place: Place, at: Text, branches: List<List<Statement>>) -> Statement
+        ensures { alone result ≡ a_choice place at (blocks_alone branches.items) }
+    {
         Statement::Choice {
             place,
             at,
@@ -134,7 +136,9 @@ impl Nest for OfLocal {
     }
 
     #[tactic(auto, using(crate::proofs::Views::alones))]
-    fn rec(place: Place, name: Text, body: List<Statement>) -> Statement {
+    fn rec(place: Place, name: Text, body: List<Statement>) -> Statement
+        ensures { alone result ≡ a_rec place name (all_alone body.items) }
+    {
         Statement::Rec { place, name, body }
     }
 
