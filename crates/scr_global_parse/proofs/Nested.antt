@@ -288,7 +288,8 @@ module _ (declared : List Declaration) where
         subst (λ (y : Statements × List Tok). Takes (Deep (suc d) y.0) ts y.1) (some_is _ x m.2)
         (record { front = one.front; parts = one.parts; holds = (refl, one.holds, omega arith) })
 
-    statement_sound : (ts : List Tok) (x : Statements × List Tok) → statement_with (plain_at declared) a_choice a_rec f ts ≡ Some x → Takes (Deep (suc d) x.0) ts x.1
+    statement_sound : (ts : List Tok) (x : Statements × List Tok) → statement_with (plain_at declared) a_choice a_rec f ts ≡ Some x →
+        Takes (Deep (suc d) x.0) ts x.1
     unfolding statement_with plain_at
     statement_sound ts x e =
         elim (chosen (is_at marks.Choice ts) (choice_with a_choice f ts) _ (Some x) e) [
