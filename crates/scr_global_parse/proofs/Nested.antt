@@ -15,10 +15,10 @@ use Rattle.scr_global_tree.specs.Valid.{depth, depth_in}
 use Rattle.scr_tree.specs.Written.{Carries}
 use Rattle.scr_parse.specs.Grammar.{carried, IsBraced}
 use Rattle.scr_parse.specs.inner.Reading.{is_at, mark_at, name_at, payload_at, not_closed, block_with, other_with, choice_with, rec_with}
-use Rattle.scr_parse.specs.inner.Reading.{continue_with}
+use Rattle.scr_parse.specs.inner.Reading.{continue_with, statement_with, nested_at, Shortens}
 use Rattle.scr_global_parse.specs.Grammar.{IsMessage, AreStatements, AreBranches, AreOthers}
 use Rattle.scr_global_parse.specs.inner.View.{joined}
-use Rattle.scr_global_parse.specs.inner.Reading.{ends_at, message_at, says_at, a_choice, a_rec, a_continue, statement_with, statement_at}
+use Rattle.scr_global_parse.specs.inner.Reading.{ends_at, message_at, says_at, a_choice, a_rec, a_continue, plain_at, statement_at}
 use Rattle.scr_parse.proofs.Steps.{Anything, after, mark_is, name_is}
 use Rattle.mg_read.proofs.Turns.{shorter}
 use Rattle.scr_parse.proofs.Blocks.{NotOr, takes_as, BlockOf, OtherOf, BranchesOf, IsChoice, IsRec, IsContinue, other_nonempty}
@@ -288,8 +288,9 @@ module _ (declared : List Declaration) where
         subst (λ (y : Statements × List Tok). Takes (Deep (suc d) y.0) ts y.1) (some_is _ x m.2)
         (record { front = one.front; parts = one.parts; holds = (refl, one.holds, omega arith) })
 
-    statement_sound : (ts : List Tok) (x : Statements × List Tok) → statement_with declared f ts ≡ Some x → Takes (Deep (suc d) x.0) ts x.1
-    unfolding statement_with
+    statement_sound : (ts : List Tok) (x : Statements × List Tok) → statement_with (plain_at declared) a_choice a_rec f ts ≡ Some x →
+        Takes (Deep (suc d) x.0) ts x.1
+    unfolding statement_with plain_at
     statement_sound ts x e =
         elim (chosen (is_at marks.Choice ts) (choice_with a_choice f ts) _ (Some x) e) [
           | inl a ↦ takes_as (deep_choice d x.0) (choice_sound (Deep d) f exact (deep_starts d) a_choice ts x a.1)
@@ -303,8 +304,8 @@ module _ (declared : List Declaration) where
         ]
 
     statement_complete : (x : Statements) (ts rest : List Tok) → NotOr rest → Deep (suc d) x ts
-        → statement_with declared f (ts ++ rest) ≡ Some (x, rest)
-    unfolding statement_with choice_with rec_with continue_with says_at
+        → statement_with (plain_at declared) a_choice a_rec f (ts ++ rest) ≡ Some (x, rest)
+    unfolding statement_with plain_at choice_with rec_with continue_with says_at
     statement_complete Nothing ts rest fine h = absurd h
     statement_complete (Says m behind) ts rest fine (none, (types, (a, b, c, e, g, i, j, us, parts, h, kind)), le) =
         let whole = message_complete m ts rest (types, (a, b, c, e, g, i, j, us, parts, h, kind)) in
@@ -320,7 +321,7 @@ module _ (declared : List Declaration) where
     statement_complete (Continue place name behind) ts rest fine (none, a, b, parts, le) = rw (parts, none) refl
 
   pub statement_exact : (d : ℕ) → IsExact (statement_at declared d) (Deep d) NotOr
-  unfolding statement_at
+  unfolding nested_at
   statement_exact zero = record { sound = λ ts x e. absurd (none_is_not x e); complete = λ x ts rest fine h. absurd (never x ts h) }
     where
       never : (x : Statements) (ts : List Tok) → Deep zero x ts → ⊥
@@ -337,14 +338,17 @@ module _ (declared : List Declaration) where
       }
 
   -- a statement takes a token at least, and so does a further branch
-  pub statement_shorter : (d : ℕ) (ts : List Tok) (x : Statements) (us : List Tok) → statement_at declared d ts ≡ Some (x, us)
+  statement_shorter : (d : ℕ) (ts : List Tok) (x : Statements) (us : List Tok) → statement_at declared d ts ≡ Some (x, us)
       → length us < length ts
   statement_shorter d = shorter (statement_at declared d) (Deep d) NotOr (statement_exact d) (deep_nonempty d)
 
-  pub other_shorter : (d : ℕ) (ts : List Tok) (x : List Statements) (us : List Tok) → other_with (statement_at declared d) ts ≡ Some (x, us)
+  other_shorter : (d : ℕ) (ts : List Tok) (x : List Statements) (us : List Tok) → other_with (statement_at declared d) ts ≡ Some (x, us)
       → length us < length ts
   other_shorter d = shorter (other_with (statement_at declared d)) (OtherOf (Deep d)) Anything
       (other_exact (Deep d) (statement_at declared d) (statement_exact d) (deep_starts d)) (other_nonempty (Deep d))
+
+  pub shortens : Shortens (statement_at declared)
+  shortens = record { statement = statement_shorter; other = other_shorter }
 
   pub blocks_exact : (d : ℕ) → IsExact (block_with (statement_at declared d)) (BlockOf (Deep d)) Anything
   blocks_exact d = block_exact (Deep d) (statement_at declared d) (statement_exact d) (deep_starts d)

@@ -16,11 +16,11 @@ ghost use Rattle.scr_global_parse.specs.inner.Reading.{title_at, header_at, only
 
 mod body;
 
-use crate::body::block_of;
+use crate::body::OfGlobal;
 use mg_text::{List, Text};
 use scr_global_tree::{GStatement, WrittenGlobal};
 pub use scr_parse::ParseFault;
-use scr_parse::{Types, after_module, carries_of, mark_of, name_of, roles_of, types_of};
+use scr_parse::{Types, after_module, block_of, carries_of, mark_of, name_of, roles_of, types_of};
 use scr_tree::{Carries, Mark, Role, Token};
 use std::alloc::Global;
 
@@ -59,7 +59,7 @@ fn only_block_of(
     requires { IsTable types.now }
     ensures { Gives (λ x. all_alone x.items) result (only_block_at types.now.declared.items (toks tokens.now)) }
 {
-    let (statements, rest) = block_of(alloc, types, tokens, MAX_DEPTH)?;
+    let (statements, rest) = block_of::<OfGlobal>(alloc, types, tokens, MAX_DEPTH)?;
     match rest {
         [] => Ok(statements),
         [extra, ..] => Err(ParseFault::Syntax(Some(extra.place))),

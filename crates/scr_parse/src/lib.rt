@@ -15,6 +15,7 @@ mod carries;
 mod fault;
 mod front;
 mod header;
+mod nest;
 mod part;
 mod types;
 
@@ -23,6 +24,7 @@ pub use crate::carries::carries_of;
 pub use crate::fault::ParseFault;
 pub use crate::front::{is_mark, mark_of, name_of};
 pub use crate::header::{after_module, roles_of};
+pub use crate::nest::{Nest, block_of};
 use crate::part::{part_of, parts_of};
 pub use crate::types::{Types, types_of};
 use scr_tree::{Token, Written};

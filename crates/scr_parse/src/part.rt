@@ -11,10 +11,11 @@ ghost use Rattle.scr_parse.specs.inner.View.{all_parts};
 ghost use Rattle.scr_parse.specs.inner.Reading.{up_to, part_at, is_more};
 
 use crate::arguments::arguments_of;
-use crate::body::block_of;
+use crate::body::OfLocal;
 use crate::carries::carries_of;
 use crate::fault::ParseFault;
 use crate::header::{Header, header_of, title_of};
+use crate::nest::block_of;
 use crate::types::Types;
 use mg_text::List;
 use scr_tree::{Token, WrittenPart};
@@ -44,7 +45,7 @@ pub(crate) fn part_of<'a>(
 {
     let (place, name, rest) = title_of(tokens)?;
     let (header, rest) = header_of(alloc, rest)?;
-    let (body, left) = block_of(alloc, types, rest, MAX_DEPTH)?;
+    let (body, left) = block_of::<OfLocal>(alloc, types, rest, MAX_DEPTH)?;
     let block = up_to(rest, left);
     let carries = carries_of(alloc, block)?;
     let arguments = arguments_of(alloc, block)?;

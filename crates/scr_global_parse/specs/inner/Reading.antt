@@ -1,6 +1,6 @@
 -- For private clauses: reading from left to right, where a global protocol differs from a local one. Each function gives a value and the
 -- tokens behind it.
-use Rattle.std.specs.Prelude.{ℕ, zero, suc, List, [], ◌∷◌, map, Option, Some, None, if◌then◌else◌}
+use Rattle.std.specs.Prelude.{ℕ, List, [], ◌∷◌, map, Option, Some, None, if◌then◌else◌}
 use Rattle.mg_text.specs.Call.{Name}
 use Rattle.mg_text.specs.declared.place.Place.{Place}
 use Rattle.mg_read.specs.Reader.{Reader, ◌>>=◌}
@@ -10,7 +10,7 @@ use Rattle.scr_tree.specs.declared.written.Declaration.{Declaration}
 use Rattle.scr_tree.specs.declared.written.Role.{Role}
 use Rattle.scr_tree.specs.Written.{Carries, kind_of}
 use Rattle.scr_parse.specs.inner.Reading.{mark_at, name_at, is_at, after_module, types_at, roles_at, payload_at, carries_in, block_with}
-use Rattle.scr_parse.specs.inner.Reading.{choice_with, rec_with, continue_with}
+use Rattle.scr_parse.specs.inner.Reading.{continue_with, nested_at}
 use Rattle.scr_global.specs.Tree.{Told, Statements, Nothing, Says, Choice, Rec, Continue}
 use Rattle.scr_global_tree.specs.View.{branches_of}
 use Rattle.scr_global_tree.specs.Written.{WrittenTree}
@@ -66,17 +66,12 @@ a_continue place name = Continue place name Nothing
 unfoldable pub says_at : List Declaration → Reader Tok Statements
 says_at declared ts = message_at declared ts >>= λ m. Some (Says m.0 Nothing, m.1)
 
-unfoldable pub statement_with : List Declaration → Reader Tok Statements → Reader Tok Statements
-statement_with declared f ts =
-    if is_at marks.Choice ts then choice_with a_choice f ts
-    else (if is_at marks.Rec ts then rec_with a_rec f ts
-    else (if is_at marks.Continue ts then continue_with a_continue ts
-    else says_at declared ts))
+-- a statement in which no others stand
+unfoldable pub plain_at : List Declaration → Reader Tok Statements
+plain_at declared ts = if is_at marks.Continue ts then continue_with a_continue ts else says_at declared ts
 
--- a statement in which statements stand at most so deep, itself counted
-unfoldable pub statement_at : List Declaration → ℕ → Reader Tok Statements
-statement_at declared zero ts = None
-statement_at declared (suc d) ts = statement_with declared (statement_at declared d) ts
+abbrev pub statement_at : List Declaration → ℕ → Reader Tok Statements
+statement_at declared = nested_at (plain_at declared) a_choice a_rec
 
 -- ---- the file
 

@@ -1,5 +1,5 @@
 -- For private clauses: reading from left to right. Each function gives a value and the tokens behind it.
-use Rattle.std.specs.Prelude.{ℕ, zero, suc, ◌-◌, List, [], ◌∷◌, ◌++◌, map, length, take, Option, Some, None, Bool, true, false}
+use Rattle.std.specs.Prelude.{◌≡◌, ◌<◌, ℕ, zero, suc, ◌-◌, List, [], ◌∷◌, ◌++◌, map, length, take, Option, Some, None, Bool, true, false}
 use Rattle.std.specs.Prelude.{if◌then◌else◌, ◌==◌}
 use Rattle.mg_text.specs.Call.{Name}
 use Rattle.mg_text.specs.declared.place.Place.{Place}
@@ -318,6 +318,25 @@ continue_with build ts = do
   end ← mark_at marks.Semicolon name.1
   Some (build start.0 name.0.1, end.1)
 
+-- A statement: `plain` reads one in which no others stand, and one in which some do is made of its parts.
+unfoldable pub statement_with : {S : Type 0} → (plain : Reader Tok S) → (Place → Name → List (List S) → S) → (Place → Name → List S → S) →
+    Reader Tok S → Reader Tok S
+statement_with plain a_choice a_loop f ts =
+    if is_at marks.Choice ts then choice_with a_choice f ts
+    else (if is_at marks.Rec ts then rec_with a_loop f ts
+    else plain ts)
+
+-- the same with statements in it at most so deep, itself counted
+unfoldable pub nested_at : {S : Type 0} → (plain : Reader Tok S) → (Place → Name → List (List S) → S) → (Place → Name → List S → S) →
+    ℕ → Reader Tok S
+nested_at plain a_choice a_loop zero ts = None
+nested_at plain a_choice a_loop (suc d) ts = statement_with plain a_choice a_loop (nested_at plain a_choice a_loop d) ts
+
+-- each statement takes a token at least, and so does each further branch
+pub record Shortens {S : Type 0} (f : ℕ → Reader Tok S) : Type 0 where
+  pub statement : (d : ℕ) (ts : List Tok) (x : S) (us : List Tok) → f d ts ≡ Some (x, us) → length us < length ts
+  pub other : (d : ℕ) (ts : List Tok) (xs : List S) (us : List Tok) → other_with (f d) ts ≡ Some (xs, us) → length us < length ts
+
 -- what they are of a protocol, each alone
 abbrev pub a_choice : Place → Name → List (List Statements) → Statements
 a_choice place at inner = Choice place at (branches_of (map joined inner)) Nothing
@@ -332,18 +351,15 @@ a_continue place name = Continue place name Nothing
 unfoldable pub says_at : List Declaration → Reader Tok Statements
 says_at declared ts = message_at declared ts >>= λ m. Some (Says m.0 Nothing, m.1)
 
-unfoldable pub statement_with : List Declaration → Reader Tok Statements → Reader Tok Statements
-statement_with declared f ts =
-    if is_at marks.Choice ts then choice_with a_choice f ts
-    else (if is_at marks.Rec ts then rec_with a_rec f ts
-    else (if is_at marks.Continue ts then continue_with a_continue ts
+-- a statement in which no others stand
+unfoldable pub plain_at : List Declaration → Reader Tok Statements
+plain_at declared ts =
+    if is_at marks.Continue ts then continue_with a_continue ts
     else (if is_at marks.Do ts then do_at ts
-    else says_at declared ts)))
+    else says_at declared ts)
 
--- a statement in which statements stand at most so deep, itself counted
-unfoldable pub statement_at : List Declaration → ℕ → Reader Tok Statements
-statement_at declared zero ts = None
-statement_at declared (suc d) ts = statement_with declared (statement_at declared d) ts
+abbrev pub statement_at : List Declaration → ℕ → Reader Tok Statements
+statement_at declared = nested_at (plain_at declared) a_choice a_rec
 
 -- ---- what messages carry: of each name with a "(" behind it and no "do" in front, the names up to the next ")"
 

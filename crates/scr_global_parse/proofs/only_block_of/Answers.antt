@@ -1,0 +1,5 @@
+use Rattle.scr_global_parse.proofs.Nested.{shortens}
+use Rattle.scr_global_parse.proofs.only_block_of.Goals as goal
+
+pub block_of-requires-clause-shorter : goal.block_of-requires-clause-shorter
+block_of-requires-clause-shorter c = shortens c.args.types.now.declared.items
