@@ -17,7 +17,8 @@ use Rattle.jv_values.specs.Further.{FurtherShared, FurtherLives, FurtherDoes, Fu
 use Rattle.jv_values.proofs.Combine.{if_alike, next_alike, switch_alike, while_alike, do_alike}
 use Rattle.jv_values.proofs.Combine as combine
 use Rattle.jv_values.proofs.Expressions as expressions
-use Rattle.jv_values.proofs.Further.{further_shares, further_tells, lives_closed, within_further, declared_further, assigned_further, same_exits}
+use Rattle.jv_values.proofs.Further.{further_shares, further_tells}
+use Rattle.jv_values.proofs.Further.{lives_closed, within_further, declared_further, assigned_further, same_exits}
 use Rattle.jv_values.proofs.Further as further
 use Rattle.jv_values.proofs.FurtherSteps.{E, then_e, give_e, stop_e, found_e, valued_e, valuing_e}
 use Rattle.jv_meaning.specs.Program.{Sources, class_named, enum_named}
