@@ -18,16 +18,16 @@ bounds-mains-number c = got_within c.args.mains.now c.in-Some.number c.in-Some.e
 pub offset_bounds-mains-number : goal.offset_bounds-mains-number
 offset_bounds-mains-number c = let within = bounds-mains-number c in search rules
 
-pub returns-in_err-refusal-in-Some : goal.returns-in_err-refusal-in-Some
-returns-in_err-refusal-in-Some c = λ names same.
-    let e = err_from_is_err_and c.from_residual-in_err-refusal-in-Some.result c.from_residual-in_err-refusal-in-Some.ensures.1 in
+pub returns-in_err-refusal : goal.returns-in_err-refusal
+returns-in_err-refusal c = λ names same.
+    let e = err_from_is_err_and c.from_residual-in_err-refusal.result c.from_residual-in_err-refusal.ensures.1 in
     rw (e.1, e.2) tt
 
 pub returns-in-Some : goal.returns-in-Some
 returns-in-Some c = λ names same.
     run_no_main (sources names c.args.contents.now) c.args.mains.now c.args.order.now c.args.limit c.args.named c.args.traced
-    c.in_ok-linked.linked c.in-Some.number _ c.in_ok-refusal-in-Some.refusal (c.in_ok-linked.ensures names same)
-    c.in-Some.ensures c.in_ok-refusal-in-Some.ensures
+    c.in_ok-linked.linked c.in-Some.number _ c.in_ok-refusal.refusal (c.in_ok-linked.ensures names same)
+    c.in-Some.ensures c.in_ok-refusal.ensures
 
 pub returns-in_err-run : goal.returns-in_err-run
 returns-in_err-run c = λ names same.

@@ -19,16 +19,16 @@ bounds-mains-number c = got_within c.args.mains.now c.in-Some.number c.in-Some.e
 pub offset_bounds-mains-number : goal.offset_bounds-mains-number
 offset_bounds-mains-number c = let within = bounds-mains-number c in search rules
 
-pub returns-in_err-refusal-in-Some : goal.returns-in_err-refusal-in-Some
-returns-in_err-refusal-in-Some c =
-    let e = err_from_is_err_and c.from_residual-in_err-refusal-in-Some.result c.from_residual-in_err-refusal-in-Some.ensures.1 in
+pub returns-in_err-refusal : goal.returns-in_err-refusal
+returns-in_err-refusal c =
+    let e = err_from_is_err_and c.from_residual-in_err-refusal.result c.from_residual-in_err-refusal.ensures.1 in
     rw (e.1, e.2) tt
 
 pub returns-in-Some : goal.returns-in-Some
 returns-in-Some c =
     run_no_main (sources c.args.names.now c.args.contents.now) c.args.mains.now c.args.order.now c.args.limit c.args.named c.args.traced
-    c.in_ok-program.program.core c.in-Some.number _ c.in_ok-refusal-in-Some.refusal c.in_ok-program.ensures.answered.files_are
-    c.in-Some.ensures c.in_ok-refusal-in-Some.ensures
+    c.in_ok-program.program.core c.in-Some.number _ c.in_ok-refusal.refusal c.in_ok-program.ensures.answered.files_are
+    c.in-Some.ensures c.in_ok-refusal.ensures
 
 pub returns-in_err-files : goal.returns-in_err-files
 returns-in_err-files c =
