@@ -40,7 +40,7 @@ use Rattle.jv_sound.proofs.Objects.{Heap, noted}
 use Rattle.jv_sound.proofs.Expressions.{Callable, method_ok}
 use Rattle.gen_sound.specs.Following.{Moment, Leads, EndsAlike, Follows}
 use Rattle.gen_sound.specs.Arriving.{Arrives}
-use Rattle.gen_sound.specs.Related.{Running, moment, flat, flat_given, heap_in, action_of, RunsCode}
+use Rattle.gen_sound.specs.Related.{Running, moment, flat, flat_given, heap_in, action_of, RunsCode, calling_of, invoke}
 use Rattle.world_meant_law.specs.Meant.{Holds}
 use Rattle.gen_sound.specs.Standing.{Returning, return_of}
 use Rattle.gen_sound.proofs.Steps.{stays, comes_on, lead_of, ClosedBefore, follows_then}

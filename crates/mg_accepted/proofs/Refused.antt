@@ -23,15 +23,15 @@ of_told Is fault told e h = go (fault_told fault) e h where
 
 module _ (sourced : Sourced) (fault : TypeFault) (stop : Stop) (stops : IsStopOf (λ f r. r ≡ type_refusal f) (fault_told fault) stop) where
   -- a fault of the declarations
-  pub table_refused : {A : Type 0} → TellsFault (IsTableFault sourced.program sourced.origins) fault →
+  pub table_refused : (A : Type 0) → TellsFault (IsTableFault sourced.program sourced.origins) fault →
       Answers (λ (done : A). HasNoFault sourced) (TypeRefusal sourced) (Err stop)
-  table_refused {A} h =
+  table_refused A h =
       stop_refused (λ f r. r ≡ type_refusal f) (λ (done : A). HasNoFault sourced) (TypeRefusal sourced) (fault_told fault) stop stops
       (λ f r e says. at_first (f, of_told (IsTableFault sourced.program sourced.origins) fault f e h, says))
 
   -- and of the methods
-  pub method_refused : {A : Type 0} → IsTableFault sourced.program sourced.origins None → TellsFault (IsFault sourced.program) fault →
+  pub method_refused : (A : Type 0) → IsTableFault sourced.program sourced.origins None → TellsFault (IsFault sourced.program) fault →
       Answers (λ (done : A). HasNoFault sourced) (TypeRefusal sourced) (Err stop)
-  method_refused {A} clean h =
+  method_refused A clean h =
       stop_refused (λ f r. r ≡ type_refusal f) (λ (done : A). HasNoFault sourced) (TypeRefusal sourced) (fault_told fault) stop stops
       (λ f r e says. at_next tt clean (f, of_told (IsFault sourced.program) fault f e h, says))

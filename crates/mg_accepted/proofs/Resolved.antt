@@ -50,17 +50,17 @@ module _ (s : KeptSources) {fs : List KeptFile} {ts : List Typestate} {os : List
       (λ i. record { program = same_program i; origins = are.origins i }) h
 
   module _ (fault : TypeFault) (stop : Stop) (stops : IsStopOf (λ f r. r ≡ type_refusal f) (fault_told fault) stop) where
-    pub table_failed : {A : Type 0} → TellsFault (IsTableFault (program_of fs ts) os) fault →
+    pub table_failed : (A : Type 0) → TellsFault (IsTableFault (program_of fs ts) os) fault →
         Answers (λ (done : A). HasNoFault (sourced_of s)) (TypeRefusal (sourced_of s)) (Err stop)
-    table_failed {A} h =
-        table_refused (sourced_of s) fault stop stops
+    table_failed A h =
+        table_refused (sourced_of s) fault stop stops A
         (subst (λ (z : Sourced). TellsFault (IsTableFault z.program z.origins) fault)
         (λ i. record { program = same_program i; origins = are.origins i }) h)
 
-    pub method_failed : {A : Type 0} → (program : Program) → program ≡ program_of fs ts → IsTableFault (program_of fs ts) os None →
+    pub method_failed : (A : Type 0) → (program : Program) → program ≡ program_of fs ts → IsTableFault (program_of fs ts) os None →
         TellsFault (IsFault program) fault → Answers (λ (done : A). HasNoFault (sourced_of s)) (TypeRefusal (sourced_of s)) (Err stop)
-    method_failed {A} program e clean h =
-        method_refused (sourced_of s) fault stop stops (table_is None clean) (subst (λ (z : Program). TellsFault (IsFault z) fault)
+    method_failed A program e clean h =
+        method_refused (sourced_of s) fault stop stops A (table_is None clean) (subst (λ (z : Program). TellsFault (IsFault z) fault)
         (e ∙ same_program) h)
 
   pub no_fault : (program : Program) → program ≡ program_of fs ts → IsTableFault (program_of fs ts) os None → IsFault program None →
@@ -113,10 +113,10 @@ module _ (files : List Source) (stop : Stop) (answer : Result Core Stop) (is : a
       refused_by (λ (k : KeptSources). AreProgram files (sourced_of k)) (reading.FirstRefusal files) (HaveCore files)
       (FirstRefusal files) (λ r first. at_first first) stop h answer is
 
-  pub judge_failed : {A : Type 0} → (sourced : Sourced) → AreProgram files sourced →
+  pub judge_failed : (A : Type 0) → (sourced : Sourced) → AreProgram files sourced →
       Answers (λ (done : A). HasNoFault sourced) (TypeRefusal sourced) (Err stop) →
       Answers (HaveCore files) (FirstRefusal files) answer
-  judge_failed {A} sourced are h =
+  judge_failed A sourced are h =
       refused_by (λ (done : A). HasNoFault sourced) (TypeRefusal sourced) (HaveCore files)
       (FirstRefusal files) (λ r found. at_next sourced are found) stop h answer is
 

@@ -38,7 +38,10 @@ fn same_at(me: &Text, some: &Statement, other: &Statement) -> bool
     match some {
         Statement::Message(message) => match other {
             Statement::Message(another) => is_same_message(message, another),
-            _ => false,
+            Statement::Choice { .. } => false,
+            Statement::Rec { .. } => false,
+            Statement::Continue { .. } => false,
+            Statement::Do { .. } => false,
         },
         Statement::Choice { at, branches, .. } => match other {
             Statement::Choice {
@@ -50,7 +53,10 @@ fn same_at(me: &Text, some: &Statement, other: &Statement) -> bool
                 let there = *another == *me;
                 same_truth(here, there) && same_in(me, branches.as_slice(), others.as_slice())
             }
-            _ => false,
+            Statement::Message(_) => false,
+            Statement::Rec { .. } => false,
+            Statement::Continue { .. } => false,
+            Statement::Do { .. } => false,
         },
         Statement::Rec { name, body, .. } => match other {
             Statement::Rec {
@@ -58,15 +64,24 @@ fn same_at(me: &Text, some: &Statement, other: &Statement) -> bool
                 body: others,
                 ..
             } => *name == *another && same_all(me, body.as_slice(), others.as_slice()),
-            _ => false,
+            Statement::Message(_) => false,
+            Statement::Choice { .. } => false,
+            Statement::Continue { .. } => false,
+            Statement::Do { .. } => false,
         },
         Statement::Continue { name, .. } => match other {
             Statement::Continue { name: another, .. } => *name == *another,
-            _ => false,
+            Statement::Message(_) => false,
+            Statement::Choice { .. } => false,
+            Statement::Rec { .. } => false,
+            Statement::Do { .. } => false,
         },
         Statement::Do { name, .. } => match other {
             Statement::Do { name: another, .. } => *name == *another,
-            _ => false,
+            Statement::Message(_) => false,
+            Statement::Choice { .. } => false,
+            Statement::Rec { .. } => false,
+            Statement::Continue { .. } => false,
         },
     }
 }

@@ -50,9 +50,8 @@ impl State {
         self.heads.reserve(1)?;
         match self.cells.reserve(unset + MOST) {
             Ok(()) => {
-                let mut caller = self.head;
-                caller.place += 1;
-                self.heads.push_reserved(caller);
+                self.head.place += 1;
+                self.heads.push_reserved(self.head);
                 self.cells.enter(callee.args, Cell::Unset, unset);
                 self.head = Head {
                     class: callee.class,
@@ -99,8 +98,8 @@ impl State {
         let Some(head) = self.heads.pop() else {
             return false;
         };
-        let _left = self.cells.leave();
         self.head = head;
+        let _left = self.cells.leave();
         match value {
             Some(cell) => {
                 self.cells.push(cell);

@@ -1,4 +1,5 @@
 use Rattle.std.proofs.Common.{◌∙◌}
+use Rattle.jv_types.specs.declared.name_table.Table.{Table}
 use Rattle.mg_accepted.proofs.Resolved.{same_program, same_count, table_failed, method_failed, no_fault}
 use Rattle.mg_accepted.proofs.judged.judge.Goals as goal
 
@@ -17,7 +18,7 @@ returns-in-Err-clause-answered c =
       files = c.as_slice.ensures.items;
       typestates = c.as_slice-2.ensures.items;
       origins = c.as_slice-3.ensures.items;
-    }) c.in-Err.fault c.stop_of.result c.stop_of.ensures c.in-Err.ensures.fault
+    }) c.in-Err.fault c.stop_of.result c.stop_of.ensures Table c.in-Err.ensures.fault
 
 pub returns-in-Ok-type_check-clause-program : goal.returns-in-Ok-type_check-clause-program
 returns-in-Ok-type_check-clause-program c =
@@ -43,5 +44,5 @@ returns-clause-answered c =
       files = c.as_slice.ensures.items;
       typestates = c.as_slice-2.ensures.items;
       origins = c.as_slice-3.ensures.items;
-    }) c.in-Err-type_check.fault c.stop_of-in-Err-type_check.result c.stop_of-in-Err-type_check.ensures _ c.in-Ok.ensures.program
+    }) c.in-Err-type_check.fault c.stop_of-in-Err-type_check.result c.stop_of-in-Err-type_check.ensures Table _ c.in-Ok.ensures.program
     c.in-Ok.ensures.fine c.in-Err-type_check.ensures.fault

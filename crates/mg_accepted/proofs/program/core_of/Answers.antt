@@ -4,6 +4,7 @@ use Rattle.jv_core.specs.declared.resolved.Core.{Core}
 use Rattle.mg_sources.specs.Files.{sources}
 use Rattle.mg_sources.specs.View.{sourced_of}
 use Rattle.mg_refusal.specs.declared.stop.Stop.{Stop}
+use Rattle.jv_types.specs.declared.name_table.Table.{Table}
 use Rattle.mg_accepted.proofs.Resolved.{files_numbered, read_failed, judge_failed, is_shaped, only_assigns, is_well_typed, resolved}
 use Rattle.mg_accepted.proofs.program.core_of.Goals as goal
 
@@ -23,7 +24,7 @@ pub returns-in_err-table : goal.returns-in_err-table
 returns-in_err-table c =
     let f = err_from_is_err_and c.from_residual-in_err-table.result c.from_residual-in_err-table.ensures.1 in
     judge_failed (sources c.args.names.now c.args.contents.now) c.in_err-table.field-0.0 c.from_residual-in_err-table.result
-    (f.1 ∙ ap failed f.2) (sourced_of c.in_ok-sources.sources) c.in_ok-sources.ensures.answered c.in_err-table.ensures.answered
+    (f.1 ∙ ap failed f.2) Table (sourced_of c.in_ok-sources.sources) c.in_ok-sources.ensures.answered c.in_err-table.ensures.answered
 
 pub resolve-requires-clause-well_typed : goal.resolve-requires-clause-well_typed
 resolve-requires-clause-well_typed c =

@@ -30,8 +30,8 @@ returns-in-Err-clause-err c =
     (record c.self.inside { heads = c.reserve.new.self; cells = c.reserve-2.new.self }) refl
     c.reserve.ensures.items c.reserve-2.ensures.frames.0 c.reserve-2.ensures.frames.1 refl refl
 
-pub overflow_add-caller : goal.overflow_add-caller
-overflow_add-caller c = omega (arith, c.requires.place, place_is c.self.inside c.args.self.now c.self.view_is c.self.invariant)
+pub overflow_add-self : goal.overflow_add-self
+overflow_add-self c = omega (arith, c.requires.place, place_is c.self.inside c.args.self.now c.self.view_is c.self.invariant)
 
 pub enter-requires-clause-args : goal.enter-requires-clause-args
 enter-requires-clause-args c =
