@@ -17,7 +17,8 @@ use Rattle.jv_values.specs.Further.{FurtherShared, FurtherLives, FurtherDoes, Fu
 use Rattle.jv_values.proofs.Combine.{if_alike, next_alike, switch_alike, while_alike, do_alike}
 use Rattle.jv_values.proofs.Combine as combine
 use Rattle.jv_values.proofs.Expressions as expressions
-use Rattle.jv_values.proofs.Further.{further_shares, lives_closed, within_further, declared_further, assigned_further, same_exits}
+use Rattle.jv_values.proofs.Further.{further_shares, further_tells}
+use Rattle.jv_values.proofs.Further.{lives_closed, within_further, declared_further, assigned_further, same_exits}
 use Rattle.jv_values.proofs.Further as further
 use Rattle.jv_values.proofs.FurtherSteps.{E, then_e, give_e, stop_e, found_e, valued_e, valuing_e}
 use Rattle.jv_meaning.specs.Program.{Sources, class_named, enum_named}
@@ -36,7 +37,7 @@ Q {A} m n = FurtherLives Name A A ◌≡◌ m n
 
 read_e : (here : Here Name) (x : Name) (r : Referent) → E (read here x r) (read here x r)
 read_e here x (ALocal v) = give_e v
-read_e here x AField = expressions.read_field_same FurtherShared further_shares here.class here.object x
+read_e here x AField = expressions.read_field_same FurtherShared further_tells here.class here.object x
 read_e here x NoVariable = stop_e
 
 read_constant_e : (j : Sources) (e a : Name) (r : Referent) → E (read_constant j e a r) (read_constant j e a r)
@@ -45,7 +46,7 @@ read_constant_e j e a _ = stop_e
 
 member_e : (j : Sources) (here : Here Name) (locals : Row Name) (e : Expr) (f : Name) → E (member j here locals e f)
     (member j here locals e f)
-member_e j here locals (This p) f = expressions.read_field_same FurtherShared further_shares here.class here.object f
+member_e j here locals (This p) f = expressions.read_field_same FurtherShared further_tells here.class here.object f
 member_e j here locals (Variable p e) f = read_constant_e j e f (referent j here locals e)
 member_e j here locals _ f = stop_e
 
@@ -70,23 +71,23 @@ write_q here _ v = wrong_q
 text_call_e : (t : Value) (m : Name) (vs : List Value) → E (text_call t m vs) (text_call t m vs)
 text_call_e t m (w ∷ []) =
     if_alike FurtherShared further_shares.closed (bytes_eq m (text_method texts.Equals).name)
-    (expressions.equal_texts_same FurtherShared further_shares t w)
+    (expressions.equal_texts_same FurtherShared further_tells t w)
     (if_alike FurtherShared further_shares.closed (bytes_eq m (text_method texts.Concat).name)
-    (expressions.joined_texts_same FurtherShared further_shares t w) stop_e)
+    (expressions.joined_texts_same FurtherShared further_tells t w) stop_e)
 text_call_e t m _ = stop_e
 
 module _ (j : Sources) (inputs : Inputs) (low high : Lower) (b : FurtherBelow low high) (here : Here Name) where
   class_call_e : (c m : Name) (vs : List Value) → E (class_call j inputs low here c m vs) (class_call j inputs high here c m vs)
   class_call_e c m vs =
       if_alike FurtherShared further_shares.closed (bytes_eq c (codes "Session"))
-      (then_e (found_e (session_named m)) (λ call. expressions.session_same FurtherShared further_shares inputs call vs))
+      (then_e (found_e (session_named m)) (λ call. expressions.session_same FurtherShared further_tells inputs call vs))
       (b.call (c, m) None vs)
 
   value_call_e : (v : Value) (m : Name) (vs : List Value) → E (value_call j inputs low here v m vs) (value_call j inputs high here v m vs)
   value_call_e (values.Text t) m vs = valuing_e (text_call_e (values.Text t) m vs)
   value_call_e v m vs =
-      then_e (expressions.receiver_same FurtherShared further_shares v)
-      (λ o. then_e (expressions.object_same FurtherShared further_shares o) (λ i.
+      then_e (expressions.receiver_same FurtherShared further_tells v)
+      (λ o. then_e (expressions.object_same FurtherShared further_tells o) (λ i.
       expressions.telling_same FurtherShared further_shares o m (b.call (i.class, m) (Some o) vs)))
 
   member_call_e : (t : Target) (m : Name) {r r' : Run Shared Value} {args args' : Run Shared (List Value)} → E r r' → E args args' →
@@ -104,9 +105,9 @@ module _ (j : Sources) (inputs : Inputs) (low high : Lower) (b : FurtherBelow lo
     eval_e r (This p) = stop_e
     eval_e r (Variable p x) = valuing_e (read_e here x (referent j here r x))
     eval_e r (Member p e f) = valuing_e (member_e j here r e f)
-    eval_e r (Neg p e) = valuing_e (then_e (valued_e (eval_e r e)) (expressions.negative_same FurtherShared further_shares))
-    eval_e r (Not p e) = valuing_e (then_e (valued_e (eval_e r e)) (expressions.opposite_same FurtherShared further_shares))
-    eval_e r (Binary p op x y) = valuing_e (expressions.binary_same FurtherShared further_shares (operator_of op) (valued_e (eval_e r x))
+    eval_e r (Neg p e) = valuing_e (then_e (valued_e (eval_e r e)) (expressions.negative_same FurtherShared further_tells))
+    eval_e r (Not p e) = valuing_e (then_e (valued_e (eval_e r e)) (expressions.opposite_same FurtherShared further_tells))
+    eval_e r (Binary p op x y) = valuing_e (expressions.binary_same FurtherShared further_tells (operator_of op) (valued_e (eval_e r x))
         (valued_e (eval_e r y)))
     eval_e r (Call p m args) = then_e (args_e r args) (λ vs. b.call (here.class, m) (passed here.object (method_of j (here.class, m))) vs)
     eval_e r (MethodCall p e m args) = member_call_e (target_of j here r e) m (valued_e (eval_e r e)) (args_e r args)
@@ -121,7 +122,7 @@ module _ (j : Sources) (inputs : Inputs) (low high : Lower) (b : FurtherBelow lo
   value_q e = within_further (λ r. valued_e (eval_e r e))
 
   test_q : (e : Expr) → Q (test j inputs low here e) (test j inputs high here e)
-  test_q e = within_further (λ r. then_e (valued_e (eval_e r e)) (expressions.truth_same FurtherShared further_shares))
+  test_q e = within_further (λ r. then_e (valued_e (eval_e r e)) (expressions.truth_same FurtherShared further_tells))
 
   then_q : {A : Type 0} {m n : Run (Lives Name) A} {f g : A → Does Name} → Q m n → ((a : A) → FurtherDoes (f a) (g a)) → FurtherDoes
       (m >>= f) (n >>= g)
@@ -151,7 +152,7 @@ module _ (j : Sources) (inputs : Inputs) (low high : Lower) (b : FurtherBelow lo
     exec_q (Do p l s e) = do_alike (FurtherLives Name) lives_closed ◌≡◌ ◌≡◌ (mine l) (mine l) (mine l) (mine l) ◌≡◌ ◌≡◌
         (same_exits (mine l)) (same_exits (mine l)) (test_q e) (exec_q s) (b.turn here (Do p l s e))
     exec_q (Switch p e groups end) =
-        then_q (within_further (λ r. then_e (valued_e (eval_e r e)) (expressions.constant_same FurtherShared further_shares))) (λ v.
+        then_q (within_further (λ r. then_e (valued_e (eval_e r e)) (expressions.constant_same FurtherShared further_tells))) (λ v.
         then_q (within_further (λ r. found_e (enum_named j v.0))) (λ k.
         lives_closed.bind
         (if_q (has_group (case_label k v.1) groups) (from_q (case_label k v.1) groups) (from_q is_default groups))
@@ -161,7 +162,7 @@ module _ (j : Sources) (inputs : Inputs) (low high : Lower) (b : FurtherBelow lo
     exec_q (Return p None) = lives_closed.give refl
     exec_q (Return p (Some e)) = then_q (value_q e) (λ v. lives_closed.give refl)
     exec_q (Print p e) =
-        then_q (within_further (λ r. then_e (valued_e (eval_e r e)) (expressions.print_same FurtherShared further_shares)))
+        then_q (within_further (λ r. then_e (valued_e (eval_e r e)) (expressions.print_same FurtherShared further_tells)))
         (λ u. normal_q)
     exec_q (Eval p e) = then_q (within_further (λ r. eval_e r e)) (λ v. normal_q)
 

@@ -1,5 +1,5 @@
 -- What operators and names stand for: built-in methods, methods of classes, variables, enum constants, and what fields begin with.
-use Rattle.std.specs.Prelude.{Bool, true, false, List, [], ◌∷◌, map, Option, Some, None, pos, ◌&&◌, if◌then◌else◌, is_some, codes}
+use Rattle.std.specs.Prelude.{Bool, true, false, List, [], ◌∷◌, map, Option, Some, None, pos, ◌&&◌, if◌then◌else◌, is_some}
 use Rattle.std.specs.Prelude.{option_map, option_and_then}
 use Rattle.std.specs.List.{find as first}
 use Rattle.std.specs.Str.{bytes_eq}

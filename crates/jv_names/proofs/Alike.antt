@@ -5,6 +5,7 @@ use Rattle.jv_values.specs.Values.{Value, Row, Shared, Lives, Finish, Wrong}
 use Rattle.jv_values.specs.Doing.{Outcome, Gives, Ends, Run, and_then, ◌>>=◌, give, stop, found, valued, valuing, within, kept, declared}
 use Rattle.jv_values.specs.Doing.{uncovered}
 use Rattle.jv_values.specs.Alike.{Relation, Closed, Shares, Alike, SameEnd}
+use Rattle.jv_values.proofs.Expressions.{Tells, tells}
 use Rattle.jv_rules.specs.Scope.{Declared}
 use Rattle.jv_names.proofs.Rows.{Beside, more, below_top, Opt}
 
@@ -57,6 +58,9 @@ shares = record {
   objects = same_run _;
   with_objects = λ heap. same_run _;
 }
+
+pub tells_e : Tells E
+tells_e = tells shares
 
 -- where the core is Wrong, all goes
 pub wrong : {A A' : Type 0} {V : A → A' → Type 0} {n : Run Shared A'} → E A A' V (stop Wrong) n

@@ -30,7 +30,7 @@ use Rattle.jv_names.specs.Resolves.{Numbers, IsClass, IsEnum, IsMethod, IsSessio
 use Rattle.jv_names.specs.Resolves as resolves
 use Rattle.jv_names.proofs.Rows.{Beside, bytes_differ}
 use Rattle.jv_names.proofs.Tables.{aligned_at, class_name, text_is, enum_text_is, constant_is, fields_same, method_is}
-use Rattle.jv_names.proofs.Alike.{like_give, E, same_run, shares, Q}
+use Rattle.jv_names.proofs.Alike.{like_give, E, same_run, shares, tells_e, Q}
 use Rattle.jv_names.proofs.Variables.{Context, on_core, on_source, refers_to_none, variable_like, read_like, target_is}
 use Rattle.jv_names.proofs.Exits.{Breaks, GoesOn}
 
@@ -40,7 +40,7 @@ Equals {A} m n = E A A ◌≡◌ m n
 
 pub then_like : {A B : Type 0} {m n : Run Shared A} {f g : A → Run Shared B} → Equals m n → ((a : A) → Equals (f a) (g a)) → Equals
     (m >>= f) (n >>= g)
-then_like h k = same.then_same E shares h k
+then_like h k = same.then_same E tells_e h k
 
 -- one after another, grouped the other way
 grouped : {S A B C : Type 0} (o : Outcome S A) (f : A → Run S B) (g : B → Run S C) → and_then (and_then o f) g ≡ and_then o
@@ -146,7 +146,7 @@ module _ (program : Program) (core : Core.Program) (res : Resolves program core)
       by_value : (v : Value) → Equals (core_meaning.protocol_call core inputs low number (on_core c this) m v vs)
           (meant.value_call program.files inputs high (on_source scope.class.name this) v f vs)
       by_value (Text t) = record { by = λ s t st. inl refl }
-      by_value v = then_like (same.receiver_same E shares v) on_object
+      by_value v = then_like (same.receiver_same E tells_e v) on_object
 
   -- `equals` and `concat`
   equals_like : (v w : Value) → Equals (valuing (equal_texts v w))
@@ -271,15 +271,15 @@ module _ (program : Program) (core : Core.Program) (res : Resolves program core)
     eval_like resolves.text h = like_give ◌≡◌ refl
     eval_like resolves.null h = like_give ◌≡◌ refl
     eval_like (resolves.variable v) h = variable_like program core res inputs method number c this scope ns context low high v h
-    eval_like {r' = r'} (resolves.constant {e = e} {a = a} {k = k} {n = n} {i = i} away is at) h = same.valuing_same E shares
+    eval_like {r' = r'} (resolves.constant {e = e} {a = a} {k = k} {n = n} {i = i} away is at) h = same.valuing_same E tells_e
         (constant_like r' e a k n i h away is at)
-    eval_like (resolves.negative x) h = same.valuing_same E shares
-        (then_like (same.valued_same E shares (eval_like x h)) (same.negative_same E shares))
-    eval_like (resolves.opposite x) h = same.valuing_same E shares
-        (then_like (same.valued_same E shares (eval_like x h)) (same.opposite_same E shares))
+    eval_like (resolves.negative x) h = same.valuing_same E tells_e
+        (then_like (same.valued_same E tells_e (eval_like x h)) (same.negative_same E tells_e))
+    eval_like (resolves.opposite x) h = same.valuing_same E tells_e
+        (then_like (same.valued_same E tells_e (eval_like x h)) (same.opposite_same E tells_e))
     eval_like (resolves.binary {o = o} y z) h =
-        same.valuing_same E shares (same.binary_same E shares (operator_of o) (same.valued_same E shares (eval_like y h))
-        (same.valued_same E shares (eval_like z h)))
+        same.valuing_same E tells_e (same.binary_same E tells_e (operator_of o) (same.valued_same E tells_e (eval_like y h))
+        (same.valued_same E tells_e (eval_like z h)))
     eval_like (resolves.static {f = f} {m = m} {method = k} is st xs) h =
         then_like (args_like xs h) (λ vs. own_call f m k is None (no_object k.is_static st) vs)
     eval_like {r = r} {r' = r'}
@@ -307,14 +307,14 @@ module _ (program : Program) (core : Core.Program) (res : Resolves program core)
         at_target (meant.target_of program.files (on_source scope.class.name this) r' e) meant.OfValue (expr_target x h)
         (core_value r (Core.Equals p e' a')) (valued (source_value r' e)) (text_method texts.Equals).name
         (source_values r' (Source.Argument a Source.NoExpr))
-        (text_call_like equal_texts (text_method texts.Equals).name equals_like (same.valued_same E shares (eval_like x h))
-        (same.valued_same E shares (eval_like y h)))
+        (text_call_like equal_texts (text_method texts.Equals).name equals_like (same.valued_same E tells_e (eval_like x h))
+        (same.valued_same E tells_e (eval_like y h)))
     eval_like {r = r} {r' = r'} (resolves.concat {p = p} {e = e} {a = a} {e' = e'} {a' = a'} ty x y) h =
         at_target (meant.target_of program.files (on_source scope.class.name this) r' e) meant.OfValue (expr_target x h)
         (core_value r (Core.Concat p e' a')) (valued (source_value r' e)) (text_method texts.Concat).name
         (source_values r' (Source.Argument a Source.NoExpr))
-        (text_call_like joined_texts (text_method texts.Concat).name concat_like (same.valued_same E shares (eval_like x h))
-        (same.valued_same E shares (eval_like y h)))
+        (text_call_like joined_texts (text_method texts.Concat).name concat_like (same.valued_same E tells_e (eval_like x h))
+        (same.valued_same E tells_e (eval_like y h)))
     eval_like (resolves.new {c = d} {k = n} is) h = new_like d n is
 
     pub args_like : {es : Source.Exprs} {es' : Core.Exprs} {r : Row ℕ} {r' : Row Name} → IsExprs program core scope ns es es' →
@@ -322,5 +322,5 @@ module _ (program : Program) (core : Core.Program) (res : Resolves program core)
         Equals (core_meaning.eval_all core inputs low number (on_core c this) r es')
         (meant.eval_all program.files inputs high (on_source scope.class.name this) r' es)
     args_like resolves.no_args h = like_give ◌≡◌ refl
-    args_like (resolves.arg x xs) h = then_like (same.valued_same E shares (eval_like x h))
+    args_like (resolves.arg x xs) h = then_like (same.valued_same E tells_e (eval_like x h))
         (λ v. then_like (args_like xs h) (λ vs. like_give ◌≡◌ refl))

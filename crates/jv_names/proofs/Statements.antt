@@ -27,7 +27,7 @@ use Rattle.jv_core.specs.Meaning as core_meaning
 use Rattle.jv_names.specs.Resolves.{Numbers, with_slot, in_loop, in_switch, IsEnum, GivesEnum, IsExpr, IsStmt, IsStmts, IsGroups, Resolves}
 use Rattle.jv_names.specs.Resolves as resolves
 use Rattle.jv_names.proofs.Tables.{enum_text_is}
-use Rattle.jv_names.proofs.Alike.{like_give, like_bind, like_closed, E, shares, wrong, Living, Q, within_like, declared_like}
+use Rattle.jv_names.proofs.Alike.{like_give, like_bind, like_closed, E, tells_e, wrong, Living, Q, within_like, declared_like}
 use Rattle.jv_names.proofs.Variables.{Context, on_core, on_source, write_like}
 use Rattle.jv_names.proofs.Exits.{GoesOn, loop_breaks, loop_continues, switch_breaks, switch_continues, Tests, tests_case, tests_default}
 use Rattle.jv_names.proofs.Exits.{any_same}
@@ -79,22 +79,22 @@ module _ (program : Program) (core : Core.Program) (res : Resolves program core)
     value_like : {e : Source.Expr} {e' : Core.Expr} → IsExpr program core scope ns e e' →
         Gives scope ns (core_meaning.value core inputs low number (on_core c this) e')
         (meant.value program.files inputs high (on_source scope.class.name this) e)
-    value_like x = within_like scope.locals ns.slots (λ r r' h. same.valued_same E shares
+    value_like x = within_like scope.locals ns.slots (λ r r' h. same.valued_same E tells_e
         (eval_like program core res inputs low high b method number c this scope ns context x h))
 
     test_like : {e : Source.Expr} {e' : Core.Expr} → IsExpr program core scope ns e e' →
         Gives scope ns (core_meaning.test core inputs low number (on_core c this) e')
         (meant.test program.files inputs high (on_source scope.class.name this) e)
     test_like x = within_like scope.locals ns.slots (λ r r' h.
-        then_like (same.valued_same E shares (eval_like program core res inputs low high b method number c this scope ns context x h))
-        (same.truth_same E shares))
+        then_like (same.valued_same E tells_e (eval_like program core res inputs low high b method number c this scope ns context x h))
+        (same.truth_same E tells_e))
 
     print_like : {e : Source.Expr} {e' : Core.Expr} → IsExpr program core scope ns e e' →
         Gives scope ns (within (λ r. valued (core_meaning.eval core inputs low number (on_core c this) r e') >>= print))
         (within (λ r. valued (meant.eval program.files inputs high (on_source scope.class.name this) r e) >>= print))
     print_like x = within_like scope.locals ns.slots (λ r r' h.
-        then_like (same.valued_same E shares (eval_like program core res inputs low high b method number c this scope ns context x h))
-        (same.print_same E shares))
+        then_like (same.valued_same E tells_e (eval_like program core res inputs low high b method number c this scope ns context x h))
+        (same.print_same E tells_e))
 
     run_like : {e : Source.Expr} {e' : Core.Expr} → IsExpr program core scope ns e e' →
         Gives scope ns (within (λ r. core_meaning.eval core inputs low number (on_core c this) r e'))
@@ -111,8 +111,8 @@ module _ (program : Program) (core : Core.Program) (res : Resolves program core)
         Q scope.locals ns.slots ℕ (Name × ℕ) (Chosen of) (core_meaning.position core inputs low number (on_core c this) e')
         (within (λ r. valued (meant.eval program.files inputs high (on_source scope.class.name this) r e) >>= constant))
     position_like of n enum {e} {e'} x is gives = within_like scope.locals ns.slots (λ r r' h.
-        given_back _ _ (like_bind ◌≡◌ (then_like (same.valued_same E shares
-        (eval_like program core res inputs low high b method number c this scope ns context x h)) (same.constant_same E shares))
+        given_back _ _ (like_bind ◌≡◌ (then_like (same.valued_same E tells_e
+        (eval_like program core res inputs low high b method number c this scope ns context x h)) (same.constant_same E tells_e))
         (λ v w e. tested v w e)))
       where
         given : core_meaning.enum_given core number e' ≡ Some of

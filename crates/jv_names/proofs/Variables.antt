@@ -28,7 +28,7 @@ use Rattle.jv_core.specs.Meaning as core_meaning
 use Rattle.jv_names.specs.Resolves.{Numbers, IsOwnField, IsVar, a_local, a_field, own, ClassIs, Resolves}
 use Rattle.jv_names.proofs.Rows.{Beside, find_is, Puts, put_is, find_absent, put_absent}
 use Rattle.jv_names.proofs.Tables.{found_passes, aligned_at, none_some, text_is}
-use Rattle.jv_names.proofs.Alike.{like_give, like_closed, E, same_run, shares, unvalued, Living, Q, within_like}
+use Rattle.jv_names.proofs.Alike.{like_give, like_closed, E, same_run, tells_e, unvalued, Living, Q, within_like}
 
 abbrev pub on_core : ℕ → Option ℕ → Here ℕ
 on_core c this = record { class = c; object = this }
@@ -157,9 +157,9 @@ module _ (program : Program) (core : Core.Program) (res : Resolves program core)
         Beside scope.locals ns.slots r r' →
         E (Option Value) (Option Value) ◌≡◌ (valuing (core_meaning.read core inputs low number (on_core c this) r v))
         (meant.eval program.files inputs high source r' e)
-    variable_like high (a_local {p = p} w) h = same.valuing_same E shares (raw_like (a_local {p = p} w) h)
-    variable_like high (a_field {p = p} away is) h = same.valuing_same E shares (raw_like (a_field {p = p} away is) h)
-    variable_like high (own {p = p} {q = q} is) h = same.valuing_same E shares (raw_like (own {p = p} {q = q} is) h)
+    variable_like high (a_local {p = p} w) h = same.valuing_same E tells_e (raw_like (a_local {p = p} w) h)
+    variable_like high (a_field {p = p} away is) h = same.valuing_same E tells_e (raw_like (a_field {p = p} away is) h)
+    variable_like high (own {p = p} {q = q} is) h = same.valuing_same E tells_e (raw_like (own {p = p} {q = q} is) h)
 
     -- and as a value
     pub read_like : (high : meant.Lower) {e : Source.Expr} {v : Var} {r : Row ℕ} {r' : Row Name} → IsVar program core scope ns e v →

@@ -78,8 +78,7 @@ pub(crate) fn resolve_operand(
         (expr_of expr.now)) }
 {
     let value = resolve_expr(scope, locals, expr)?;
-    let boxed = as_operand(scope.alloc, value)?;
-    Ok(boxed)
+    Ok(as_operand(scope.alloc, value)?)
 }
 
 // Arguments.

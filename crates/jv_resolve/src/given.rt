@@ -81,8 +81,7 @@ pub(crate) fn stmt_at(place: Place, kind: CoreStmtKind) -> CoreStmt
 pub(crate) fn boxed(alloc: Global, expr: CoreExpr) -> Result<Box<CoreExpr>, Memory>
     ensures { IfOk result (λ b. b.value ≡ expr) }
 {
-    let expr = Box::new(alloc, expr)?;
-    Ok(expr)
+    Ok(Box::new(alloc, expr)?)
 }
 
 /// An expression in a box, with its type.
@@ -100,6 +99,5 @@ pub(crate) fn as_operand(alloc: Global, value: Resolved) -> Result<Operand, Memo
 pub(crate) fn boxed_stmt(alloc: Global, stmt: CoreStmt) -> Result<Box<CoreStmt>, Memory>
     ensures { IfOk result (λ b. b.value ≡ stmt) }
 {
-    let stmt = Box::new(alloc, stmt)?;
-    Ok(stmt)
+    Ok(Box::new(alloc, stmt)?)
 }

@@ -150,8 +150,7 @@ fn resolve_inner<'a>(
     ensures locals { OnOk result (body.new.locals ≡ body.old.locals) }
 {
     let resolved = resolve_stmt(scope, around, body, stmt)?;
-    let boxed = boxed_stmt(scope.alloc, resolved)?;
-    Ok(boxed)
+    Ok(boxed_stmt(scope.alloc, resolved)?)
 }
 
 // The groups of a switch over an enum. A local's scope ends with its group.

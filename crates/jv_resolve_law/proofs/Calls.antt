@@ -1,10 +1,8 @@
 -- What calls name: methods of a class, of the session and of texts, with the types that they give.
-use Rattle.std.proofs.Common.{◌≡◌, ◌⊎◌, inl, inr, Bool, true, false, List, [], ◌∷◌, Option, Some, None, option_map, refl, sym, ap, ◌∙◌}
+use Rattle.std.proofs.Common.{◌≡◌, ◌⊎◌, inl, inr, Bool, true, false, Option, Some, None, option_map, refl, sym, ap, ◌∙◌}
 use Rattle.std.proofs.Common.{subst}
 use Rattle.std.specs.Prelude.{codes, if◌then◌else◌}
-use Rattle.std.specs.List.{AllByRecursion}
 use Rattle.std.specs.Str.{bytes_eq}
-use Rattle.std.proofs.lemmas.Slice.Eq.{bytes_eq-Decides}
 use Rattle.mg_text.specs.Call.{Name}
 use Rattle.jv_tree.specs.declared.built_in.PlainType.{PlainType}
 use Rattle.jv_tree.specs.declared.built_in.PlainType.TheVariants as plain
@@ -14,7 +12,7 @@ use Rattle.jv_core.specs.Types.{plain_type as core_plain}
 use Rattle.jv_tree.specs.Source
 use Rattle.jv_meaning.specs.Program.{class_named, method_named}
 use Rattle.jv_rules.specs.Program.{Program, is_of_protocol}
-use Rattle.jv_rules.specs.Types.{ValueType, NoValue, IntType, BooleanType, TextType, ClassType, Signature, signature_of, meant}
+use Rattle.jv_rules.specs.Types.{ValueType, ClassType, Signature, signature_of, meant}
 use Rattle.jv_rules.specs.Scope.{Scope}
 use Rattle.jv_rules.specs.Typing.{called, called_on_this, called_on_class, called_on_value, static_of, own_instance, own_method}
 use Rattle.jv_rules.specs.Typing.{protocol_method, built_in, session_methods, plain_type, plain_signature}
@@ -23,8 +21,6 @@ use Rattle.jv_tree.specs.declared.built_in.SessionCall.{SessionCall}
 use Rattle.jv_core.specs.Types.{session_result}
 use Rattle.jv_core.specs.Tree as Core
 use Rattle.jv_names.specs.Resolves.{IsSession}
-use Rattle.jv_names.specs.Resolves as is
-use Rattle.jv_names.proofs.Tables.{some_is, none_some}
 use Rattle.jv_resolve_law.specs.Expressions.{Of}
 use Rattle.jv_resolve_law.proofs.Given.{IsGiven, no_value, int_given, boolean_given, text_given}
 

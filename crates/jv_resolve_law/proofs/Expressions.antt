@@ -17,7 +17,7 @@ use Rattle.jv_rules.specs.Program.{Program}
 use Rattle.jv_rules.specs.Types.{ValueType, IntType, BooleanType, TextType, EnumType, ClassType, NullType, meant}
 use Rattle.jv_rules.specs.Scope.{Scope, variable_type}
 use Rattle.jv_rules.specs.Typing.{type_of, operator_type, constant_type, called, called_on, called_on_this, called_on_class}
-use Rattle.jv_rules.specs.Typing.{called_on_value, built_in, session_methods, text_methods}
+use Rattle.jv_rules.specs.Typing.{called_on_value, built_in, text_methods}
 use Rattle.jv_rules.specs.Typing as typing
 use Rattle.jv_rules.specs.Spots.{Value, AtNode, nodes, nodes_in}
 use Rattle.jv_tree.specs.declared.built_in.TextCall.{TextCall}

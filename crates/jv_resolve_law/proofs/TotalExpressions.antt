@@ -1,7 +1,7 @@
 -- Clean expressions are resolved.
-use Rattle.std.proofs.Common.{◌≡◌, ◌≢◌, ℕ, suc, Bool, true, false, cond, true≢false, List, [], ◌∷◌, ◌++◌, map, length, Option, Some, None}
+use Rattle.std.proofs.Common.{◌≡◌, ◌≢◌, ℕ, suc, Bool, true, false, true≢false, List, [], ◌∷◌, ◌++◌, length, Option, Some, None}
 use Rattle.std.proofs.Common.{option_map, slice_get, refl, sym, ap, ◌∙◌, subst, arith}
-use Rattle.std.specs.Prelude.{codes, find, if◌then◌else◌}
+use Rattle.std.specs.Prelude.{codes, if◌then◌else◌}
 use Rattle.std.specs.List.{list_any}
 use Rattle.std.specs.Str.{bytes_eq}
 use Rattle.mg_text.specs.Call.{Name}
@@ -18,9 +18,9 @@ use Rattle.jv_tree.specs.Source
 use Rattle.jv_tree.specs.Source.{place_of}
 use Rattle.jv_meaning.specs.Program.{class_named, enum_named, method_named, constant_position}
 use Rattle.jv_rules.specs.Program.{Program, is_of_protocol}
-use Rattle.jv_rules.specs.Types.{ValueType, BooleanType, TextType, EnumType, ClassType, Signature, signature_of, meant as meant_type}
+use Rattle.jv_rules.specs.Types.{ValueType, EnumType, ClassType, Signature, signature_of, meant as meant_type}
 use Rattle.jv_rules.specs.Scope.{Scope, variable_type, field_type, is_variable}
-use Rattle.jv_rules.specs.Typing.{type_of, takes_and_gives, constant_type, called, called_on, called_on_this, called_on_class}
+use Rattle.jv_rules.specs.Typing.{type_of, constant_type, called, called_on, called_on_this, called_on_class}
 use Rattle.jv_rules.specs.Typing.{called_on_value, own_instance, own_method, static_of, protocol_method, built_in, session_methods}
 use Rattle.jv_rules.specs.Typing.{text_methods}
 use Rattle.jv_rules.specs.Spots.{Value, AtNode, nodes, nodes_in}
@@ -33,7 +33,6 @@ use Rattle.jv_core.specs.declared.tree.Var.TheVariants as vars
 use Rattle.jv_core.specs.declared.tree.CoreVar.{CoreVar}
 use Rattle.jv_core.specs.Tree as Core
 use Rattle.jv_core.specs.View.{exprs_of}
-use Rattle.jv_core.specs.declared.program.CoreType.TheVariants as types
 use Rattle.std.proofs.lemmas.Bool.Decides.{nat_tests}
 use Rattle.jv_names.specs.Resolves.{Owned, methods_of, IsClass, IsExpr, IsExprs}
 use Rattle.jv_names.specs.Resolves as is

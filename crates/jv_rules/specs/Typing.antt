@@ -1,5 +1,5 @@
 -- The types of expressions. They know nothing of faults: an expression at fault may have a type, too.
-use Rattle.std.specs.Prelude.{List, [], ◌∷◌, Option, Some, None, map, option_map, Bool, true, false, if◌then◌else◌, codes}
+use Rattle.std.specs.Prelude.{List, Option, Some, None, map, option_map, Bool, true, false, if◌then◌else◌, codes}
 use Rattle.std.specs.List.{find, list_any}
 use Rattle.std.specs.Str.{bytes_eq}
 use Rattle.mg_text.specs.Call.{Name}

@@ -10,7 +10,8 @@ use Rattle.jv_values.specs.Further.{FurtherShared, FurtherLives, FurtherDoes, Fu
 use Rattle.jv_values.proofs.Combine.{if_alike, next_alike, switch_alike, while_alike, do_alike}
 use Rattle.jv_values.proofs.Combine as combine
 use Rattle.jv_values.proofs.Expressions as expressions
-use Rattle.jv_values.proofs.Further.{further_shares, lives_closed, within_further, declared_further, assigned_further, same_exits}
+use Rattle.jv_values.proofs.Further.{further_shares, further_tells}
+use Rattle.jv_values.proofs.Further.{lives_closed, within_further, declared_further, assigned_further, same_exits}
 use Rattle.jv_values.proofs.Further as further
 use Rattle.jv_values.proofs.FurtherSteps.{E, then_e, give_e, stop_e, found_e, valued_e, valuing_e}
 use Rattle.jv_core.specs.declared.tree.Var.{Var}
@@ -41,7 +42,7 @@ module _ (p : Program) (inputs : Inputs) (low high : Lower) (b : FurtherBelow lo
   read_e : (r : Row ℕ) (x : Var) → E (read p inputs low n here r x) (read p inputs high n here r x)
   read_e r (vars.Slot k) = found_e (find nat_eq k r)
   read_e r (vars.Field f) =
-      then_e (own_field_e f) (λ names. expressions.read_field_same FurtherShared further_shares names.0 here.object names.1)
+      then_e (own_field_e f) (λ names. expressions.read_field_same FurtherShared further_tells names.0 here.object names.1)
 
   write_q : (x : Var) (v : Value) → FurtherDoes (write p inputs low n here x v) (write p inputs high n here x v)
   write_q (vars.Slot k) v = assigned_further (λ s. put nat_eq k v s.locals) wrong_q
@@ -53,10 +54,10 @@ module _ (p : Program) (inputs : Inputs) (low high : Lower) (b : FurtherBelow lo
   protocol_call_e : (m : ℕ) (v : Value) (vs : List Value) → E (protocol_call p inputs low n here m v vs)
       (protocol_call p inputs high n here m v vs)
   protocol_call_e m v vs =
-      then_e (expressions.receiver_same FurtherShared further_shares v) (λ o.
+      then_e (expressions.receiver_same FurtherShared further_tells v) (λ o.
       then_e (found_e (slice_get p.methods m)) (λ k.
       then_e (found_e (class_text p k.class)) (λ c.
-      then_e (expressions.object_of_same FurtherShared further_shares c o) (λ i.
+      then_e (expressions.object_of_same FurtherShared further_tells c o) (λ i.
       expressions.telling_same FurtherShared further_shares o (text_at p k.name) (b.call m (Some o) vs)))))
 
   mutual
@@ -67,18 +68,18 @@ module _ (p : Program) (inputs : Inputs) (low high : Lower) (b : FurtherBelow lo
     eval_e r (Null q) = give_e (Some values.Null)
     eval_e r (Variable q x) = valuing_e (read_e r x)
     eval_e r (Constant q e k) = valuing_e (then_e (found_e (enum_text p e)) (λ name. give_e (values.Constant name k)))
-    eval_e r (Neg q e) = valuing_e (then_e (valued_e (eval_e r e)) (expressions.negative_same FurtherShared further_shares))
-    eval_e r (Not q e) = valuing_e (then_e (valued_e (eval_e r e)) (expressions.opposite_same FurtherShared further_shares))
-    eval_e r (Binary q op x y) = valuing_e (expressions.binary_same FurtherShared further_shares (operator_of op) (valued_e (eval_e r x))
+    eval_e r (Neg q e) = valuing_e (then_e (valued_e (eval_e r e)) (expressions.negative_same FurtherShared further_tells))
+    eval_e r (Not q e) = valuing_e (then_e (valued_e (eval_e r e)) (expressions.opposite_same FurtherShared further_tells))
+    eval_e r (Binary q op x y) = valuing_e (expressions.binary_same FurtherShared further_tells (operator_of op) (valued_e (eval_e r x))
         (valued_e (eval_e r y)))
     eval_e r (Protocol q x m args) = then_e (read_e r x.var) (λ v. then_e (args_e r args) (λ vs. protocol_call_e m v vs))
     eval_e r (Helper q m args) = then_e (args_e r args) (λ vs. b.call m here.object vs)
     eval_e r (Static q m args) = then_e (args_e r args) (λ vs. b.call m None vs)
     eval_e r (Equals q x y) = valuing_e (then_e (valued_e (eval_e r x)) (λ v. then_e (valued_e (eval_e r y)) (λ w.
-        expressions.equal_texts_same FurtherShared further_shares v w)))
+        expressions.equal_texts_same FurtherShared further_tells v w)))
     eval_e r (Concat q x y) = valuing_e (then_e (valued_e (eval_e r x)) (λ v. then_e (valued_e (eval_e r y)) (λ w.
-        expressions.joined_texts_same FurtherShared further_shares v w)))
-    eval_e r (Session q c args) = then_e (args_e r args) (λ vs. expressions.session_same FurtherShared further_shares inputs
+        expressions.joined_texts_same FurtherShared further_tells v w)))
+    eval_e r (Session q c args) = then_e (args_e r args) (λ vs. expressions.session_same FurtherShared further_tells inputs
         c vs)
     eval_e r (New q c) = then_e (found_e (slice_get p.classes c)) (λ k. then_e (found_e (new_fields p k.fields)) (λ row.
         valuing_e (expressions.make_same FurtherShared further_shares (record { class = text_at p k.name; fields = row }))))
@@ -91,11 +92,11 @@ module _ (p : Program) (inputs : Inputs) (low high : Lower) (b : FurtherBelow lo
   value_q e = within_further (λ r. valued_e (eval_e r e))
 
   test_q : (e : Expr) → Q (test p inputs low n here e) (test p inputs high n here e)
-  test_q e = within_further (λ r. then_e (valued_e (eval_e r e)) (expressions.truth_same FurtherShared further_shares))
+  test_q e = within_further (λ r. then_e (valued_e (eval_e r e)) (expressions.truth_same FurtherShared further_tells))
 
   position_q : (e : Expr) → Q (position p inputs low n here e) (position p inputs high n here e)
   position_q e = within_further (λ r.
-      then_e (then_e (valued_e (eval_e r e)) (expressions.constant_same FurtherShared further_shares)) (λ v.
+      then_e (then_e (valued_e (eval_e r e)) (expressions.constant_same FurtherShared further_tells)) (λ v.
       then_e (found_e (enum_given p n e)) (λ name.
       if_alike FurtherShared further_shares.closed (bytes_eq v.0 name) (give_e v.1) stop_e)))
 
@@ -135,7 +136,7 @@ module _ (p : Program) (inputs : Inputs) (low high : Lower) (b : FurtherBelow lo
     exec_q (Return q None) = lives_closed.give refl
     exec_q (Return q (Some e)) = then_q (value_q e) (λ v. lives_closed.give refl)
     exec_q (Print q e) =
-        then_q (within_further (λ r. then_e (valued_e (eval_e r e)) (expressions.print_same FurtherShared further_shares)))
+        then_q (within_further (λ r. then_e (valued_e (eval_e r e)) (expressions.print_same FurtherShared further_tells)))
         (λ u. normal_q)
     exec_q (Eval q e) = then_q (within_further (λ r. eval_e r e)) (λ v. normal_q)
 

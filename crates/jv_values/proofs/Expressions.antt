@@ -4,13 +4,14 @@ use Rattle.std.proofs.Common.{◌≡◌, ℕ, Bool, true, false, List, [], ◌�
 use Rattle.std.specs.Prelude.{ℤ, pos, ◌+ℤ◌, ◌-ℤ◌, ◌*ℤ◌, neg_ℤ, int_div, int_rem, nat_eq, slice_get, slice_set, if◌then◌else◌, not}
 use Rattle.std.specs.Str.{bytes_eq}
 use Rattle.mg_text.specs.Call.{Name}
+use Rattle.mg_text.specs.declared.event.Event.{Event}
 use Rattle.mg_text.specs.declared.event.Event.TheVariants as seen
 use Rattle.mg_text.specs.declared.event.Carried.{Carried}
 use Rattle.mg_text.specs.declared.event.Carried.TheVariants as carried
 use Rattle.jv_values.specs.Values.{Value, Int, Truth, Text, Object, Constant, Instance, Inputs, Finish, Wrong, Zero, Mismatch, NoPeer, Wait}
 use Rattle.jv_values.specs.Values.{Shared, find, put}
 use Rattle.jv_values.specs.Values as values
-use Rattle.jv_values.specs.Doing.{Run, ◌>>=◌, give, stop, found, valued, valuing, number, truth, text, constant}
+use Rattle.jv_values.specs.Doing.{Run, ◌>>=◌, give, stop, note, happened, objects, found, valued, valuing, number, truth, text, constant}
 use Rattle.jv_values.specs.Operators.{Operator, wrap, Or, And, Equal, Unequal, Less, AtMost, Greater, AtLeast, Plus, Minus, Times, Divide}
 use Rattle.jv_values.specs.Operators.{Remain, int_same, nonzero, shown, joined, sum, computed, compared, same, unless_decided, both}
 use Rattle.jv_values.specs.Operators.{applied, binary, negative, opposite, equal_texts, joined_texts, print}
@@ -20,10 +21,33 @@ use Rattle.jv_tree.specs.declared.built_in.SessionCall.TheVariants.{Send, SendIn
 use Rattle.jv_tree.specs.declared.built_in.SessionCall.TheVariants.{Take, TakeInt, TakeBoolean, TakeString}
 use Rattle.jv_values.specs.Messages.{messages_of, taken, there_or, peer, next_message, sends, looks, nothing_in, int_in, truth_in, text_in}
 use Rattle.jv_values.specs.Messages.{takes, refuses, session}
-use Rattle.jv_values.specs.Alike.{Relation, Shares}
+use Rattle.jv_values.specs.Alike.{Relation, Closed, Shares}
 use Rattle.jv_values.proofs.Combine.{bind_same, if_alike}
 
-module _ (R : Relation Shared Shared) (h : Shares R) where
+-- What most of them go through: all but the making of objects, the change of their fields, and calls that are told.
+pub record Tells (R : Relation Shared Shared) : Type 1 where
+  pub closed : Closed R
+  pub stop : {A A' : Type 0} {V : A → A' → Type 0} (f : Finish) → R A A' V (stop f) (stop f)
+  pub happened : R (List Event) (List Event) ◌≡◌ happened happened
+  pub objects : R (List Instance) (List Instance) ◌≡◌ objects objects
+  pub on_print : (t : List ℕ) → R (Unit {0}) (Unit {0}) ◌≡◌ (note (seen.Print t)) (note (seen.Print t))
+  pub on_send : (q l : Name) (payload : Carried) → R (Unit {0}) (Unit {0}) ◌≡◌ (note (seen.Send q l payload)) (note (seen.Send q l payload))
+  pub on_look : (q l : Name) → R (Unit {0}) (Unit {0}) ◌≡◌ (note (seen.Look q l)) (note (seen.Look q l))
+  pub on_take : (q l : Name) (payload : Carried) → R (Unit {0}) (Unit {0}) ◌≡◌ (note (seen.Take q l payload)) (note (seen.Take q l payload))
+
+pub tells : {R : Relation Shared Shared} → Shares R → Tells R
+tells h = record {
+  closed = h.closed;
+  stop = h.stop;
+  happened = h.happened;
+  objects = h.objects;
+  on_print = λ t. h.note (seen.Print t);
+  on_send = λ q l payload. h.note (seen.Send q l payload);
+  on_look = λ q l. h.note (seen.Look q l);
+  on_take = λ q l payload. h.note (seen.Take q l payload);
+}
+
+module _ (R : Relation Shared Shared) (h : Tells R) where
   -- runs that give the same
   abbrev Equals : {A : Type 0} → Run Shared A → Run Shared A → Type 0
   Equals {A} m n = R A A ◌≡◌ m n
@@ -150,7 +174,7 @@ module _ (R : Relation Shared Shared) (h : Shares R) where
   joined_texts_same v w = then_same (text_same v) (λ s. then_same (text_same w) (λ t. give_same (Text (s ++ t))))
 
   pub print_same : (v : Value) → Same (print v)
-  print_same v = then_same (found_same (shown v)) (λ t. h.note (seen.Print t))
+  print_same v = then_same (found_same (shown v)) (λ t. h.on_print t)
 
   -- Objects.
 
@@ -164,20 +188,6 @@ module _ (R : Relation Shared Shared) (h : Shares R) where
   read_field_same c this x = then_same (found_same this) (λ o. then_same (object_of_same c o)
       (λ i. found_same (find bytes_eq x i.fields)))
 
-  pub write_field_same : (c : Name) (this : Option ℕ) (x : Name) (v : Value) → Same (write_field c this x v)
-  write_field_same c this x v = then_same (found_same this) (λ o. then_same (object_of_same c o) (λ i.
-      then_same (found_same (put bytes_eq x v i.fields)) (λ row. then_same h.objects
-      (λ heap. h.with_objects (slice_set heap o (record i { fields = row }))))))
-
-  pub make_same : (i : Instance) → Same (make i)
-  make_same i = then_same h.objects (λ heap. then_same (h.with_objects (heap ++ i ∷ [])) (λ u.
-      then_same (h.note (seen.Made (length heap) i.class)) (λ u. give_same (Object (length heap)))))
-
-  pub telling_same : (o : ℕ) (m : Name) {call call' : Run Shared (Option Value)} → Equals call call' → Equals (telling o m call)
-      (telling o m call')
-  telling_same o m e = then_same (h.note (seen.Enter o m)) (λ u. then_same e
-      (λ r. then_same (h.note (seen.Leave o (answer_of r))) (λ u. give_same r)))
-
   -- Messages.
 
   peer_same : (inputs : Inputs) (q : Name) → Same (peer inputs q)
@@ -188,16 +198,16 @@ module _ (R : Relation Shared Shared) (h : Shares R) where
       (λ ms. then_same h.happened (λ events. there_or_same (Wait q) (slice_get ms (taken q events))))
 
   sends_same : (inputs : Inputs) (q l : Name) (payload : Carried) → Same (sends inputs q l payload)
-  sends_same inputs q l payload = then_same (peer_same inputs q) (λ ms. then_same (h.note (seen.Send q l payload)) (λ u. give_same None))
+  sends_same inputs q l payload = then_same (peer_same inputs q) (λ ms. then_same (h.on_send q l payload) (λ u. give_same None))
 
   looks_same : (inputs : Inputs) (q : Name) → Same (looks inputs q)
   looks_same inputs q = then_same (next_message_same inputs q)
-      (λ m. then_same (h.note (seen.Look q m.label)) (λ u. give_same (Some (Text m.label))))
+      (λ m. then_same (h.on_look q m.label) (λ u. give_same (Some (Text m.label))))
 
   takes_same : (inputs : Inputs) (f : Carried → Option (Option Value)) (q l : Name) → Same (takes inputs f q l)
   takes_same inputs f q l = then_same (next_message_same inputs q) (λ m.
       then_same (there_or_same (Mismatch q m.label) (if bytes_eq m.label l then f m.payload else None))
-      (λ r. then_same (h.note (seen.Take q m.label m.payload)) (λ u. give_same r)))
+      (λ r. then_same (h.on_take q m.label m.payload) (λ u. give_same r)))
 
   refuses_same : (inputs : Inputs) (q f : Name) → Same (refuses inputs q f)
   refuses_same inputs q f = then_same (peer_same inputs q) (λ ms. stop_same (Mismatch q f))
@@ -219,3 +229,26 @@ module _ (R : Relation Shared Shared) (h : Shares R) where
   session_same i TakeString (q ∷ l ∷ []) = texts_same q l _ (λ q l. takes_same i text_in q l)
   session_same i Refuse (q ∷ f ∷ []) = texts_same q f _ (λ q f. refuses_same i q f)
   session_same i _ _ = stop_same Wrong
+
+-- The others.
+
+module _ (R : Relation Shared Shared) (h : Shares R) where
+  pub write_field_same : (c : Name) (this : Option ℕ) (x : Name) (v : Value) → Same R (tells h) (write_field c this x v)
+  write_field_same c this x v =
+      let t : Tells R = tells h in
+      then_same R t (found_same R t this) (λ o. then_same R t (object_of_same R t c o) (λ i.
+      then_same R t (found_same R t (put bytes_eq x v i.fields)) (λ row. then_same R t h.objects
+      (λ heap. h.with_objects (slice_set heap o (record i { fields = row }))))))
+
+  pub make_same : (i : Instance) → Same R (tells h) (make i)
+  make_same i =
+      let t : Tells R = tells h in
+      then_same R t h.objects (λ heap. then_same R t (h.with_objects (heap ++ i ∷ [])) (λ u.
+      then_same R t (h.note (seen.Made (length heap) i.class)) (λ u. give_same R t (Object (length heap)))))
+
+  pub telling_same : (o : ℕ) (m : Name) {call call' : Run Shared (Option Value)} → Equals R (tells h) call call' →
+      Equals R (tells h) (telling o m call) (telling o m call')
+  telling_same o m e =
+      let t : Tells R = tells h in
+      then_same R t (h.note (seen.Enter o m)) (λ u. then_same R t e
+      (λ r. then_same R t (h.note (seen.Leave o (answer_of r))) (λ u. give_same R t r)))

@@ -11,7 +11,7 @@ use Rattle.jv_values.specs.Alike.{Closed, Shares, Alike, Meet, Completes, Furthe
 use Rattle.jv_values.specs.Further.{Onward, Further, FurtherShared, FurtherLives, FurtherCall, FurtherDoes, FurtherBelow, IsMonotone}
 use Rattle.jv_values.specs.Further.{BudgetLaw}
 use Rattle.jv_values.proofs.Combine.{if_alike}
-use Rattle.jv_values.proofs.Expressions.{found_same, then_same}
+use Rattle.jv_values.proofs.Expressions.{Tells, tells, found_same, then_same}
 
 same_events : (a : List Event) → Prefix a a
 same_events a = record { later = []; is = sym (append_nil a) }
@@ -86,6 +86,9 @@ further_shares = record {
   objects = record { by = λ s. (refl, refl); on = λ s. (same_events s.events, (s.heap, refl)) };
   with_objects = λ heap. record { by = λ s. (refl, refl); on = λ s. (same_events s.events, (tt, refl)) };
 }
+
+pub further_tells : Tells FurtherShared
+further_tells = tells further_shares
 
 -- Statements.
 
@@ -204,8 +207,8 @@ module _ {K : Type 0} where
   pub called_further : {T : Type 0} (f g : Here K → T → Does K) → ((here : Here K) (t : T) → FurtherDoes (f here t) (g here t)) →
       (m : Option (Method K T)) (this : Option ℕ) (vs : List Value) → FurtherCall (called f m this vs) (called g m this vs)
   called_further f g h m this vs =
-      then_same FurtherShared further_shares (found_same FurtherShared further_shares m) (λ k.
-      then_same FurtherShared further_shares (found_same FurtherShared further_shares (bound k.params vs [])) (λ r.
+      then_same FurtherShared further_tells (found_same FurtherShared further_tells m) (λ k.
+      then_same FurtherShared further_tells (found_same FurtherShared further_tells (bound k.params vs [])) (λ r.
       if_alike FurtherShared further_shares.closed (suits k.on_object this)
       (body_further k.has_result r (h (record { class = k.class; object = this }) k.body)) (halted Wrong)))
 

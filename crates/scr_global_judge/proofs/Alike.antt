@@ -16,8 +16,8 @@ use Rattle.scr_judge.proofs.Quiet as quiet
 use Rattle.scr_global.specs.Tree.{Statements, Nothing, Says, Choice, Rec, Continue, Branches, NoBranch, Branch}
 use Rattle.scr_global.specs.Spots.{Past, Opens, Enters, Way, Spot, spot, head_place, falls, passes, Quietly, opened, opening, entering}
 use Rattle.scr_global.specs.Spots as global_spots
-use Rattle.scr_global.specs.Conditions.{UnknownRec, DuplicateRec, Unguarded, Unreachable, HasEmpty, BeginsOtherwise, EmptyBranch}
-use Rattle.scr_global.specs.Conditions.{OtherStart, BranchStart, AllBetween, MixedChoice, SameLabel}
+use Rattle.scr_global.specs.Conditions.{UnknownRec, DuplicateRec, Unguarded, Unreachable, HasEmpty, EmptyBranch}
+use Rattle.scr_global.specs.Conditions.{first_label, OtherStart, BranchStart, AllBetween, MixedChoice, SameLabel}
 use Rattle.scr_global.proofs.Names.{first_or_later, none_contained, first_in, later_in}
 use Rattle.scr_global_judge.specs.inner.Outline.{way_of, outlined, outlined_each}
 use Rattle.scr_global_judge.proofs.Pairs.{nobody, Like, start, past, opens, enters, beginning, Paired, pair, SameAt}
@@ -186,12 +186,13 @@ empty_from : (at : Name) (bs : Branches) → says.HasEmpty (outlined_each at bs)
 empty_from at NoBranch h = h
 empty_from at (Branch b more) h = ⊎_elim (λ e. inl (nothing_from (Some at) b e)) (λ k. inr (empty_from at more k)) h
 
-otherwise : (begins : Option Name) (s : Statements) → Both (BeginsOtherwise s) (says.BeginsOtherwise (outlined begins s))
-otherwise begins Nothing = neither
-otherwise begins (Says m rest) = neither
-otherwise begins (Choice place at branches rest) = ((λ x. x), (λ x. x))
-otherwise begins (Rec place name body rest) = ((λ x. x), (λ x. x))
-otherwise begins (Continue place name rest) = ((λ x. x), (λ x. x))
+otherwise : (begins : Option Name) (s : Statements) (place : Place) → head_place s ≡ Some place →
+    Both (first_label s ≡ None) (says.BeginsOtherwise (outlined begins s))
+otherwise begins Nothing p e = absurd cc
+otherwise begins (Says m rest) p e = ((λ n. absurd cc), (λ h. absurd h))
+otherwise begins (Choice place at branches rest) p e = ((λ n. tt), (λ h. refl))
+otherwise begins (Rec place name body rest) p e = ((λ n. tt), (λ h. refl))
+otherwise begins (Continue place name rest) p e = ((λ n. tt), (λ h. refl))
 
 empties : (begins : Option Name) (s : Statements) (c : Culprit) → Both (EmptyBranch s c) (says.EmptyBranch (outlined begins s) c)
 empties begins Nothing c = neither
@@ -206,8 +207,8 @@ others s start c = neither
 others s (past u t f p l) c = neither
 others s (opens name l) c = neither
 others s (enters at earlier before e l) c = (
-  (λ h. (h.0, sym (head_is (Some at) s) ∙ h.1, h.2, (otherwise (Some at) s).0 h.3)),
-  (λ h. (h.0, head_is (Some at) s ∙ h.1, h.2, (otherwise (Some at) s).1 h.3)),
+  (λ h. (h.0, sym (head_is (Some at) s) ∙ h.1, h.2, (otherwise (Some at) s h.0 h.1).0 h.3)),
+  (λ h. let e : head_place s ≡ Some h.0 = head_is (Some at) s ∙ h.1 in (h.0, e, h.2, (otherwise (Some at) s h.0 e).1 h.3)),
 )
 
 pub starts : SameAt BranchStart says.BranchStart

@@ -52,14 +52,8 @@ fn message_method(alloc: Global, place: Place, message: &Message) -> Result<Meth
     ensures { IfOk result (λ m. kept_method m ≡ message_method place (message_of message.now)) }
 {
     match message.direction {
-        Direction::To => {
-            let method = send_method(alloc, place, message)?;
-            Ok(method)
-        }
-        Direction::From => {
-            let method = take_method(alloc, place, message)?;
-            Ok(method)
-        }
+        Direction::To => send_method(alloc, place, message),
+        Direction::From => take_method(alloc, place, message),
     }
 }
 

@@ -339,8 +339,6 @@ module _ (s : Followed) (e : Expr) (sets : List Set) (log la : Log) (ns : List N
   pub other_log : None ≡ call_in e → la ≡ (plain_switch s e sets log).0.log → la ≡ (switched s e (Some sets) log).0.log
   other_log h k = k ∙ ap (λ (y : Evaluated × (List Now)). y.0.log) (switched_other s e sets log h)
 
-pub ruleset branching = (call_nows, call_log, other_nows, other_log)
-
 module _ (s : Followed) (c : Called) (sets : List Set) (log la : Log) (b : Branches) (a : Arguments) where
   abbrev switch_by : Option Method → Evaluated × (List Now)
   switch_by o =

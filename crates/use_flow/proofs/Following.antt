@@ -73,10 +73,6 @@ module _ (t : Evaluated) (la : Log) where
       evaluated_of v la ≡ either_with h t
   either_is v y n h g e eg ev = ap (λ (x : Value). evaluated_of x la) ev ∙ ap (λ x. parted x n la) eg ∙ ap (either_with h) e
 
-pub ruleset pasts = (past_is, last_is)
-
-pub ruleset parts = (ways_are, opposite_is, both_are, either_is)
-
 module _ (s : Followed) (sets : List Set) (log : Log) where
   pub operands_from : (l r : Expr) (la lv : Log) (v : Value) (n : Now) → alike [] n la ≡ settled (eval s 0 l (Some sets) log) →
       evaluated_of v lv ≡ settled (eval s 0 r n la) → evaluated_of v lv ≡ operands s l r sets log

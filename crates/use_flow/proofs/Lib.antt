@@ -1,4 +1,5 @@
 pub mod Keyed
+pub mod Answered
 pub mod Rests
 pub mod Leading
 pub mod Unions

@@ -38,8 +38,8 @@ module _ (s : Followed) (log : Log) (e : Expr) (la : Log) (n : Now) where
   declared_is k now n' v ev en ep = ap (λ x. flow x [] la) (ep ∙ ap (placed k v.set) en) ∙ ap (placed_flow k) ev
 
   pub local_is : (q : Place) (k : ℕ) (sets : List Set) (n' : Now) (lb : Log) → flow n [] la ≡ declared s k e (Some sets) log →
-      ((js : List Jump) → flow n' js lb ≡ exit s q (k ∷ []) (flow n js la)) → flow n' [] lb ≡ local s q k e sets log
-  local_is q k sets n' lb ed h = h [] ∙ ap (exit s q (k ∷ [])) ed
+      flow n' [] lb ≡ exit s q (k ∷ []) (flow n [] la) → flow n' [] lb ≡ local s q k e sets log
+  local_is q k sets n' lb ed h = h ∙ ap (exit s q (k ∷ [])) ed
 
   module _ (x : CoreVar) (sets : List Set) (v : Value) (ev : evaluated_of v la ≡ eval s (variable_width s x.var) e (Some sets) log)
       (en : n ≡ joined (yes_of v.ways) (no_of v.ways)) where
@@ -89,10 +89,8 @@ module _ (s : Followed) (log : Log) (e : Expr) (la : Log) (n : Now) where
       ap (λ y. flow None [] y) (h ∙ ap (λ y. left s q y v.set sc n la) el ∙ ap (λ y. left s q (answer_of s (Some e)) v.set sc y la) en)
       ∙ ap (returned_flow s q e sc) ev
 
-pub ruleset locals = (declared_is, local_is)
+pub ruleset locals = (declared_is)
 
 pub ruleset assignments = (assigned_none, assigned_some)
-
-pub ruleset drops = (printed_is, dropped_as)
 
 pub ruleset returns = (returned_is)

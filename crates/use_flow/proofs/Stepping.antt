@@ -202,13 +202,13 @@ exit_jumps s q ks (Some sets) js log = refl
 pub list_follows : (s : Followed) (q : Place) (f : Flow) (scope ds : List ℕ) (depth : ℕ) (j : Jumps) (n m : Now) (c d : Course) →
     depth ≡ length scope →
     Follows f (scope ++ ds) j n c →
-    ((js : List Jump) → flow m js (log_of d.log) ≡ exit s q (drop depth c.scope.items) (flow n js (log_of c.log))) →
+    flow m f.jumps (log_of d.log) ≡ exit s q (drop depth c.scope.items) (flow n f.jumps (log_of c.log)) →
     d.scope.items ≡ take depth c.scope.items → d.jumps ≡ c.jumps → Follows (exit s q ds f) scope j m d
 list_follows s q f scope ds depth j n m c d ed a ex es ej =
     let left : drop depth c.scope.items ≡ ds = ap (λ k. drop k c.scope.items) ed ∙ ap (drop (length scope)) a.scope-is ∙ drop-append_seam
     scope ds in
     let e : flow m f.jumps (log_of d.log) ≡ exit s q ds f =
-    ex f.jumps ∙ ap (λ ks. exit s q ks (flow n f.jumps (log_of c.log))) left ∙ ap (λ y. exit s q ds (flow y f.jumps (log_of c.log)))
+    ex ∙ ap (λ ks. exit s q ks (flow n f.jumps (log_of c.log))) left ∙ ap (λ y. exit s q ds (flow y f.jumps (log_of c.log)))
     a.now-is
     ∙ ap (λ y. exit s q ds (flow f.now f.jumps y)) a.log-is in
     record {

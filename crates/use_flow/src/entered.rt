@@ -29,8 +29,7 @@ fn reached_set(alloc: Global, typestate: &Typestate) -> Result<StateSet, Memory>
     ensures proper { IsProper typestate.now.states }
 {
     let _states = &typestate.states;
-    let set = typestate.reachable(alloc)?;
-    Ok(set)
+    typestate.reachable(alloc)
 }
 
 // The states of each typestate that calls lead to.
@@ -163,6 +162,5 @@ pub fn contexts(alloc: Global, core: &Core) -> Result<List<Context>, Memory>
     ensures { IfOk result (λ l. AreContexts core.now l.items) }
 {
     let reached = reached_sets(alloc, core)?;
-    let contexts = contexts_by(alloc, core, reached.as_slice())?;
-    Ok(contexts)
+    contexts_by(alloc, core, reached.as_slice())
 }

@@ -137,7 +137,6 @@ impl<'a> Scene<'a> {
     }
 
     // Behind an expression whose value is dropped.
-    #[tactic(auto, using(crate::proofs::Following::pasts))]
     #[cycle(expressions)]
     fn eval_past(
         &self,
@@ -151,12 +150,10 @@ impl<'a> Scene<'a> {
     {
         let Value { set, ways } = self.eval_now(alloc, 0, expr, now, log)?;
         drop(set);
-        let now = ways.after()?;
-        Ok(now)
+        ways.after()
     }
 
     // The last operand, where neither the operands nor the value have an object.
-    #[tactic(auto, using(crate::proofs::Following::pasts))]
     #[cycle(expressions)]
     fn eval_last(
         &self,
@@ -169,12 +166,10 @@ impl<'a> Scene<'a> {
             ≡ settled (eval (seen self.now) 0 (expr_of expr.now) now (log_of log.old))) }
     {
         let now = self.eval_past(alloc, expr, now, log)?;
-        let value = Value::plain(alloc, now)?;
-        Ok(value)
+        Value::plain(alloc, now)
     }
 
     // Where a condition holds, and where it doesn't.
-    #[tactic(auto, using(crate::proofs::Following::parts))]
     #[cycle(expressions)]
     pub(crate) fn eval_ways(
         &self,
@@ -188,12 +183,10 @@ impl<'a> Scene<'a> {
     {
         let Value { set, ways } = self.eval_now(alloc, 0, expr, now, log)?;
         drop(set);
-        let both = ways.split(alloc)?;
-        Ok(both)
+        ways.split(alloc)
     }
 
     // The opposite of a condition.
-    #[tactic(auto, using(crate::proofs::Following::parts))]
     #[cycle(expressions)]
     fn eval_not(
         &self,
@@ -205,12 +198,10 @@ impl<'a> Scene<'a> {
         ensures { IfOk result (λ v. evaluated_of v (log_of log.new) ≡ opposite (seen self.now) (expr_of inner.now) sets (log_of log.old)) }
     {
         let (holds, fails) = self.eval_ways(alloc, inner, Some(sets), log)?;
-        let value = Value::apart(alloc, fails, holds)?;
-        Ok(value)
+        Value::apart(alloc, fails, holds)
     }
 
     // The second operand of `&&`, evaluated where the first holds.
-    #[tactic(auto, using(crate::proofs::Following::parts))]
     #[cycle(expressions)]
     fn eval_and(
         &self,
@@ -225,12 +216,10 @@ impl<'a> Scene<'a> {
     {
         let (both, neither) = self.eval_ways(alloc, right, holds, log)?;
         let fails = meet(fails, neither)?;
-        let value = Value::apart(alloc, both, fails)?;
-        Ok(value)
+        Value::apart(alloc, both, fails)
     }
 
     // The second operand of `||`, evaluated where the first doesn't hold.
-    #[tactic(auto, using(crate::proofs::Following::parts))]
     #[cycle(expressions)]
     fn eval_or(
         &self,
@@ -245,12 +234,10 @@ impl<'a> Scene<'a> {
     {
         let (either, neither) = self.eval_ways(alloc, right, fails, log)?;
         let holds = meet(holds, either)?;
-        let value = Value::apart(alloc, holds, neither)?;
-        Ok(value)
+        Value::apart(alloc, holds, neither)
     }
 
     // A call that takes no object.
-    #[tactic(auto, using(crate::proofs::Following::calls))]
     #[cycle(expressions)]
     fn eval_session(
         &self,
@@ -264,8 +251,7 @@ impl<'a> Scene<'a> {
     {
         let Arguments { sets: given, now } = self.eval_all(alloc, &[], args, Some(sets), log)?;
         drop(given);
-        let value = Value::plain(alloc, now)?;
-        Ok(value)
+        Value::plain(alloc, now)
     }
 
     // An expression that may not be reached.
@@ -331,12 +317,10 @@ impl<'a> Scene<'a> {
             (exprs_of (map expr_of args.now)) sets (log_of log.old)) }
     {
         let Some(called) = method_at(self.core, method) else {
-            let value = self.eval_session(alloc, args, sets, log)?;
-            return Ok(value);
+            return self.eval_session(alloc, args, sets, log);
         };
         let args = self.eval_all(alloc, params_of(called), args, Some(sets), log)?;
-        let value = self.protocol_call(alloc, receiver, method, called, args, log)?;
-        Ok(value)
+        self.protocol_call(alloc, receiver, method, called, args, log)
     }
 
     // A call of a helper.
@@ -354,12 +338,10 @@ impl<'a> Scene<'a> {
             sets (log_of log.old)) }
     {
         let Some(called) = method_at(self.core, method) else {
-            let value = self.eval_session(alloc, args, sets, log)?;
-            return Ok(value);
+            return self.eval_session(alloc, args, sets, log);
         };
         let args = self.eval_all(alloc, params_of(called), args, Some(sets), log)?;
-        let value = self.helper_call(alloc, method, called, args, log)?;
-        Ok(value)
+        self.helper_call(alloc, method, called, args, log)
     }
 
     // A call of a static method.
@@ -377,11 +359,9 @@ impl<'a> Scene<'a> {
             sets (log_of log.old)) }
     {
         let Some(called) = method_at(self.core, method) else {
-            let value = self.eval_session(alloc, args, sets, log)?;
-            return Ok(value);
+            return self.eval_session(alloc, args, sets, log);
         };
         let args = self.eval_all(alloc, params_of(called), args, Some(sets), log)?;
-        let value = self.static_call(alloc, method, called, args, log)?;
-        Ok(value)
+        self.static_call(alloc, method, called, args, log)
     }
 }

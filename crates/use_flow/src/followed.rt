@@ -59,8 +59,7 @@ fn follow(alloc: Global, core: &Core, tables: &Tables, context: Context) -> Resu
         context,
         method,
     };
-    let flow = scene.whole(alloc)?;
-    Ok(flow)
+    scene.whole(alloc)
 }
 
 // Nothing flows, and nothing fails.

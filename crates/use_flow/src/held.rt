@@ -171,8 +171,7 @@ impl Tables {
         let contexts = contexts_by(alloc, core, reached.as_slice())?;
         let numbers = numbered(alloc, contexts.as_slice())?;
         let entries = entries_of(alloc, core, contexts.as_slice())?;
-        let tables = filled(alloc, core, reached, numbers, entries.as_slice())?;
-        Ok(tables)
+        filled(alloc, core, reached, numbers, entries.as_slice())
     }
 
     /// How many sets there are.

@@ -269,8 +269,7 @@ pub fn reads_in(
     };
     let here = tables.context_number(context)?;
     let entries = entries_read(alloc, core, runs, here, context, method)?;
-    let keys = keys_of(alloc, entries.as_slice())?;
-    Ok(keys)
+    keys_of(alloc, entries.as_slice())
 }
 
 /// The keys that a context reads, in the order of their variants and then by number, each once: the
@@ -286,6 +285,5 @@ pub fn reads(alloc: Global, core: &Core, context: Context) -> Result<List<TableK
 {
     let tables = Tables::new(alloc, core)?;
     let runs = tables.runs(alloc, core)?;
-    let keys = reads_in(alloc, core, &tables, &runs, context)?;
-    Ok(keys)
+    reads_in(alloc, core, &tables, &runs, context)
 }

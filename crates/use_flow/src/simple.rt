@@ -80,7 +80,6 @@ impl<'a> Scene<'a> {
     }
 
     // A declaration whose scope is itself.
-    #[tactic(auto, using(crate::proofs::Simply::locals))]
     pub(crate) fn step_local(
         &self,
         alloc: Global,
@@ -95,8 +94,7 @@ impl<'a> Scene<'a> {
     {
         let now = self.declare(alloc, slot, value, Some(sets), log)?;
         let left = [slot];
-        let now = self.exit(alloc, place, &left, now, log)?;
-        Ok(now)
+        self.exit(alloc, place, &left, now, log)
     }
 
     // An assignment, before which the variable may have no state that isn't marked drop.
@@ -132,7 +130,6 @@ impl<'a> Scene<'a> {
     }
 
     // A text that is printed.
-    #[tactic(auto, using(crate::proofs::Simply::drops))]
     pub(crate) fn step_print(
         &self,
         alloc: Global,
@@ -144,12 +141,10 @@ impl<'a> Scene<'a> {
     {
         let Value { set, ways } = self.eval(alloc, 0, value, sets, log)?;
         drop(set);
-        let now = ways.after()?;
-        Ok(now)
+        ways.after()
     }
 
     // A value that is dropped, which may have no state that isn't marked drop.
-    #[tactic(auto, using(crate::proofs::Simply::drops))]
     pub(crate) fn step_dropped(
         &self,
         alloc: Global,
@@ -178,8 +173,7 @@ impl<'a> Scene<'a> {
             typestate,
             &set,
         )?;
-        let now = ways.after()?;
-        Ok(now)
+        ways.after()
     }
 
     // A method is left with a value. The variables in scope stand in the order of their declarations.

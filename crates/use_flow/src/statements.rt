@@ -145,8 +145,7 @@ impl<'a> Scene<'a> {
         course.jumps.put_back(number, around)?;
         let end = meet(now, inside.going_on)?;
         self.send_end(alloc, number, &end, &mut course.log)?;
-        let behind = meet(fails, inside.behind)?;
-        Ok(behind)
+        meet(fails, inside.behind)
     }
 
     // A loop whose body comes first.
@@ -174,8 +173,7 @@ impl<'a> Scene<'a> {
         let end = meet(now, inside.going_on)?;
         let (again, fails) = self.eval_ways(alloc, condition, end, &mut course.log)?;
         self.send_end(alloc, number, &again, &mut course.log)?;
-        let behind = meet(fails, inside.behind)?;
-        Ok(behind)
+        meet(fails, inside.behind)
     }
 
     // Statements one after another, at whose end what they declare goes out of scope.
@@ -196,8 +194,7 @@ impl<'a> Scene<'a> {
     {
         let depth = course.scope.len();
         let now = self.steps(alloc, body, outer, now, course)?;
-        let behind = self.end_scope(alloc, end, depth, now, course)?;
-        Ok(behind)
+        self.end_scope(alloc, end, depth, now, course)
     }
 
     // Statements one after another, up to the end of their list: what they declare is still in scope.
@@ -267,8 +264,7 @@ impl<'a> Scene<'a> {
         let inside = course.jumps.take(Lead::BehindSwitch);
         course.jumps.put(Lead::BehindSwitch, around)?;
         let end = meet(now, past)?;
-        let behind = meet(end, inside)?;
-        Ok(behind)
+        meet(end, inside)
     }
 
     // The groups of a switch, each behind the one before.
@@ -309,7 +305,6 @@ impl<'a> Scene<'a> {
         let entry = sprouts.entry(alloc, group.labels.as_slice())?;
         let start = meet(entry, before)?;
         let body = group.body.as_slice();
-        let behind = self.step_list(alloc, body, group.end, outer, start, course)?;
-        Ok(behind)
+        self.step_list(alloc, body, group.end, outer, start, course)
     }
 }

@@ -201,8 +201,7 @@ impl Sprouts {
         for label in labels {
             all = self.with_label(all, *label)?;
         }
-        let now = self.branches.with_any(alloc, all)?;
-        Ok(now)
+        self.branches.with_any(alloc, all)
     }
 }
 
@@ -256,8 +255,7 @@ impl<'a> Scene<'a> {
         let name = self.text_of(method.name);
         let width = self.variable_width(receiver);
         let label = self.text_of(label);
-        let led = image_along(alloc, width, typestate, name, Some(label), set)?;
-        Ok(led)
+        image_along(alloc, width, typestate, name, Some(label), set)
     }
 
     // What a call leads to with each of these labels.
@@ -338,8 +336,7 @@ impl<'a> Scene<'a> {
             });
         };
         let args = self.eval_all(alloc, params_of(called), call.args, Some(sets), log)?;
-        let led = self.led_branches(alloc, call.receiver, call.method, called, args, log)?;
-        Ok(led)
+        self.led_branches(alloc, call.receiver, call.method, called, args, log)
     }
 
     // A switch over another value: with all constants the same is known.
@@ -368,7 +365,6 @@ impl<'a> Scene<'a> {
     }
 
     // What flows on with each constant of a switch.
-    #[tactic(auto, using(crate::proofs::Choosing::branching))]
     fn branches(
         &self,
         alloc: Global,
@@ -380,14 +376,8 @@ impl<'a> Scene<'a> {
         ensures log { OnOk result (log_of log.new ≡ (switched (seen self.now) (expr_of value.now) (Some sets) (log_of log.old)).0.log) }
     {
         match call_in(value) {
-            Some(call) => {
-                let branches = self.call_branches(alloc, call, sets, log)?;
-                Ok(branches)
-            }
-            None => {
-                let branches = self.plain_branches(alloc, value, sets, log)?;
-                Ok(branches)
-            }
+            Some(call) => self.call_branches(alloc, call, sets, log),
+            None => self.plain_branches(alloc, value, sets, log),
         }
     }
 

@@ -1,7 +1,8 @@
 -- Two roles that add numbers, each on the messages of the other.
-use Rattle.std.specs.Prelude.{◌≡◌, ℕ, true, false, [], ◌∷◌, Some, None, pos, codes}
+use Rattle.std.specs.Prelude.{◌≡◌, ℕ, List, true, false, [], ◌∷◌, Some, None, pos, codes}
 use Rattle.mg_text.specs.Places.{start_of}
 use Rattle.mg_text.specs.declared.place.Place.{Place}
+use Rattle.mg_text.specs.declared.event.Event.{Event}
 use Rattle.mg_text.specs.declared.event.Event.TheVariants.{Made, Enter, Leave, Take, Look, Send}
 use Rattle.mg_text.specs.declared.event.Event.TheVariants.{Print as Printed}
 use Rattle.mg_text.specs.declared.event.Carried.TheVariants as carried
@@ -356,38 +357,26 @@ bye = record { label = codes "bye"; payload = carried.Nothing }
 abbrev from_c : Inputs
 from_c = (codes "C", number 1 ∷ number 2 ∷ number 3 ∷ bye ∷ []) ∷ []
 
+-- what happens at the server where a number comes and it sends the sum, in front of what happens behind
+abbrev added : (n sum : ℕ) → List Event → List Event
+added n sum behind =
+    Enter 0 (codes "receive_SChoice1LabelFromC") ∷
+    Look (codes "C") (codes "add") ∷
+    Leave 0 (Some (pos 0)) ∷
+    Enter 0 (codes "receive_addIntFromC") ∷
+    Take (codes "C") (codes "add") (carried.Int (pos n)) ∷
+    Leave 0 (Some (pos n)) ∷
+    Enter 0 (codes "send_totalIntToC") ∷
+    Send (codes "C") (codes "total") (carried.Int (pos sum)) ∷
+    Leave 0 None ∷
+    behind
+
 -- the server adds them up
 abbrev pub the_server : Type 0
 the_server = mean s_program (codes "SMain") from_c 4 ≡ record {
   events =
       Made 0 (codes "SRole") ∷
-      Enter 0 (codes "receive_SChoice1LabelFromC") ∷
-      Look (codes "C") (codes "add") ∷
-      Leave 0 (Some (pos 0)) ∷
-      Enter 0 (codes "receive_addIntFromC") ∷
-      Take (codes "C") (codes "add") (carried.Int (pos 1)) ∷
-      Leave 0 (Some (pos 1)) ∷
-      Enter 0 (codes "send_totalIntToC") ∷
-      Send (codes "C") (codes "total") (carried.Int (pos 1)) ∷
-      Leave 0 None ∷
-      Enter 0 (codes "receive_SChoice1LabelFromC") ∷
-      Look (codes "C") (codes "add") ∷
-      Leave 0 (Some (pos 0)) ∷
-      Enter 0 (codes "receive_addIntFromC") ∷
-      Take (codes "C") (codes "add") (carried.Int (pos 2)) ∷
-      Leave 0 (Some (pos 2)) ∷
-      Enter 0 (codes "send_totalIntToC") ∷
-      Send (codes "C") (codes "total") (carried.Int (pos 3)) ∷
-      Leave 0 None ∷
-      Enter 0 (codes "receive_SChoice1LabelFromC") ∷
-      Look (codes "C") (codes "add") ∷
-      Leave 0 (Some (pos 0)) ∷
-      Enter 0 (codes "receive_addIntFromC") ∷
-      Take (codes "C") (codes "add") (carried.Int (pos 3)) ∷
-      Leave 0 (Some (pos 3)) ∷
-      Enter 0 (codes "send_totalIntToC") ∷
-      Send (codes "C") (codes "total") (carried.Int (pos 6)) ∷
-      Leave 0 None ∷
+      added 1 1 (added 2 3 (added 3 6 (
       Enter 0 (codes "receive_SChoice1LabelFromC") ∷
       Look (codes "C") (codes "bye") ∷
       Leave 0 (Some (pos 1)) ∷
@@ -395,7 +384,7 @@ the_server = mean s_program (codes "SMain") from_c 4 ≡ record {
       Take (codes "C") (codes "bye") carried.Nothing ∷
       Leave 0 None ∷
       Printed (codes "sum 6") ∷
-      [];
+      [])));
   finish = Done;
 }
 
@@ -414,17 +403,7 @@ abbrev pub the_client_is_slow : Type 0
 the_client_is_slow = mean s_program (codes "SMain") ((codes "C", number 1 ∷ []) ∷ []) 4 ≡ record {
   events =
       Made 0 (codes "SRole") ∷
-      Enter 0 (codes "receive_SChoice1LabelFromC") ∷
-      Look (codes "C") (codes "add") ∷
-      Leave 0 (Some (pos 0)) ∷
-      Enter 0 (codes "receive_addIntFromC") ∷
-      Take (codes "C") (codes "add") (carried.Int (pos 1)) ∷
-      Leave 0 (Some (pos 1)) ∷
-      Enter 0 (codes "send_totalIntToC") ∷
-      Send (codes "C") (codes "total") (carried.Int (pos 1)) ∷
-      Leave 0 None ∷
-      Enter 0 (codes "receive_SChoice1LabelFromC") ∷
-      [];
+      added 1 1 (Enter 0 (codes "receive_SChoice1LabelFromC") ∷ []);
   finish = Wait (codes "C");
 }
 

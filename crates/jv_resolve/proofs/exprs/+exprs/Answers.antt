@@ -214,7 +214,7 @@ resolve_operand-returns-in_err-value t c =
     rw (p.1, p.2) c.in_err-value.ensures
 
 pub resolve_operand-returns : goal.resolve_operand-returns
-resolve_operand-returns t c = c.in_ok-value.ensures ∙ ap Some (sym c.in_ok-boxed.ensures)
+resolve_operand-returns t c = c.in_ok-value.ensures ∙ ap Some (sym c.in_ok-as_operand.ensures)
 
 pub resolve_receiver-returns-in-This : goal.resolve_receiver-returns-in-This
 resolve_receiver-returns-in-This t c =

@@ -12,6 +12,7 @@ use Rattle.use_flow.specs.inner.Simple.{returned}
 use Rattle.use_flow.specs.inner.Listed.{declared_of}
 use Rattle.use_flow.specs.inner.Stepping.{step, steps}
 use Rattle.use_flow.specs.inner.Switching.{rest_of, past_of, nows_of}
+use Rattle.use_flow.proofs.Answered.{IfOk-three}
 use Rattle.use_flow.proofs.Forms as forms
 use Rattle.use_flow.proofs.Stepping.{follows_as, none_step, quiet_follows, if_follows, if_else_follows, while_follows, do_follows}
 use Rattle.use_flow.proofs.Stepping.{list_follows, item_other, item_local, running_start, running_more, running_end}
@@ -118,11 +119,12 @@ step_now-returns-in-None t c =
 
 pub step_while-returns : goal.step_while-returns
 step_while-returns t c =
+    IfOk-weaker c.meet-2.result _ _ (λ m em.
     while_follows (seen c.args.self.now) (reverse c.args.outer.now) c.args.course.now.scope.items c.args.number
     (expr_of c.args.condition.now) (stmt_of c.args.body.now) c.args.sets c.at_head.new.sets
     (log_of c.args.course.now.log) (log_of c.send_heads.new.log) (log_of c.eval_ways.new.log) c.args.course.now.jumps
     c.set_aside-around.new.self c.set_aside-inside.new.self
-    c.set_aside-around.result c.set_aside-inside.result c.in_ok-now.now _ c.in_ok-end.end c.step_now.new.course _
+    c.set_aside-around.result c.set_aside-inside.result c.in_ok-now.now m c.in_ok-end.end c.step_now.new.course _
     c.in_ok-send_heads.ensures c.in_ok-at_head.ensures refl
     (record {
       around-behind = c.set_aside-around.ensures.behind;
@@ -133,15 +135,16 @@ step_while-returns t c =
       cuts = c.set_aside-inside.ensures.left;
       ends = c.in_ok-put_back.ensures;
     }) c.in_ok-end.ensures c.in_ok-holds.holds c.in_ok-holds.fails c.in_ok-holds.ensures c.in_ok-now.ensures c.in_ok-send_end.ensures
-    c.in_ok-behind.ensures
+    em) c.meet-2.ensures
 
 pub step_do-returns : goal.step_do-returns
 step_do-returns t c =
+    IfOk-weaker c.meet-2.result _ _ (λ m em.
     do_follows (seen c.args.self.now) (reverse c.args.outer.now) c.args.course.now.scope.items c.args.number (expr_of c.args.condition.now)
     (stmt_of c.args.body.now) c.args.sets c.at_head.new.sets
     (log_of c.args.course.now.log) (log_of c.send_heads.new.log) (log_of c.eval_ways.new.log) c.args.course.now.jumps
     c.set_aside-around.new.self c.set_aside-inside.new.self
-    c.set_aside-around.result c.set_aside-inside.result c.in_ok-now.now _ c.in_ok-end.end c.step.new.course _
+    c.set_aside-around.result c.set_aside-inside.result c.in_ok-now.now m c.in_ok-end.end c.step.new.course _
     c.in_ok-send_heads.ensures c.in_ok-at_head.ensures refl
     (record {
       around-behind = c.set_aside-around.ensures.behind;
@@ -152,7 +155,7 @@ step_do-returns t c =
       cuts = c.set_aside-inside.ensures.left;
       ends = c.in_ok-put_back.ensures;
     }) c.in_ok-end.ensures c.in_ok-again.again c.in_ok-again.fails c.in_ok-now.ensures c.in_ok-again.ensures c.in_ok-send_end.ensures
-    c.in_ok-behind.ensures
+    em) c.meet-2.ensures
 
 pub step_list-end_scope-requires : goal.step_list-end_scope-requires
 step_list-end_scope-requires t c =
@@ -164,13 +167,14 @@ step_list-end_scope-requires t c =
 
 pub step_list-returns : goal.step_list-returns
 step_list-returns t c =
-    list_follows (seen c.args.self.now) c.args.end
-    (steps (seen c.args.self.now) (reverse c.args.course.now.scope.items) (reverse c.args.outer.now)
-    (stmts_of (map stmt_of c.args.body.now)) c.args.now (log_of c.args.course.now.log))
+    let f = steps (seen c.args.self.now) (reverse c.args.course.now.scope.items) (reverse c.args.outer.now)
+    (stmts_of (map stmt_of c.args.body.now)) c.args.now (log_of c.args.course.now.log) in
+    IfOk-three c.end_scope.result _ _ _ _ (λ m ex es ej.
+    list_follows (seen c.args.self.now) c.args.end f
     c.args.course.now.scope.items (declared_here (stmts_of (map stmt_of c.args.body.now))) c.len-depth.result c.args.course.now.jumps
-    c.in_ok-now.now c.in_ok-behind.behind c.steps.new.course
+    c.in_ok-now.now m c.steps.new.course
     c.end_scope.new.course (let k : c.len-depth.result ≡ length c.args.course.now.scope.items = omega (arith, c.len-depth.ensures) in k)
-    c.in_ok-now.ensures c.in_ok-behind.ensures.flows c.in_ok-behind.ensures.scope c.in_ok-behind.ensures.jumps
+    c.in_ok-now.ensures ex es ej) (c.end_scope.ensures.flows f.jumps) c.end_scope.ensures.scope c.end_scope.ensures.jumps
 
 pub steps-loop-statement-init : goal.steps-loop-statement-init
 steps-loop-statement-init t c =
@@ -191,13 +195,14 @@ steps-returns t c =
 
 pub step_switch-returns : goal.step_switch-returns
 step_switch-returns t c =
+    IfOk-weaker c.meet-2.result _ _ (λ m em.
     switch_follows (seen c.args.self.now) c.args.course.now.scope.items (rest_of c.args.sprouts) (past_of c.args.sprouts)
     (nows_of c.args.sprouts) (groups_of (map group_of c.args.groups.now))
     (log_of c.args.course.now.log) c.args.course.now.jumps c.take-around.new.self c.take-inside.new.self c.take-around.result
-    c.take-inside.result c.in_ok-now.now c.in_ok-end.end _ c.step_groups.new.course _
+    c.take-inside.result c.in_ok-now.now c.in_ok-end.end m c.step_groups.new.course _
     c.take-around.ensures.was c.take-around.ensures.left c.in_ok-now.ensures c.take-inside.ensures.was c.take-inside.ensures.left
     c.in_ok-put.ensures refl refl
-    (c.in_ok-end.ensures ∙ ap (joined c.in_ok-now.now) c.in_ok-past.ensures) c.in_ok-behind.ensures
+    (c.in_ok-end.ensures ∙ ap (joined c.in_ok-now.now) c.in_ok-past.ensures) em) c.meet-2.ensures
 
 pub step_groups-loop-group-init : goal.step_groups-loop-group-init
 step_groups-loop-group-init t c =
@@ -220,12 +225,13 @@ step_groups-returns t c =
 
 pub step_group-returns : goal.step_group-returns
 step_group-returns t c =
+    IfOk-weaker c.step_list.result _ _ (λ n a.
     group_follows (seen c.args.self.now) (reverse c.args.outer.now) c.args.course.now.scope.items (rest_of c.args.sprouts.now)
     (nows_of c.args.sprouts.now) c.args.group.now c.as_slice-body.result.now
     c.as_slice.result.now c.args.before c.in_ok-entry.entry c.in_ok-start.start (log_of c.args.course.now.log) c.args.course.now.jumps
-    c.in_ok-behind.behind c.step_list.new.course
+    n c.step_list.new.course
     c.as_slice-body.ensures.items c.as_slice.ensures.items (c.in_ok-entry.ensures (seen c.args.self.now)) c.in_ok-start.ensures
-    c.in_ok-behind.ensures
+    a) c.step_list.ensures
 
 pub step_item-returns-in-None : goal.step_item-returns-in-None
 step_item-returns-in-None t c =
