@@ -110,8 +110,7 @@ fn collect_at<'a>(
                 let Some(after) = number.checked_add(1) else {
                     return Err(Memory);
                 };
-                let next = collect_in(alloc, me, out, after, branches)?;
-                Ok(next)
+                collect_in(alloc, me, out, after, branches)
             }
         }
         Statement::Rec { body, .. } => collect_all(alloc, me, out, number, body.as_slice()),
