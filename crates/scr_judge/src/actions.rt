@@ -110,7 +110,8 @@ fn collect_at<'a>(
                 let Some(after) = number.checked_add(1) else {
                     return Err(Memory);
                 };
-                collect_in(alloc, me, out, after, branches)
+                let next = collect_in(alloc, me, out, after, branches)?;
+                Ok(next)
             }
         }
         Statement::Rec { body, .. } => collect_all(alloc, me, out, number, body.as_slice()),
