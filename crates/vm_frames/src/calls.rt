@@ -31,6 +31,16 @@ pub struct Waiting {
 }
 
 impl State {
+    /// Whether a method can be run over the running frame without memory. The answer only spares work: where there is no room,
+    /// `enter` makes some.
+    #[inline(always)]
+    pub fn has_room(&self, callee: Callee) -> bool
+        requires { callee.args ≤ callee.locals }
+    {
+        let unset = usize::from(callee.locals) - callee.args;
+        self.heads.len() < self.heads.capacity() && self.cells.has_room(unset + MOST)
+    }
+
     /// Runs a method over the running frame, which goes on behind the call. The operands that it
     /// takes become its first locals where they lie.
     ///

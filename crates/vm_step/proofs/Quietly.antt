@@ -27,7 +27,7 @@ use Rattle.vm_model.specs.Tests.{type_in, text}
 use Rattle.vm_model.specs.Tests.{object_name, params_in, descriptor_in, result_in, max_stack_in, max_locals_in, method_of_frame}
 use Rattle.vm_model.specs.Step.{act_at, act_some, calls, calls_in, code_in, left, next, same_text, truth}
 use Rattle.vm_frames.specs.Frames.{entered, left_to, IsNearest}
-use Rattle.vm_step.specs.Alone.{Quiet, Alone, Stays, Runs, Leads, LeadsAlone, AllAlone}
+use Rattle.vm_step.specs.Alone.{Quiet, Alone, Stays, Runs, Leads, LeadsAlone, Keeps, AllAlone}
 use Rattle.vm_step.specs.inner.Tops.{at_top, text_in}
 use Rattle.vm_step.specs.inner.Builts.{equals_by}
 use Rattle.vm_step.specs.inner.Objects.{field_in, reads_at, reads_by}
@@ -145,6 +145,12 @@ next_leads p m m' method i a (Some found) runs at is h = (
       ∙ h.0 me q,
   h.1,
 )
+
+-- the same of an action that stays in the method, whatever program that runs in
+pub keeps_so : (m m' : Machine) (method : MethodOf) (i : Instr) (a : Action) (b : Bool) → slice_get method.code m.frame.place ≡ Some i →
+    action i.op i.args ≡ Some a → Alone method.max_stack a m m' b → Keeps m m' method b
+keeps_so m m' method i a b at is h p runs =
+    next_leads p m m' method i a (if b then Some method else None) runs at is (alone_leads p a m m' method runs b h)
 
 -- steps after steps
 pub leads_on : (p : Program) (m n k : Machine) (taken : ℕ) (found : MethodOf) (o : Option MethodOf) → o ≡ Some found →

@@ -49,6 +49,10 @@ abbrev pub Tried : Program → (m m' : Machine) → MethodOf → Option Bool →
 Tried p m m' method (Some b) = LeadsAlone p m m' (if b then Some method else None)
 Tried p m m' method None = m' ≡ m
 
+-- Whatever program the method runs in, its next instruction leads alone to another machine in it, or nothing has changed.
+abbrev pub Keeps : (m m' : Machine) → MethodOf → Bool → Type 0
+Keeps m m' method b = (p : Program) → Runs p m method → LeadsAlone p m m' (if b then Some method else None)
+
 -- so many of them, one after another
 abbrev pub AllAlone : Program → Machine → ℕ → Machine → Type 0
 AllAlone p m zero m' = m' ≡ m

@@ -9,14 +9,14 @@ ghost use Rattle.vm_model.specs.Step.{next};
 ghost use Rattle.mg_text.specs.Call.{Name};
 ghost use Rattle.vm_frames.specs.Seen.{value_in, IsSet};
 ghost use Rattle.vm_step.specs.State.{state_of, operands_of};
-ghost use Rattle.vm_actions.specs.Table.{sort_of, constant_of, operation_of, comparison_of, plain_of};
+ghost use Rattle.vm_actions.specs.Table.{sort_of, constant_of, operation_of, comparison_of};
 ghost use Rattle.vm_step.specs.Alone.{Alone};
 
 use crate::arithmetic::{added, compares, computed, negated, switched};
 use crate::needs::is_null;
 use crate::operands::{int_at, int_of_local};
 use crate::plain::{place_after, same_truth};
-use vm_actions::{Comparison, Constant, Operation, Plain, Sort};
+use vm_actions::{Comparison, Constant, Operation, Sort};
 use vm_frames::{Cell, State};
 
 /// Whether a value is of this sort.
@@ -154,7 +154,7 @@ pub(crate) fn compute(state: &mut State, max: u16, operation: Operation) -> bool
 
 /// Negates the int on top.
 #[inline(always)]
-fn negate(state: &mut State, max: u16) -> bool
+pub(crate) fn negate(state: &mut State, max: u16) -> bool
     requires { state.old.machine.frame.place < 2 ^ 32 - 1 }
     ensures { Alone max actions.Negate (state_of state.old) (state_of state.new) result }
 {
@@ -172,7 +172,7 @@ fn negate(state: &mut State, max: u16) -> bool
 
 /// Adds to the int of a local.
 #[inline(always)]
-fn increase(state: &mut State, max: u16, local: u8, by: &i8) -> bool
+pub(crate) fn increase(state: &mut State, max: u16, local: u8, by: &i8) -> bool
     requires { state.old.machine.frame.place < 2 ^ 32 - 1 }
     ensures { Alone max (actions.Increase local by.now) (state_of state.old) (state_of state.new) result }
 {
@@ -194,7 +194,7 @@ fn increase(state: &mut State, max: u16, local: u8, by: &i8) -> bool
 
 /// Jumps where the int on top compares so with 0.
 #[inline(always)]
-fn jump_on_zero(state: &mut State, max: u16, comparison: Comparison, target: u32) -> bool
+pub(crate) fn jump_on_zero(state: &mut State, max: u16, comparison: Comparison, target: u32) -> bool
     requires { state.old.machine.frame.place < 2 ^ 32 - 1 }
     ensures { Alone max (actions.IfZero (comparison_of comparison) target) (state_of state.old) (state_of state.new) result }
 {
@@ -212,7 +212,7 @@ fn jump_on_zero(state: &mut State, max: u16, comparison: Comparison, target: u32
 
 /// Jumps where the two ints on top compare so.
 #[inline(always)]
-fn jump_on_both(state: &mut State, max: u16, comparison: Comparison, target: u32) -> bool
+pub(crate) fn jump_on_both(state: &mut State, max: u16, comparison: Comparison, target: u32) -> bool
     requires { state.old.machine.frame.place < 2 ^ 32 - 1 }
     ensures { Alone max (actions.IfBoth (comparison_of comparison) target) (state_of state.old) (state_of state.new) result }
 {
@@ -233,7 +233,7 @@ fn jump_on_both(state: &mut State, max: u16, comparison: Comparison, target: u32
 
 /// Jumps where the reference on top is null, or where it isn't.
 #[inline(always)]
-fn jump_on_null(state: &mut State, max: u16, wanted: bool, target: u32) -> bool
+pub(crate) fn jump_on_null(state: &mut State, max: u16, wanted: bool, target: u32) -> bool
     requires { state.old.machine.frame.place < 2 ^ 32 - 1 }
     ensures { Alone max (actions.IfNull wanted target) (state_of state.old) (state_of state.new) result }
 {
@@ -253,7 +253,7 @@ fn jump_on_null(state: &mut State, max: u16, wanted: bool, target: u32) -> bool
 
 /// Jumps.
 #[inline(always)]
-fn jump(state: &mut State, max: u16, target: u32) -> bool
+pub(crate) fn jump(state: &mut State, max: u16, target: u32) -> bool
     ensures { Alone max (actions.Go target) (state_of state.old) (state_of state.new) result }
 {
     if state.depth() > usize::from(max) {
@@ -265,7 +265,7 @@ fn jump(state: &mut State, max: u16, target: u32) -> bool
 
 /// Jumps by the int on top.
 #[inline(always)]
-fn switch(state: &mut State, max: u16, default: u32, low: &i32, targets: &[u32]) -> bool
+pub(crate) fn switch(state: &mut State, max: u16, default: u32, low: &i32, targets: &[u32]) -> bool
     ensures { Alone max (actions.Switch default low.now targets.now) (state_of state.old) (state_of state.new) result }
 {
     let count = state.depth();
@@ -277,32 +277,4 @@ fn switch(state: &mut State, max: u16, default: u32, low: &i32, targets: &[u32])
     };
     state.drop(1, switched(default, *low, targets, x));
     true
-}
-
-/// Acts on an instruction that stays in its frame, where nothing is wrong with it.
-#[inline(always)]
-pub(crate) fn act_alone(state: &mut State, max: u16, plain: Plain<'_>) -> bool
-    requires { state.old.machine.frame.place < 2 ^ 32 - 1 }
-    ensures { Alone max (plain_of plain.entry) (state_of state.old) (state_of state.new) result }
-{
-    match plain {
-        Plain::Push(constant) => push_constant(state, max, constant),
-        Plain::Load(sort, local) => load(state, max, sort, local),
-        Plain::Store(sort, local) => store(state, max, sort, local),
-        Plain::Pop => pop(state, max),
-        Plain::Double => double(state, max),
-        Plain::Swap => false,
-        Plain::Compute(operation) => compute(state, max, operation),
-        Plain::Negate => negate(state, max),
-        Plain::Increase(local, by) => increase(state, max, local, by),
-        Plain::IfZero(comparison, target) => jump_on_zero(state, max, comparison, target),
-        Plain::IfBoth(comparison, target) => jump_on_both(state, max, comparison, target),
-        Plain::IfNull(wanted, target) => jump_on_null(state, max, wanted, target),
-        Plain::Go(target) => jump(state, max, target),
-        Plain::Switch {
-            default,
-            low,
-            targets,
-        } => switch(state, max, default, low, targets),
-    }
 }

@@ -8,24 +8,30 @@ ghost use Rattle.mg_text.specs.declared.event.BadKind.{BadKind};
 ghost use Rattle.vm_model.specs.declared.linked.Built.TheVariants as builts;
 ghost use Rattle.vm_model.specs.Actions as actions;
 ghost use Rattle.vm_model.specs.Kept.{type_kept};
-ghost use Rattle.vm_model.specs.Program.{Program, Nothing};
+ghost use Rattle.vm_model.specs.Program.{Program};
+ghost use Rattle.vm_model.specs.Program as forms;
 ghost use Rattle.vm_model.specs.Tests.{Typed, max_stack_in, method_of_frame, misfits, on_top, some_of};
 ghost use Rattle.vm_model.specs.View.{args_of, instr_of, method_of};
 ghost use Rattle.vm_frames.specs.Frames.{entered};
 ghost use Rattle.vm_step.specs.State.{state_of, operands_of};
-ghost use Rattle.vm_actions.specs.Table.{sort_of, calling_of, action_of};
-ghost use Rattle.vm_step.specs.Alone.{Alone, Stays, Runs, Leads, LeadsAlone, Tried, AllAlone};
+ghost use Rattle.vm_actions.specs.Table.{sort_of};
+ghost use Rattle.vm_step.specs.Alone.{Alone, Stays, Runs, Leads, LeadsAlone, Tried, Keeps, AllAlone};
 ghost use Rattle.vm_step.specs.inner.Calls.{Awaits};
 
 use crate::built::is_text;
-use crate::frequent::{act_alone, compute, double, is_of_sort, load, pop, push_constant, store};
+use crate::frequent::{
+    compute, double, increase, is_of_sort, jump, jump_on_both, jump_on_null, jump_on_zero, load,
+    negate, pop, push_constant, store, switch,
+};
 use crate::needs::{Want, misfit_type};
 use crate::operands::text_at;
 use crate::program::{field_at, method_at, result_type};
 use crate::session::truth;
 use crate::step::field_want;
 use cls_tree::opcodes::*;
-use vm_actions::{Action, Calling, Constant, Operation, Sort, action_of};
+use mg_text::Text;
+use std::rc::Rc;
+use vm_actions::{Comparison, Constant, Operation, Sort};
 use vm_frames::{Callee, Cell, State};
 use vm_model::{Built, Linked, LinkedArgs, LinkedInstr, LinkedMethod, LinkedType};
 
@@ -141,7 +147,8 @@ fn fit(linked: &Linked, state: &State, params: &[LinkedType]) -> bool
     true
 }
 
-/// Runs a method that has so many locals over the running frame, where there is memory.
+/// Runs a method that has so many locals over the running frame, where there is room for it: a frame that wants memory is entered by
+/// the general tests, which say so where there is none.
 #[inline(always)]
 fn enter(state: &mut State, class: u32, method: u32, taken: usize, locals: u16) -> bool
     requires place { state.old.machine.frame.place < 2 ^ 32 - 1 }
@@ -157,6 +164,9 @@ fn enter(state: &mut State, class: u32, method: u32, taken: usize, locals: u16) 
         locals,
         told: None,
     };
+    if !state.has_room(callee) {
+        return false;
+    }
     match state.enter(callee) {
         Ok(()) => true,
         Err(_) => false,
@@ -324,79 +334,12 @@ fn return_from<'a>(
     }
 }
 
-/// Calls a method, where no object tells of it.
-#[inline(always)]
-fn call<'a>(
-    state: &mut State,
-    linked: &'a Linked,
-    calling: Calling,
-    class: u32,
-    method: u32,
-) -> Option<&'a LinkedMethod>
-    requires { state.old.machine.frame.place < 2 ^ 32 - 1 }
-    ensures { Leads linked.now (actions.Call (calling_of calling) class method) (state_of state.old)
-        (state_of state.new) (option_map (λ x. method_of x.now) result) }
-{
-    match calling {
-        Calling::Telling => None,
-        Calling::Silent => call_silent(state, linked, class, method),
-        Calling::Static => call_static(state, linked, class, method),
-    }
-}
-
 /// The method that runs, where a step stayed in it.
 #[inline(always)]
 fn kept(method: &LinkedMethod, stayed: bool) -> Option<&LinkedMethod>
     ensures { option_map (λ x. method_of x.now) result ≡ (if stayed then Some (method_of method.now) else None) }
 {
     if stayed { Some(method) } else { None }
-}
-
-/// Uses a member of a built-in class.
-#[inline(always)]
-fn use_quietly<'a>(
-    state: &mut State,
-    method: &'a LinkedMethod,
-    built: Built,
-) -> Option<&'a LinkedMethod>
-    requires { state.old.machine.frame.place < 2 ^ 32 - 1 }
-    ensures { (p : Program) → Runs p (state_of state.old) (method_of method.now) → Leads p (actions.Use built) (state_of state.old)
-        (state_of state.new) (option_map (λ x. method_of x.now) result) }
-{
-    match built {
-        Built::Equals => kept(method, equals(state, method.max_stack)),
-        _ => None,
-    }
-}
-
-/// Acts on an instruction of the method that runs, and answers the method that runs then, where nothing is wrong with it and it
-/// tells nothing. Else nothing changes.
-#[inline(always)]
-fn act_quietly<'a>(
-    state: &mut State,
-    linked: &'a Linked,
-    method: &'a LinkedMethod,
-    action: Action<'_>,
-) -> Option<&'a LinkedMethod>
-    requires place { state.old.machine.frame.place < 2 ^ 32 - 1 }
-    requires runs { Runs linked.now (state_of state.old) (method_of method.now) }
-    ensures { Leads linked.now (action_of action.entry) (state_of state.old) (state_of state.new)
-        (option_map (λ x. method_of x.now) result) }
-{
-    let max = method.max_stack;
-    match action {
-        Action::Plain(plain) => kept(method, act_alone(state, max, plain)),
-        Action::Return(sort) => return_from(state, linked, method, sort),
-        Action::Read { class, field } => kept(method, read(state, max, class, field)),
-        Action::Write { class, field } => kept(method, write(state, linked, max, class, field)),
-        Action::Make(_class) => None,
-        Action::Call {
-            calling,
-            class,
-            method,
-        } => call(state, linked, calling, class, method),
-        Action::Use(built) => use_quietly(state, method, built),
-    }
 }
 
 /// The instruction of a number.
@@ -408,38 +351,20 @@ fn instr_at(method: &LinkedMethod, place: u32) -> Option<&LinkedInstr>
     method.code.as_slice().get(place as usize)
 }
 
-/// The same of this instruction, which is the next, by the table of actions.
-#[inline(always)]
-fn step_by_table<'a>(
-    state: &mut State,
-    linked: &'a Linked,
-    method: &'a LinkedMethod,
-    instr: &LinkedInstr,
-) -> Option<&'a LinkedMethod>
-    requires place { state.old.machine.frame.place < 2 ^ 32 - 1 }
-    requires runs { Runs linked.now (state_of state.old) (method_of method.now) }
-    requires at { slice_get (method_of method.now).code state.old.machine.frame.place ≡ Some (instr_of instr.now) }
-    ensures { LeadsAlone linked.now (state_of state.old) (state_of state.new)
-        (option_map (λ x. method_of x.now) result) }
-{
-    let Some(action) = action_of(instr) else {
-        return None;
-    };
-    act_quietly(state, linked, method, action)
-}
-
-/// Acts on the most frequent of those without arguments, by their opcodes, and answers whether nothing was wrong. None where it is
-/// another.
+/// Acts on an instruction without arguments that stays in its method, by its opcode, and answers whether nothing was wrong with it.
+/// None where it is another.
 #[inline(always)]
 fn act_by_opcode(state: &mut State, method: &LinkedMethod, instr: &LinkedInstr) -> Option<bool>
     requires place { state.old.machine.frame.place < 2 ^ 32 - 1 }
     requires at { slice_get (method_of method.now).code state.old.machine.frame.place ≡ Some (instr_of instr.now) }
-    requires bare { args_of instr.now.args ≡ Nothing }
+    requires bare { args_of instr.now.args ≡ forms.Nothing }
     ensures { (p : Program) → Runs p (state_of state.old) (method_of method.now) →
         Tried p (state_of state.old) (state_of state.new) (method_of method.now) result }
 {
     let max = method.max_stack;
     match instr.op {
+        ACONST_NULL => Some(push_constant(state, max, Constant::Null)),
+        ICONST_M1 => Some(push_constant(state, max, Constant::Int(-1))),
         ICONST_0 => Some(push_constant(state, max, Constant::Int(0))),
         ICONST_1 => Some(push_constant(state, max, Constant::Int(1))),
         ICONST_2 => Some(push_constant(state, max, Constant::Int(2))),
@@ -467,25 +392,241 @@ fn act_by_opcode(state: &mut State, method: &LinkedMethod, instr: &LinkedInstr) 
         IADD => Some(compute(state, max, Operation::Plus)),
         ISUB => Some(compute(state, max, Operation::Minus)),
         IMUL => Some(compute(state, max, Operation::Times)),
+        IDIV => Some(compute(state, max, Operation::Divide)),
+        IREM => Some(compute(state, max, Operation::Remain)),
+        INEG => Some(negate(state, max)),
         _ => None,
     }
 }
 
-/// The same where it has no arguments.
+/// Returns from the method that runs, by the opcode of a return.
 #[inline(always)]
-fn try_opcode(state: &mut State, method: &LinkedMethod, instr: &LinkedInstr) -> Option<bool>
+fn return_by_opcode<'a>(
+    state: &mut State,
+    linked: &'a Linked,
+    method: &LinkedMethod,
+    instr: &LinkedInstr,
+) -> Option<&'a LinkedMethod>
+    requires runs { Runs linked.now (state_of state.old) (method_of method.now) }
+    requires at { slice_get (method_of method.now).code state.old.machine.frame.place ≡ Some (instr_of instr.now) }
+    requires bare { args_of instr.now.args ≡ forms.Nothing }
+    ensures { LeadsAlone linked.now (state_of state.old) (state_of state.new) (option_map (λ x. method_of x.now) result) }
+{
+    match instr.op {
+        IRETURN => return_from(state, linked, method, Some(Sort::Number)),
+        ARETURN => return_from(state, linked, method, Some(Sort::Reference)),
+        RETURN => return_from(state, linked, method, None),
+        _ => None,
+    }
+}
+
+/// Acts on an instruction without arguments.
+#[inline(always)]
+fn step_bare<'a>(
+    state: &mut State,
+    linked: &'a Linked,
+    method: &'a LinkedMethod,
+    instr: &LinkedInstr,
+) -> Option<&'a LinkedMethod>
+    requires place { state.old.machine.frame.place < 2 ^ 32 - 1 }
+    requires runs { Runs linked.now (state_of state.old) (method_of method.now) }
+    requires at { slice_get (method_of method.now).code state.old.machine.frame.place ≡ Some (instr_of instr.now) }
+    requires bare { args_of instr.now.args ≡ forms.Nothing }
+    ensures { LeadsAlone linked.now (state_of state.old) (state_of state.new) (option_map (λ x. method_of x.now) result) }
+{
+    match act_by_opcode(state, method, instr) {
+        Some(stayed) => kept(method, stayed),
+        None => return_by_opcode(state, linked, method, instr),
+    }
+}
+
+/// Pushes an int of the code, by the opcode, and answers whether nothing was wrong.
+#[inline(always)]
+fn push_int(state: &mut State, method: &LinkedMethod, instr: &LinkedInstr, value: i32) -> bool
     requires place { state.old.machine.frame.place < 2 ^ 32 - 1 }
     requires at { slice_get (method_of method.now).code state.old.machine.frame.place ≡ Some (instr_of instr.now) }
-    ensures { (p : Program) → Runs p (state_of state.old) (method_of method.now) →
-        Tried p (state_of state.old) (state_of state.new) (method_of method.now) result }
+    requires args { args_of instr.now.args ≡ forms.Int value }
+    ensures { Keeps (state_of state.old) (state_of state.new) (method_of method.now) result }
 {
-    match &instr.args {
-        LinkedArgs::None => act_by_opcode(state, method, instr),
+    let max = method.max_stack;
+    match instr.op {
+        BIPUSH => push_constant(state, max, Constant::Int(value)),
+        SIPUSH => push_constant(state, max, Constant::Int(value)),
+        LDC => push_constant(state, max, Constant::Int(value)),
+        LDC_W => push_constant(state, max, Constant::Int(value)),
+        _ => false,
+    }
+}
+
+/// Pushes a text of the code, by the opcode, and answers whether nothing was wrong.
+#[inline(always)]
+fn push_text(state: &mut State, method: &LinkedMethod, instr: &LinkedInstr, text: &Rc<Text>) -> bool
+    requires place { state.old.machine.frame.place < 2 ^ 32 - 1 }
+    requires at { slice_get (method_of method.now).code state.old.machine.frame.place ≡ Some (instr_of instr.now) }
+    requires args { args_of instr.now.args ≡ forms.Text text.now.value }
+    ensures { Keeps (state_of state.old) (state_of state.new) (method_of method.now) result }
+{
+    match instr.op {
+        LDC | LDC_W => push_constant(state, method.max_stack, Constant::Text(text)),
+        _ => false,
+    }
+}
+
+/// Loads or stores a local, by the opcode, and answers whether nothing was wrong.
+#[inline(always)]
+fn move_local(state: &mut State, method: &LinkedMethod, instr: &LinkedInstr, local: u8) -> bool
+    requires place { state.old.machine.frame.place < 2 ^ 32 - 1 }
+    requires at { slice_get (method_of method.now).code state.old.machine.frame.place ≡ Some (instr_of instr.now) }
+    requires args { args_of instr.now.args ≡ forms.Local local }
+    ensures { Keeps (state_of state.old) (state_of state.new) (method_of method.now) result }
+{
+    let max = method.max_stack;
+    match instr.op {
+        ILOAD => load(state, max, Sort::Number, local),
+        ALOAD => load(state, max, Sort::Reference, local),
+        ISTORE => store(state, max, Sort::Number, local),
+        ASTORE => store(state, max, Sort::Reference, local),
+        _ => false,
+    }
+}
+
+/// Adds to a local, by the opcode, and answers whether nothing was wrong.
+#[inline(always)]
+fn add_to_local(
+    state: &mut State,
+    method: &LinkedMethod,
+    instr: &LinkedInstr,
+    local: u8,
+    by: &i8,
+) -> bool
+    requires place { state.old.machine.frame.place < 2 ^ 32 - 1 }
+    requires at { slice_get (method_of method.now).code state.old.machine.frame.place ≡ Some (instr_of instr.now) }
+    requires args { args_of instr.now.args ≡ forms.Add local by.now }
+    ensures { Keeps (state_of state.old) (state_of state.new) (method_of method.now) result }
+{
+    match instr.op {
+        IINC => increase(state, method.max_stack, local, by),
+        _ => false,
+    }
+}
+
+/// Jumps or goes on, by the opcode of a jump, and answers whether nothing was wrong.
+#[inline(always)]
+fn jump_by_opcode(
+    state: &mut State,
+    method: &LinkedMethod,
+    instr: &LinkedInstr,
+    target: u32,
+) -> bool
+    requires place { state.old.machine.frame.place < 2 ^ 32 - 1 }
+    requires at { slice_get (method_of method.now).code state.old.machine.frame.place ≡ Some (instr_of instr.now) }
+    requires args { args_of instr.now.args ≡ forms.Jump target }
+    ensures { Keeps (state_of state.old) (state_of state.new) (method_of method.now) result }
+{
+    let max = method.max_stack;
+    match instr.op {
+        IFEQ => jump_on_zero(state, max, Comparison::Equal, target),
+        IFNE => jump_on_zero(state, max, Comparison::Unequal, target),
+        IFLT => jump_on_zero(state, max, Comparison::Less, target),
+        IFGE => jump_on_zero(state, max, Comparison::AtLeast, target),
+        IFGT => jump_on_zero(state, max, Comparison::Greater, target),
+        IFLE => jump_on_zero(state, max, Comparison::AtMost, target),
+        IF_ICMPEQ => jump_on_both(state, max, Comparison::Equal, target),
+        IF_ICMPNE => jump_on_both(state, max, Comparison::Unequal, target),
+        IF_ICMPLT => jump_on_both(state, max, Comparison::Less, target),
+        IF_ICMPGE => jump_on_both(state, max, Comparison::AtLeast, target),
+        IF_ICMPGT => jump_on_both(state, max, Comparison::Greater, target),
+        IF_ICMPLE => jump_on_both(state, max, Comparison::AtMost, target),
+        GOTO => jump(state, max, target),
+        IFNULL => jump_on_null(state, max, true, target),
+        IFNONNULL => jump_on_null(state, max, false, target),
+        _ => false,
+    }
+}
+
+/// Jumps by a table, by the opcode, and answers whether nothing was wrong.
+#[inline(always)]
+fn switch_by_opcode(
+    state: &mut State,
+    method: &LinkedMethod,
+    instr: &LinkedInstr,
+    default: u32,
+    low: &i32,
+    targets: &[u32],
+) -> bool
+    requires place { state.old.machine.frame.place < 2 ^ 32 - 1 }
+    requires at { slice_get (method_of method.now).code state.old.machine.frame.place ≡ Some (instr_of instr.now) }
+    requires args { args_of instr.now.args ≡ forms.Table default low.now targets.now }
+    ensures { Keeps (state_of state.old) (state_of state.new) (method_of method.now) result }
+{
+    match instr.op {
+        TABLESWITCH => switch(state, method.max_stack, default, low, targets),
+        _ => false,
+    }
+}
+
+/// Reads or writes a field, by the opcode, and answers whether nothing was wrong.
+#[inline(always)]
+fn use_field(
+    state: &mut State,
+    linked: &Linked,
+    method: &LinkedMethod,
+    instr: &LinkedInstr,
+    class: u32,
+    field: u32,
+) -> bool
+    requires place { state.old.machine.frame.place < 2 ^ 32 - 1 }
+    requires runs { Runs linked.now (state_of state.old) (method_of method.now) }
+    requires at { slice_get (method_of method.now).code state.old.machine.frame.place ≡ Some (instr_of instr.now) }
+    requires args { args_of instr.now.args ≡ forms.Field class field }
+    ensures { LeadsAlone linked.now (state_of state.old) (state_of state.new) (if result then Some (method_of method.now) else None) }
+{
+    match instr.op {
+        GETFIELD => read(state, method.max_stack, class, field),
+        PUTFIELD => write(state, linked, method.max_stack, class, field),
+        _ => false,
+    }
+}
+
+/// Calls a method of which no object tells, by the opcode of the call.
+#[inline(always)]
+fn call_by_opcode<'a>(
+    state: &mut State,
+    linked: &'a Linked,
+    running: &LinkedMethod,
+    instr: &LinkedInstr,
+    class: u32,
+    method: u32,
+) -> Option<&'a LinkedMethod>
+    requires place { state.old.machine.frame.place < 2 ^ 32 - 1 }
+    requires runs { Runs linked.now (state_of state.old) (method_of running.now) }
+    requires at { slice_get (method_of running.now).code state.old.machine.frame.place ≡ Some (instr_of instr.now) }
+    requires args { args_of instr.now.args ≡ forms.Method class method }
+    ensures { LeadsAlone linked.now (state_of state.old) (state_of state.new) (option_map (λ x. method_of x.now) result) }
+{
+    match instr.op {
+        INVOKESTATIC => call_static(state, linked, class, method),
+        INVOKESPECIAL => call_silent(state, linked, class, method),
         _ => None,
     }
 }
 
-/// The same of the next instruction.
+/// Uses a member of a built-in class, by the opcode, and answers whether nothing was wrong.
+#[inline(always)]
+fn use_built(state: &mut State, method: &LinkedMethod, instr: &LinkedInstr, built: Built) -> bool
+    requires place { state.old.machine.frame.place < 2 ^ 32 - 1 }
+    requires at { slice_get (method_of method.now).code state.old.machine.frame.place ≡ Some (instr_of instr.now) }
+    requires args { args_of instr.now.args ≡ forms.Built built }
+    ensures { Keeps (state_of state.old) (state_of state.new) (method_of method.now) result }
+{
+    match built {
+        Built::Equals if instr.op == INVOKEVIRTUAL => equals(state, method.max_stack),
+        _ => false,
+    }
+}
+
+/// Acts on the next instruction of the method that runs, by the form of its arguments, and answers the method that runs then, where
+/// nothing is wrong with it and it tells nothing. Else nothing changes.
 #[inline(always)]
 fn step_quietly<'a>(
     state: &mut State,
@@ -499,9 +640,33 @@ fn step_quietly<'a>(
     let Some(instr) = instr_at(method, state.place()) else {
         return None;
     };
-    match try_opcode(state, method, instr) {
-        Some(stayed) => kept(method, stayed),
-        None => step_by_table(state, linked, method, instr),
+    match &instr.args {
+        LinkedArgs::None => step_bare(state, linked, method, instr),
+        LinkedArgs::Int(value) => kept(method, push_int(state, method, instr, *value)),
+        LinkedArgs::Text(text) => kept(method, push_text(state, method, instr, text)),
+        LinkedArgs::Local(local) => kept(method, move_local(state, method, instr, *local)),
+        LinkedArgs::Add(local, by) => {
+            kept(method, add_to_local(state, method, instr, *local, by))
+        }
+        LinkedArgs::Jump(target) => kept(method, jump_by_opcode(state, method, instr, *target)),
+        LinkedArgs::Table {
+            default,
+            low,
+            targets,
+        } => kept(
+            method,
+            switch_by_opcode(state, method, instr, *default, low, targets.as_slice()),
+        ),
+        LinkedArgs::Class(_) => None,
+        LinkedArgs::Field { class, field } => kept(
+            method,
+            use_field(state, linked, method, instr, *class, *field),
+        ),
+        LinkedArgs::Method {
+            class,
+            method: called,
+        } => call_by_opcode(state, linked, method, instr, *class, *called),
+        LinkedArgs::Built(built) => kept(method, use_built(state, method, instr, *built)),
     }
 }
 
