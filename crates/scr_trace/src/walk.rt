@@ -108,7 +108,8 @@ impl<'a> Walk<'a> {
         let Some(exits) = self.laid.exits_of(number) else {
             return Ok(List::new(self.alloc));
         };
-        offers_of(self.alloc, self.local, &self.laid, exits)
+        let offers = offers_of(self.alloc, self.local, &self.laid, exits)?;
+        Ok(offers)
     }
 
     /// Whether nothing is left to do.
