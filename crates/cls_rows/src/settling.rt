@@ -24,7 +24,8 @@ pub(crate) fn push(
     ensures grows { OnOk result (Grows stacks.old stacks.new) }
     ensures pushed { IfOk result (λ o. MatchOption o (scene.entry.max_stack ≤ length (stack_at stacks.old below))
         (λ s. (s < length stacks.new) ×
-        ((length (stack_at stacks.old below) < scene.entry.max_stack) × (stack_at stacks.new s ≡ stack_at stacks.old below ++ kind ∷ [])))) }
+        ((length (stack_at stacks.old below) < scene.entry.max_stack)
+        × (stack_at stacks.new s ≡ stack_at stacks.old below ++ kind ∷ [])))) }
 {
     if stacks.depth(below) >= scene.max_stack {
         return Ok(None);

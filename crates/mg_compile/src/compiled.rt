@@ -25,7 +25,8 @@ pub fn compile(alloc: Global, names: &[Text], contents: &[Bytes]) -> Result<List
     requires count { length contents.now < 2 ^ 32 }
     requires kinds { HaveKinds names.now }
     // What is answered are the class files of the program, or the first refusal.
-    ensures answered { Answers (λ written. AreCompiled (sources names.now contents.now) written.items) (FirstRefusal (sources names.now contents.now)) result }
+    ensures answered { Answers (λ written. AreCompiled (sources names.now contents.now) written.items)
+        (FirstRefusal (sources names.now contents.now)) result }
     // Files that are compiled to these class files are answered by them, unless memory runs out.
     ensures only { (written : Seq Written) → AreCompiled (sources names.now contents.now) written →
         AnswersOnly (λ files. files.items ≡ written) result }
@@ -40,7 +41,8 @@ fn compiled(alloc: Global, names: &[Text], contents: &[Bytes]) -> Result<List<Cl
     requires same { length names.now ≡ length contents.now }
     requires count { length contents.now < 2 ^ 32 }
     requires kinds { HaveKinds names.now }
-    ensures { Answers (λ written. AreCompiled (sources names.now contents.now) written.items) (FirstRefusal (sources names.now contents.now)) result }
+    ensures { Answers (λ written. AreCompiled (sources names.now contents.now) written.items)
+        (FirstRefusal (sources names.now contents.now)) result }
 {
     let program = accept(alloc, names, contents)?;
     class_files(alloc, &program.core)

@@ -28,7 +28,13 @@ impl Model for MemFolder {
 
     ghost coded = { folder_code };
 
-    ghost view = { λ f. record { files = f.files; calls = f.calls; failing = f.failing; failed_reads = f.failed_reads.items; failed_writes = f.failed_writes.items } };
+    ghost view = { λ f. record {
+      files = f.files;
+      calls = f.calls;
+      failing = f.failing;
+      failed_reads = f.failed_reads.items;
+      failed_writes = f.failed_writes.items;
+    } };
 }
 
 impl MemFolder {

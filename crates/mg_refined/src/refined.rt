@@ -34,7 +34,8 @@ pub fn refine(alloc: Global, names: &[Text], contents: &[Bytes]) -> Result<Told,
     requires same { length contents.now ≡ 2 }
     requires kinds { All (EndsWith (codes ".protocol")) names.now }
     // What is answered is told of the typestates that the files are, or is their first refusal.
-    ensures answered { Answers (λ t. AreJudged (sources names.now contents.now) t.text t.stands) (FirstRefusal (sources names.now contents.now)) result }
+    ensures answered { Answers (λ t. AreJudged (sources names.now contents.now) t.text t.stands)
+        (FirstRefusal (sources names.now contents.now)) result }
     // Files of which this is to be told are answered by it, unless memory runs out.
     ensures only { (text : Seq ℕ) (stands : Bool) → AreJudged (sources names.now contents.now) text stands →
         AnswersOnly (λ t. (t.text ≡ text) × (t.stands ≡ stands)) result }
@@ -49,7 +50,8 @@ fn refined(alloc: Global, names: &[Text], contents: &[Bytes]) -> Result<Told, St
     requires two { length names.now ≡ 2 }
     requires same { length contents.now ≡ 2 }
     requires kinds { All (EndsWith (codes ".protocol")) names.now }
-    ensures { Answers (λ t. AreJudged (sources names.now contents.now) t.text t.stands) (FirstRefusal (sources names.now contents.now)) result }
+    ensures { Answers (λ t. AreJudged (sources names.now contents.now) t.text t.stands)
+        (FirstRefusal (sources names.now contents.now)) result }
 {
     let parts = read_parts(alloc, names, contents)?;
     Ok(judged(alloc, parts.as_slice())?)

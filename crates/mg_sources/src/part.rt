@@ -65,7 +65,8 @@ fn read_scribble(alloc: Global, number: u32, bytes: &[u8]) -> Result<Part, Stop>
 /// `Refused` with the file's fault; `Memory` where memory is wanted.
 pub fn read_protocol(alloc: Global, number: u32, bytes: &[u8]) -> Result<Local, Stop>
     ensures { (name : Seq ℕ) → IsOf Scribble (source_of number name bytes.now)
-        → Answers (λ local. Reads (source_of number name bytes.now) (Protocol (tree_of local))) (Refuses (source_of number name bytes.now)) result }
+        → Answers (λ local. Reads (source_of number name bytes.now) (Protocol (tree_of local)))
+        (Refuses (source_of number name bytes.now)) result }
 {
     match read_local(alloc, number, bytes) {
         Ok(local) => Ok(local),

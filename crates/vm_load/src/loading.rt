@@ -58,7 +58,8 @@ fn judge_classes(
     requires { names.now ≡ names_of (outlines_of outlines.now) }
     ensures right { IfOk result (λ r. map model.class_of r.0.items ≡ map (linked_class (outlines_of outlines.now))
         (map class_of classes.now)) }
-    ensures wrong { IfOk result (λ r. best_flaw r.1 ≡ least (flat_map (class_flaws (outlines_of outlines.now)) (map class_of classes.now))) }
+    ensures wrong { IfOk result (λ r. best_flaw r.1 ≡ least (flat_map (class_flaws (outlines_of outlines.now))
+        (map class_of classes.now))) }
 {
     let mut linked = List::new(alloc);
     let mut best = None;
