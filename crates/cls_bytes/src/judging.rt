@@ -258,14 +258,8 @@ fn fault_in(
     }
     let rest = tail(bytes, offset);
     match field.part {
-        Part::Letters(len) => {
-            let fault = text_fault(alloc, &rest[..len as usize], offset)?;
-            Ok(fault)
-        }
-        Part::Code(len) => {
-            let fault = code_fault(alloc, bytes, places, offset, &rest[..len as usize])?;
-            Ok(fault)
-        }
+        Part::Letters(len) => text_fault(alloc, &rest[..len as usize], offset),
+        Part::Code(len) => code_fault(alloc, bytes, places, offset, &rest[..len as usize]),
         Part::End => Ok(fault_unless(rest.is_empty(), ClassFault::TrailingBytes { offset })),
         _ => Ok(number_fault(bytes, places, field, number_in(bytes, field), later)),
     }

@@ -142,13 +142,12 @@ fn first_fault(alloc: Global, bytes: &[u8]) -> Result<Option<ClassFault>, Memory
     ensures { IfOk result (λ r. Found bytes.now r) }
 {
     let layout = lay_out(alloc, bytes)?;
-    let fault = first_of(
+    first_of(
         alloc,
         bytes,
         layout.places.as_slice(),
         layout.row.as_slice(),
-    )?;
-    Ok(fault)
+    )
 }
 
 /// Bytes spell one class at most.

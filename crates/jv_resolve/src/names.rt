@@ -16,8 +16,7 @@ pub(crate) fn add_name(names: &mut Names, name: &str) -> Result<Name, Memory>
     if names.len() >= MOST_NAMES {
         return Err(Memory);
     }
-    let number = names.add(name)?;
-    Ok(number)
+    names.add(name)
 }
 
 // As many names have numbers.

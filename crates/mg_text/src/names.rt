@@ -64,8 +64,7 @@ impl Names {
         if let Some(name) = self.find(text) {
             return Ok(name);
         }
-        let name = self.add_new(text)?;
-        Ok(name)
+        self.add_new(text)
     }
 
     // The number of a text that the table does not have yet, and has from then on.

@@ -1,4 +1,5 @@
 use Rattle.std.proofs.Common.{◌≡◌, ◌<◌, ◌^◌, sym, ap, ◌∙◌, arith}
+use Rattle.std.proofs.lemmas.Result.{IfOk-weaker}
 use Rattle.cls_bytes.specs.Faults.{cut, whole, unless}
 use Rattle.cls_bytes.specs.Parts.{size}
 use Rattle.cls_bytes.specs.Row.{number}
@@ -26,17 +27,19 @@ code_fault-requires c =
     let s : size c.args.field.part ≡ c.in-Code.len = ap size c.in-Code.is in
     omega (arith, k, t, s)
 
-pub returns-in_ok-fault-in-Letters : goal.returns-in_ok-fault-in-Letters
-returns-in_ok-fault-in-Letters c =
-    letters_judged c.args.bytes.now c.args.places.now c.args.field c.args.later.now c.in_ok-fault-in-Letters.fault
+pub returns-in-Letters : goal.returns-in-Letters
+returns-in-Letters c =
+    IfOk-weaker c.text_fault.result _ _ (λ r.
+    letters_judged c.args.bytes.now c.args.places.now c.args.field c.args.later.now r
     (sym c.ends_in.ensures ∙ c.if-ends_in.false) c.tail-rest.result.now c.tail-rest.ensures
-    c.in-Letters.len c.in-Letters.is c.in_ok-fault-in-Letters.ensures
+    c.in-Letters.len c.in-Letters.is) c.text_fault.ensures
 
-pub returns-in_ok-fault-in-Code : goal.returns-in_ok-fault-in-Code
-returns-in_ok-fault-in-Code c =
-    code_judged c.args.bytes.now c.args.places.now c.args.field c.args.later.now c.in_ok-fault-in-Code.fault
+pub returns-in-Code : goal.returns-in-Code
+returns-in-Code c =
+    IfOk-weaker c.code_fault.result _ _ (λ r.
+    code_judged c.args.bytes.now c.args.places.now c.args.field c.args.later.now r
     (sym c.ends_in.ensures ∙ c.if-ends_in.false) c.tail-rest.result.now c.tail-rest.ensures
-    c.in-Code.len c.in-Code.is c.in_ok-fault-in-Code.ensures
+    c.in-Code.len c.in-Code.is) c.code_fault.ensures
 
 pub returns-in-End : goal.returns-in-End
 returns-in-End c =
