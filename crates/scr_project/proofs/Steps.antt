@@ -2,13 +2,16 @@
 use Rattle.std.proofs.Common.{◌≡◌, ℕ, ◌+◌, ◌-◌, ◌<◌, ◌≤◌, max, nat_le, length, get_or, drop, Bool, true, false, ◌&&◌, ◌||◌, not}
 use Rattle.std.proofs.Common.{if◌then◌else◌, List, [], ◌∷◌, Option, Some, None, refl, sym, ap, ◌∙◌, arith}
 use Rattle.std.specs.Option.{option_or}
+use Rattle.std.specs.Prelude.{Result, Ok, Err, IfOk}
 use Rattle.std.specs.Str.{bytes_eq}
 use Rattle.std.proofs.lemmas.Grind.{common_steps}
 use Rattle.mg_text.specs.Call.{Name}
 use Rattle.mg_text.specs.Row.{Row}
 use Rattle.mg_text.specs.declared.place.Place.{Place}
 use Rattle.scr_tree.specs.declared.syntax.Payload.{Payload}
+use Rattle.scr_tree.specs.declared.syntax.Statement.{Statement}
 use Rattle.scr_tree.specs.Tree as local
+use Rattle.scr_tree.specs.View.{statements as local_statements}
 use Rattle.scr_tree.proofs.ViewLemmas as views
 use Rattle.scr_global.specs.Tree.{Told, Statements, Nothing, Says, Choice, Rec, Continue, Branches, NoBranch, Branch, said, said_each}
 use Rattle.scr_global.specs.Projecting.{both, mapped, is_named, are_named, is_nothing_to, is_closed, all_same, first_peer, tells_apart}
@@ -242,6 +245,12 @@ pub ruleset in_steps = (common_steps, each_later, each_past, none_followed)
 
 pub ruleset alone = (common_steps, found-Message, found-Choice, found-Rec, found-Continue)
 
-pub ruleset saying = (common_steps, views.front-Message, views.front-Choice, views.front-Rec, views.front-Continue)
+-- a statement alone, where it is handed on
+pub one_says : {E : Type 0} (r : Result (Row Statement) E) (x : Statement) (s : local.Statements) → IfOk r (λ l. l.items ≡ x ∷ []) →
+    local_statements (x ∷ []) ≡ s → IfOk r (λ l. local_statements l.items ≡ s)
+one_says (Ok l) x s e f = ap local_statements e ∙ f
+one_says (Err e) x s p f = tt
+
+pub ruleset saying = (common_steps, one_says, views.front-Message, views.front-Choice, views.front-Rec, views.front-Continue)
 
 pub ruleset choosing = (common_steps, views.front-Message, views.front-Choice, views.front-Rec, views.front-Continue)

@@ -155,8 +155,7 @@ fn message(
         label: label.copy()?,
         payload,
     };
-    let says = one(alloc, Statement::Message(message))?;
-    Ok(says)
+    one(alloc, Statement::Message(message))
 }
 
 // A `continue` alone.
@@ -165,8 +164,7 @@ fn continued(alloc: Global, place: Place, name: &Text) -> Result<List<Statement>
     ensures { IfOk result (λ l. local_statements l.items ≡ local.Continue place name.now local.Nothing) }
 {
     let name = name.copy()?;
-    let says = one(alloc, Statement::Continue { place, name })?;
-    Ok(says)
+    one(alloc, Statement::Continue { place, name })
 }
 
 // A rec with a body of which this is found.
@@ -229,8 +227,7 @@ fn own_choice(
         at,
         branches,
     };
-    let says = one(alloc, choice)?;
-    Ok(says)
+    one(alloc, choice)
 }
 
 // A choice with branches of which this is found.

@@ -108,8 +108,7 @@ impl<'a> Walk<'a> {
         let Some(exits) = self.laid.exits_of(number) else {
             return Ok(List::new(self.alloc));
         };
-        let offers = offers_of(self.alloc, self.local, &self.laid, exits)?;
-        Ok(offers)
+        offers_of(self.alloc, self.local, &self.laid, exits)
     }
 
     /// Whether nothing is left to do.

@@ -119,8 +119,7 @@ impl World {
         ensures come { IfOk result (λ k. (k ≤ 1) ⊎ (k * count ≤ left)) }
         ensures turns { IfOk result (λ k. Counts self.old.program self.old.world role k self.new.world) }
     {
-        let counted = self.take_turns(alloc, role, most_at_once(count, left))?;
-        Ok(counted)
+        self.take_turns(alloc, role, most_at_once(count, left))
     }
 
     /// Turns of one role, up to the first moment at which it rests or `limit` instructions were

@@ -1,4 +1,5 @@
 use Rattle.std.proofs.Common.{List, sym, subst}
+use Rattle.std.proofs.lemmas.Result.{IfOk-weaker}
 use Rattle.scr_trace.specs.declared.call.Offer.{Offer}
 use Rattle.scr_trace.specs.Walking.{Offered, calls_offered}
 use Rattle.scr_trace.specs.inner.View.{cell_of}
@@ -23,13 +24,13 @@ returns-in_default-exits_of-clause-distinct c =
 
 pub returns-clause-calls : goal.returns-clause-calls
 returns-clause-calls c =
-    λ tree position h. offered_at tree c.args.self.now position c.in-State.number (cell_of c.in-Some.exits.now)
-    (calls_offered c.in_ok-offers.offers.items) h c.in-State.is c.in-Some.ensures
-    (c.in_ok-offers.ensures.calls (λ k e. peers_same tree c.args.self.now position c.in-State.number k c.in-Some.exits.now h c.in-State.is
-    c.in-Some.ensures e))
+    IfOk-weaker c.offers_of.result _ _ (λ offers same tree position h.
+    offered_at tree c.args.self.now position c.in-State.number (cell_of c.in-Some.exits.now) (calls_offered offers.items) h c.in-State.is
+    c.in-Some.ensures (same (λ k e. peers_same tree c.args.self.now position c.in-State.number k c.in-Some.exits.now h c.in-State.is
+    c.in-Some.ensures e))) c.offers_of.ensures.calls
 
 pub returns-clause-distinct : goal.returns-clause-distinct
 returns-clause-distinct c =
-    λ tree position h. offers_distinct tree c.args.self.now position c.in-State.number c.in-Some.exits.now c.in_ok-offers.offers.items h
-    c.in-Some.ensures
-    c.in_ok-offers.ensures.apart
+    IfOk-weaker c.offers_of.result _ _ (λ offers apart tree position h.
+    offers_distinct tree c.args.self.now position c.in-State.number c.in-Some.exits.now offers.items h c.in-Some.ensures apart)
+    c.offers_of.ensures.apart

@@ -1,4 +1,5 @@
 use Rattle.std.proofs.Common.{slice_get}
+use Rattle.std.proofs.lemmas.Result.{IfOk-weaker}
 use Rattle.vm_world.proofs.Going.{less_room, all_come}
 use Rattle.vm_world.proofs.world.World.take_at_once.Goals as goal
 
@@ -9,4 +10,5 @@ take_turns-requires-clause-count c =
 
 pub returns-clause-come : goal.returns-clause-come
 returns-clause-come c =
-    all_come c.in_ok-counted.counted c.most_at_once.result c.args.count c.args.left c.in_ok-counted.ensures.most c.most_at_once.ensures.come
+    IfOk-weaker c.take_turns.result _ _
+    (λ k most. all_come k c.most_at_once.result c.args.count c.args.left most c.most_at_once.ensures.come) c.take_turns.ensures.most
