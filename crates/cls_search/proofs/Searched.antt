@@ -159,25 +159,63 @@ module _ (p : Program) (class number : ℕ) (k : ProgramKinds) (m : MethodOf) (x
   pub no_instruction : length m.code ≡ 0 → Typing p class number m → ⊥
   no_instruction e t = no_code p class number m e t
 
-  module _ (fits : length x.takes.items ≤ m.max_locals) (some : 0 < length m.code) (marks : List Bool) (joins : AreJoins m.code marks)
-      (f : Found)
-      (begun : IsBegun m x.takes.items f) (b : Body) (program : b.scene.program.now ≡ k) (code : map instr_of b.code.now ≡ m.code)
-      (marked : b.joins.now ≡ marks)
-      (result : b.scene.result ≡ x.result) (most : b.scene.max_stack ≡ m.max_stack) where
+-- What the search of a method begins with.
+pub record IsReady (d : LinkedMethod) (x : MethodKinds) (f : Found) (b : Body) : Type 0 where
+  pub fits : length x.takes.items ≤ d.max_locals
+  pub code : map instr_of b.code.now ≡ (method_of d).code
+  pub some : 0 < length (method_of d).code
+  pub joins : AreJoins (method_of d).code b.joins.now
+  pub begun : IsBegun (method_of d) x.takes.items f
+  pub result : b.scene.result ≡ x.result
+  pub most : b.scene.max_stack ≡ d.max_stack
+
+-- there is an instruction where a code isn't empty
+some_code : (xs : List LinkedInstr) (b : Bool) → b ≡ (length xs == 0) → b ≡ false → 0 < length (map instr_of xs)
+some_code [] b is f = absurd (true≢false (sym is ∙ f))
+some_code (x ∷ xs) b is f = omega arith
+
+pub method_ready : (d : LinkedMethod) (x : MethodKinds) (f : Found) (b : Body) {marks : List Bool} {empty : Bool} →
+    length x.takes.items ≤ d.max_locals → b.code.now ≡ d.code.items → empty ≡ (length b.code.now == 0) → empty ≡ false →
+    AreJoins (map instr_of b.code.now) marks → b.joins.now ≡ marks → IsBegun (method_of d) x.takes.items f →
+    b.scene.result ≡ x.result → b.scene.max_stack ≡ d.max_stack → IsReady d x f b
+method_ready d x f b {marks = marks} fits code is full joins marked begun result most =
+    let same : map instr_of b.code.now ≡ (method_of d).code = ap (map instr_of) code in
+    record {
+      fits = fits;
+      code = same;
+      some = subst (λ is. 0 < length is) same (some_code b.code.now _ is full);
+      joins = subst (AreJoins (method_of d).code) (sym marked) (subst (λ is. AreJoins is marks) same joins);
+      begun = begun;
+      result = result;
+      most = most;
+    }
+
+module _ {d : LinkedMethod} {x : MethodKinds} {f : Found} {b : Body} (r : IsReady d x f b) where
+  module _ (p : Program) (class number : ℕ) (i : MethodIs p class number b.scene.program.now (method_of d) x) where
     abbrev pub method_setting : Setting
-    method_setting = setting p class number m i.there k.names i.kinds.names x i.is fits marks joins
+    method_setting = setting p class number (method_of d) i.there b.scene.program.now.names i.kinds.names x i.is r.fits b.joins.now r.joins
 
     pub method_begun : HasBegun method_setting f b
     method_begun = record {
-      right = begins_right p class number m i.there k.names i.kinds.names x i.is fits marks joins f begun some;
-      body = body_is p class number m i.there k.names i.kinds.names x i.is fits marks joins b (subst (AreKinds p) (sym program) i.kinds)
-          (ap (λ (y : ProgramKinds). y.names) program) code marked result most;
-      settled = begins_settled p class number m i.there k.names i.kinds.names x i.is fits marks joins f begun some;
+      right = begins_right p class number (method_of d) i.there b.scene.program.now.names i.kinds.names x i.is r.fits b.joins.now r.joins
+          f r.begun r.some;
+      body = body_is p class number (method_of d) i.there b.scene.program.now.names i.kinds.names x i.is r.fits b.joins.now r.joins b
+          i.kinds refl r.code refl r.result r.most;
+      settled = begins_settled p class number (method_of d) i.there b.scene.program.now.names i.kinds.names x i.is r.fits b.joins.now
+          r.joins f r.begun r.some;
     }
 
-    pub method_says : (c : Bool) → SearchIs method_setting c → TypableIs p class number m c
+    method_says : (c : Bool) → SearchIs method_setting c → TypableIs p class number (method_of d) c
     method_says true h = h
     method_says false h = h
+
+  -- where a search was answered as it is
+  pub method_then : (e : Result Bool Memory) → IfOk e (λ c. (s : Setting) → HasBegun s f b → SearchIs s c) →
+      IfOk e (λ c. (p : Program) (class number : ℕ) → MethodIs p class number b.scene.program.now (method_of d) x →
+      TypableIs p class number (method_of d) c)
+  method_then (Err e) h = tt
+  method_then (Ok c) h = λ p class number i.
+      method_says p class number i c (h (method_setting p class number i) (method_begun p class number i))
 
 -- The methods of a class.
 
@@ -428,22 +466,3 @@ fault_named cs class method item fault is f named =
     subst (Says (classes_of cs)) (sym (named e))
     (subst (λ (c : LinkedClass). FirstUntypable (classes_of cs) c.name (get_or c.methods.items method e).name) (sym is)
     (first_named cs class method item e f).1.1)
-
--- there is an instruction where a code isn't empty
-pub some_code : (xs slice : List LinkedInstr) → slice ≡ xs → (b : Bool) → b ≡ (length slice == 0) → b ≡ false → 0 < length (map instr_of xs)
-some_code [] slice e b is f = absurd (true≢false (sym (is ∙ ap (λ (s : List LinkedInstr). length s == 0) e) ∙ f))
-some_code (x ∷ xs) slice e b is f = omega arith
-
--- A method, where a search was answered as it is.
-pub method_then : (k : ProgramKinds) (m : MethodOf) (x : MethodKinds) (fits : length x.takes.items ≤ m.max_locals)
-    (some : 0 < length m.code) (marks : List Bool)
-    (joins : AreJoins m.code marks) (f : Found) (begun : IsBegun m x.takes.items f) (b : Body) (kinds_are : b.scene.program.now ≡ k)
-    (code : map instr_of b.code.now ≡ m.code) (marked : b.joins.now ≡ marks) (result : b.scene.result ≡ x.result)
-    (most : b.scene.max_stack ≡ m.max_stack)
-    (r : Result Bool Memory) → IfOk r (λ c. (s : Setting) → HasBegun s f b → SearchIs s c) →
-    IfOk r (λ c. (p : Program) (class number : ℕ) → MethodIs p class number k m x → TypableIs p class number m c)
-method_then k m x fits some marks joins f begun b kinds_are code marked result most (Err e) h = tt
-method_then k m x fits some marks joins f begun b kinds_are code marked result most (Ok c) h = λ p class number i.
-    method_says p class number k m x i fits some marks joins f begun b kinds_are code marked result most c
-    (h (method_setting p class number k m x i fits some marks joins f begun b kinds_are code marked result most)
-    (method_begun p class number k m x i fits some marks joins f begun b kinds_are code marked result most))

@@ -297,6 +297,20 @@ module _ (t : Table) where
     by_cases None e = refl
     by_cases (Some x) e = absurd (none_is_not (shows x) e)
 
+  -- the code is told of what is read at the table's signs
+  module _ (rest : List ℕ) {signs : List ℕ} {told : Option FrontPiece} (is : signs ≡ t.signs)
+      (e : told ≡ option_map shows (piece_at (record { signs = signs; has_texts = t.has_texts }) rest)) where
+    at_table : told ≡ option_map shows (piece_at t rest)
+    at_table = e ∙ ap (λ (s : List ℕ). option_map shows (piece_at (record { signs = s; has_texts = t.has_texts }) rest)) is
+
+    -- the piece that the code is told of
+    pub told_front : {shown : FrontPiece} → told ≡ Some shown → Front shown rest
+    told_front {shown = shown} h = front_is shown rest (sym h ∙ at_table)
+
+    -- where it is told of none
+    pub told_none : told ≡ None → piece_at t rest ≡ None
+    told_none h = none_front rest (sym h ∙ at_table)
+
   -- the piece is within the bytes
   pub front_within : (shown : FrontPiece) (rest : List ℕ) → Front shown rest → shown.len ≤ length rest
   front_within shown rest f =

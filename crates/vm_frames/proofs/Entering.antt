@@ -1,6 +1,6 @@
 -- A state that a method was entered in, and one that was left.
-use Rattle.std.proofs.Common.{◌≡◌, ℕ, ◌+◌, ◌-◌, ◌≤◌, List, [], ◌∷◌, ◌++◌, length, take, drop, replicate, Option, Some, refl, sym, ap, ◌∙◌}
-use Rattle.std.proofs.Common.{subst, arith, length-append, length-drop}
+use Rattle.std.proofs.Common.{◌≡◌, ℕ, ◌+◌, ◌-◌, ◌≤◌, List, [], ◌∷◌, ◌++◌, length, take, drop, replicate, Option, Some, refl, sym, ap, ap₂}
+use Rattle.std.proofs.Common.{◌∙◌, subst, arith, length-append, length-drop}
 use Rattle.std.proofs.lemmas.List.{reverse-append, length-replicate}
 use Rattle.std.specs.Prelude.{All, reverse}
 use Rattle.raw_stack.specs.Frames.{Frames}
@@ -17,25 +17,28 @@ use Rattle.vm_frames.proofs.Calling as calls
 use Rattle.vm_frames.proofs.States.{depth_is}
 
 module _ (s : Inside) (v : Seen) (view_is : seen_of s ≡ v) (kept : IsKept s) where
-  module _ (s' : Inside) (class method args locals : ℕ) (told : Option ℕ) (mid : Frames Cell) (texts : s'.texts.items ≡ s.texts.items)
+  module _ (s' : Inside) (class method args locals blanks : ℕ) (told : Option ℕ) (mid : Frames Cell) (older : List Head)
+      (texts : s'.texts.items ≡ s.texts.items)
       (heap : s'.heap.items ≡ s.heap.items) (le : args ≤ length v.machine.frame.operands) (fits : args ≤ locals)
       (same : (mid.running ≡ s.cells.running) × (mid.callers ≡ s.cells.callers))
       (head : s'.head ≡ record { class = class; method = method; place = 0; told = told; locals = locals })
-      (heads : s'.heads.items ≡ s.heads.items ++ record s.head { place = s.head.place + 1 } ∷ [])
-      (running : s'.cells.running ≡ drop (length mid.running - args) mid.running ++ replicate (locals - args) cells.Unset)
+      (older_are : older ≡ s.heads.items) (heads : s'.heads.items ≡ older ++ record s.head { place = s.head.place + 1 } ∷ [])
+      (blanks_are : blanks ≡ locals)
+      (running : s'.cells.running ≡ drop (length mid.running - args) mid.running ++ replicate (blanks - args) cells.Unset)
       (callers : s'.cells.callers ≡ take (length mid.running - args) mid.running ∷ mid.callers) where
     short : args ≤ length s.cells.running - s.head.locals
     short = omega (arith, le, depth_is s v view_is kept)
 
     running_is : s'.cells.running ≡ drop (length s.cells.running - args) s.cells.running ++ replicate (locals - args) cells.Unset
-    running_is = running ∙ ap (λ r. drop (length r - args) r ++ replicate (locals - args) cells.Unset) same.0
+    running_is = running ∙ ap₂ (λ r n. drop (length r - args) r ++ replicate (n - args) cells.Unset) same.0 blanks_are
 
     callers_is : s'.cells.callers ≡ take (length s.cells.running - args) s.cells.running ∷ s.cells.callers
     callers_is = callers ∙ ap (λ r. take (length r - args) r ∷ mid.callers) same.0
         ∙ ap (λ r. take (length s.cells.running - args) s.cells.running ∷ r) same.1
 
     heads_is : reverse s'.heads.items ≡ record s.head { place = s.head.place + 1 } ∷ reverse s.heads.items
-    heads_is = ap reverse heads ∙ reverse-append s.heads.items (record s.head { place = s.head.place + 1 } ∷ [])
+    heads_is = ap reverse (heads ∙ ap (λ l. l ++ record s.head { place = s.head.place + 1 } ∷ []) older_are)
+        ∙ reverse-append s.heads.items (record s.head { place = s.head.place + 1 } ∷ [])
 
     pub enters : (seen_of s').machine ≡ entered v.machine class method args locals told
     enters =
@@ -47,7 +50,7 @@ module _ (s : Inside) (v : Seen) (view_is : seen_of s ≡ v) (kept : IsKept s) w
         head
         running_is callers_is
 
-    pub entered-kept : s'.cells.spare + (locals - args) ≡ mid.spare → locals - args + most ≤ mid.spare → IsKept s'
+    pub entered-kept : s'.cells.spare + (blanks - args) ≡ mid.spare → blanks - args + most ≤ mid.spare → IsKept s'
     entered-kept spare enough =
         let locals_is : s'.head.locals ≡ locals = ap (λ h. h.locals) head in
         let long : length s'.cells.running ≡ locals =
@@ -74,7 +77,7 @@ module _ (s : Inside) (v : Seen) (view_is : seen_of s ≡ v) (kept : IsKept s) w
         ) in
         let count : length s.texts.items ≡ length s'.texts.items = sym (ap length texts) in
         record {
-          room = omega (arith, locals_is, long, spare, enough);
+          room = omega (arith, locals_is, long, blanks_are, spare, enough);
           running = subst (λ k. IsFrame k s'.head s'.cells.running) count
               (calls.called-frame s.texts.items s.head
               (reverse s.heads.items) s.cells.running s.cells.callers s.heap.items v view_is kept.running s'.head s'.cells.running args

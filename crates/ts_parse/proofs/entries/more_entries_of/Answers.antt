@@ -1,49 +1,28 @@
-use Rattle.std.proofs.Common.{map, sym, ◌∙◌, arith}
+use Rattle.std.proofs.Common.{sym, ◌∙◌, arith}
 use Rattle.std.proofs.lemmas.List.{map-append}
 use Rattle.std.proofs.lemmas.Result.{err_from_is_err_and}
-use Rattle.mg_read.proofs.Loop.{Left-more, Left-done, with_front}
+use Rattle.mg_read.proofs.Loop.{Left-more, Left-done}
 use Rattle.mg_read.proofs.Turns.{Left-front, Left-refused}
-use Rattle.mg_read.specs.Reader.{all_of}
-use Rattle.ts_parse.specs.declared.token.Mark.TheVariants as marks
-use Rattle.ts_parse.specs.Tok.{toks}
-use Rattle.ts_parse.specs.Written.{wentry_of}
-use Rattle.ts_parse.specs.inner.Reading.{is_more, behind_at, entry_at}
 use Rattle.ts_parse.proofs.Contents.{other_entry_shorter}
 use Rattle.ts_parse.proofs.Steps.{length_toks}
 use Rattle.ts_parse.proofs.entries.more_entries_of.Goals as goal
 
 pub others-init : goal.others-init
-others-init c = Left-front is_more (behind_at marks.Comma entry_at) (map wentry_of c.args.entries.items) (toks c.args.tokens.now)
+others-init c = Left-front _ _ _ _
 
 pub returns-in_err-other : goal.returns-in_err-other
 returns-in_err-other c =
     let p = err_from_is_err_and c.from_residual.result c.from_residual.ensures.1 in
-    let goes = sym c.is_more.ensures ∙ c.others-test.true in
-    rw (p.1, p.2)
-    (Left-refused is_more (behind_at marks.Comma entry_at) c.in_err-other.field-0.0 (map wentry_of c.others.entries.items)
-    (toks c.others.rest.now)
-    (with_front (map wentry_of c.args.entries.items) (all_of is_more (behind_at marks.Comma entry_at) (toks c.args.tokens.now))) goes
-    c.in_err-other.ensures c.others.invariant)
+    rw (p.1, p.2) (Left-refused _ _ _ _ _ _ (sym c.is_more.ensures ∙ c.others-test.true) c.in_err-other.ensures c.others.invariant)
 
 pub others-smaller : goal.others-smaller
-others-smaller c =
-    let h = other_entry_shorter (toks c.others.rest.now) (wentry_of c.in_ok-other.other) (toks c.in_ok-other.after.now)
-    c.in_ok-other.ensures in
-    omega (arith, h, length_toks c.others.rest.now, length_toks c.in_ok-other.after.now)
+others-smaller c = omega (arith, other_entry_shorter _ _ _ c.in_ok-other.ensures, length_toks)
 
 pub others-preserved : goal.others-preserved
 others-preserved c =
-    let goes = sym c.is_more.ensures ∙ c.others-test.true in
-    let less = other_entry_shorter (toks c.others.rest.now) (wentry_of c.in_ok-other.other) (toks c.in_ok-other.after.now)
-    c.in_ok-other.ensures in
+    let less = other_entry_shorter _ _ _ c.in_ok-other.ensures in
     rw (c.in_ok-push.ensures.ok, map-append)
-    (Left-more is_more (behind_at marks.Comma entry_at) (map wentry_of c.others.entries.items) (toks c.others.rest.now)
-    (wentry_of c.in_ok-other.other) (toks c.in_ok-other.after.now)
-    (with_front (map wentry_of c.args.entries.items) (all_of is_more (behind_at marks.Comma entry_at) (toks c.args.tokens.now))) goes
-    c.in_ok-other.ensures less c.others.invariant)
+    (Left-more _ _ _ _ _ _ _ (sym c.is_more.ensures ∙ c.others-test.true) c.in_ok-other.ensures less c.others.invariant)
 
 pub returns : goal.returns
-returns c =
-    Left-done is_more (behind_at marks.Comma entry_at) (map wentry_of c.others.entries.items) (toks c.others.rest.now)
-    (with_front (map wentry_of c.args.entries.items) (all_of is_more (behind_at marks.Comma entry_at) (toks c.args.tokens.now)))
-    (sym c.is_more.ensures ∙ c.others-test.false) c.others.invariant
+returns c = Left-done _ _ _ _ _ (sym c.is_more.ensures ∙ c.others-test.false) c.others.invariant

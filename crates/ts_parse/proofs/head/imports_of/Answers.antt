@@ -2,40 +2,26 @@ use Rattle.std.proofs.Common.{sym, ◌∙◌, arith}
 use Rattle.std.proofs.lemmas.Result.{err_from_is_err_and}
 use Rattle.mg_read.proofs.Loop.{Left-init, Left-more, Left-done}
 use Rattle.mg_read.proofs.Turns.{Left-refused}
-use Rattle.mg_read.specs.Reader.{all_of}
-use Rattle.ts_parse.specs.declared.token.Mark.TheVariants as marks
-use Rattle.ts_parse.specs.Tok.{toks}
-use Rattle.ts_parse.specs.inner.Reading.{is_at, import_at}
 use Rattle.ts_parse.proofs.Files.{import_shorter}
 use Rattle.ts_parse.proofs.Steps.{length_toks}
 use Rattle.ts_parse.proofs.head.imports_of.Goals as goal
 
 pub others-init : goal.others-init
-others-init c = rw c.new-imports.ensures (Left-init (is_at marks.Import) import_at (toks c.args.tokens.now))
+others-init c = rw c.new-imports.ensures (Left-init _ _ _)
 
 pub returns-in_err-other : goal.returns-in_err-other
 returns-in_err-other c =
     let p = err_from_is_err_and c.from_residual.result c.from_residual.ensures.1 in
-    let goes = sym c.is_mark.ensures ∙ c.others-test.true in
-    rw (p.1, p.2)
-    (Left-refused (is_at marks.Import) import_at c.in_err-other.field-0.0 c.others.imports.items (toks c.others.rest.now)
-    (all_of (is_at marks.Import) import_at (toks c.args.tokens.now)) goes c.in_err-other.ensures c.others.invariant)
+    rw (p.1, p.2) (Left-refused _ _ _ _ _ _ (sym c.is_mark.ensures ∙ c.others-test.true) c.in_err-other.ensures c.others.invariant)
 
 pub others-smaller : goal.others-smaller
-others-smaller c =
-    let h = import_shorter (toks c.others.rest.now) c.in_ok-other.other (toks c.in_ok-other.after.now) c.in_ok-other.ensures in
-    omega (arith, h, length_toks c.others.rest.now, length_toks c.in_ok-other.after.now)
+others-smaller c = omega (arith, import_shorter _ _ _ c.in_ok-other.ensures, length_toks)
 
 pub others-preserved : goal.others-preserved
 others-preserved c =
-    let goes = sym c.is_mark.ensures ∙ c.others-test.true in
-    let less = import_shorter (toks c.others.rest.now) c.in_ok-other.other (toks c.in_ok-other.after.now) c.in_ok-other.ensures in
+    let less = import_shorter _ _ _ c.in_ok-other.ensures in
     rw c.in_ok-push.ensures.ok
-    (Left-more (is_at marks.Import) import_at c.others.imports.items (toks c.others.rest.now) c.in_ok-other.other
-    (toks c.in_ok-other.after.now)
-    (all_of (is_at marks.Import) import_at (toks c.args.tokens.now)) goes c.in_ok-other.ensures less c.others.invariant)
+    (Left-more _ _ _ _ _ _ _ (sym c.is_mark.ensures ∙ c.others-test.true) c.in_ok-other.ensures less c.others.invariant)
 
 pub returns : goal.returns
-returns c =
-    Left-done (is_at marks.Import) import_at c.others.imports.items (toks c.others.rest.now)
-    (all_of (is_at marks.Import) import_at (toks c.args.tokens.now)) (sym c.is_mark.ensures ∙ c.others-test.false) c.others.invariant
+returns c = Left-done _ _ _ _ _ (sym c.is_mark.ensures ∙ c.others-test.false) c.others.invariant

@@ -1,45 +1,27 @@
 use Rattle.std.proofs.Common.{sym, ◌∙◌, arith}
 use Rattle.std.proofs.lemmas.Result.{err_from_is_err_and}
-use Rattle.mg_read.proofs.Loop.{Left-more, Left-done, with_front}
+use Rattle.mg_read.proofs.Loop.{Left-more, Left-done}
 use Rattle.mg_read.proofs.Turns.{Left-front, Left-refused}
-use Rattle.mg_read.specs.Reader.{all_of}
-use Rattle.ts_parse.specs.declared.token.Mark.TheVariants as marks
-use Rattle.ts_parse.specs.Tok.{toks}
-use Rattle.ts_parse.specs.inner.Reading.{is_at, behind_at, branch_at}
 use Rattle.ts_parse.proofs.Members.{other_branch_shorter}
 use Rattle.ts_parse.proofs.Steps.{length_toks}
 use Rattle.ts_parse.proofs.methods.more_branches_of.Goals as goal
 
 pub others-init : goal.others-init
-others-init c = Left-front (is_at marks.Comma) (behind_at marks.Comma branch_at) c.args.branches.items (toks c.args.tokens.now)
+others-init c = Left-front _ _ _ _
 
 pub returns-in_err-other : goal.returns-in_err-other
 returns-in_err-other c =
     let p = err_from_is_err_and c.from_residual.result c.from_residual.ensures.1 in
-    let goes = sym c.is_mark.ensures ∙ c.others-test.true in
-    rw (p.1, p.2)
-    (Left-refused (is_at marks.Comma) (behind_at marks.Comma branch_at) c.in_err-other.field-0.0 c.others.branches.items
-    (toks c.others.rest.now)
-    (with_front c.args.branches.items (all_of (is_at marks.Comma) (behind_at marks.Comma branch_at) (toks c.args.tokens.now))) goes
-    c.in_err-other.ensures c.others.invariant)
+    rw (p.1, p.2) (Left-refused _ _ _ _ _ _ (sym c.is_mark.ensures ∙ c.others-test.true) c.in_err-other.ensures c.others.invariant)
 
 pub others-smaller : goal.others-smaller
-others-smaller c =
-    let h = other_branch_shorter (toks c.others.rest.now) c.in_ok-other.other (toks c.in_ok-other.after.now) c.in_ok-other.ensures in
-    omega (arith, h, length_toks c.others.rest.now, length_toks c.in_ok-other.after.now)
+others-smaller c = omega (arith, other_branch_shorter _ _ _ c.in_ok-other.ensures, length_toks)
 
 pub others-preserved : goal.others-preserved
 others-preserved c =
-    let goes = sym c.is_mark.ensures ∙ c.others-test.true in
-    let less = other_branch_shorter (toks c.others.rest.now) c.in_ok-other.other (toks c.in_ok-other.after.now) c.in_ok-other.ensures in
+    let less = other_branch_shorter _ _ _ c.in_ok-other.ensures in
     rw c.in_ok-push.ensures.ok
-    (Left-more (is_at marks.Comma) (behind_at marks.Comma branch_at) c.others.branches.items (toks c.others.rest.now) c.in_ok-other.other
-    (toks c.in_ok-other.after.now)
-    (with_front c.args.branches.items (all_of (is_at marks.Comma) (behind_at marks.Comma branch_at) (toks c.args.tokens.now))) goes
-    c.in_ok-other.ensures less c.others.invariant)
+    (Left-more _ _ _ _ _ _ _ (sym c.is_mark.ensures ∙ c.others-test.true) c.in_ok-other.ensures less c.others.invariant)
 
 pub returns : goal.returns
-returns c =
-    Left-done (is_at marks.Comma) (behind_at marks.Comma branch_at) c.others.branches.items (toks c.others.rest.now)
-    (with_front c.args.branches.items (all_of (is_at marks.Comma) (behind_at marks.Comma branch_at) (toks c.args.tokens.now)))
-    (sym c.is_mark.ensures ∙ c.others-test.false) c.others.invariant
+returns c = Left-done _ _ _ _ _ (sym c.is_mark.ensures ∙ c.others-test.false) c.others.invariant

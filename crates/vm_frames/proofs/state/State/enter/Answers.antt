@@ -1,7 +1,6 @@
 -- The new frame lies over the operands that it takes.
-use Rattle.std.proofs.Common.{◌+◌, ◌-◌, ◌++◌, ◌∷◌, [], List, length, drop, replicate, refl, ap, ◌∙◌, arith}
+use Rattle.std.proofs.Common.{length, refl, ap, arith}
 use Rattle.vm_frames.specs.declared.cell.Head.{Head}
-use Rattle.vm_frames.specs.declared.cell.Cell.TheVariants as cells
 use Rattle.vm_frames.proofs.States.{depth_is, place_is}
 use Rattle.vm_frames.proofs.Same.{on_err, same-seen, same-kept}
 use Rattle.vm_frames.proofs.Entering.{enters, entered-kept}
@@ -44,36 +43,18 @@ enter-requires-clause-args c =
 
 pub invariant_of-self-in-Ok : goal.invariant_of-self-in-Ok
 invariant_of-self-in-Ok c =
-    let s = c.self.inside in
     let callee = c.args.callee in
-    let mid = c.reserve-2.new.self in
-    entered-kept s c.args.self.now c.self.view_is c.self.invariant
-    (record s {
-      heads = c.push_reserved.new.self;
-      cells = c.enter.new.self;
-      head = record { class = callee.class; method = callee.method; place = 0; told = callee.told; locals = callee.locals };
-    })
-    callee.class callee.method callee.args callee.locals callee.told mid refl refl c.requires.args c.requires.locals
-    c.reserve-2.ensures.frames refl
-    (c.push_reserved.ensures.items ∙ ap (λ (l : List Head). l ++ record s.head { place = s.head.place + 1 } ∷ []) c.reserve.ensures.items)
-    (c.enter.ensures.running
-    ∙ ap (λ n. drop (length mid.running - callee.args) mid.running ++ replicate (n - callee.args) cells.Unset) c.from.ensures)
-    c.enter.ensures.callers (omega (arith, c.enter.ensures.spare, c.from.ensures)) (omega (arith, c.in-Ok.ensures.ok.0, c.from.ensures))
+    entered-kept c.self.inside c.args.self.now c.self.view_is c.self.invariant _ callee.class callee.method callee.args callee.locals _
+    callee.told c.reserve-2.new.self _ refl refl c.requires.args c.requires.locals c.reserve-2.ensures.frames refl c.reserve.ensures.items
+    c.push_reserved.ensures.items c.from.ensures c.enter.ensures.running c.enter.ensures.callers c.enter.ensures.spare
+    c.in-Ok.ensures.ok.0
 
 pub returns-in-Ok-clause-ok : goal.returns-in-Ok-clause-ok
 returns-in-Ok-clause-ok c =
-    let s = c.self.inside in
     let callee = c.args.callee in
-    let mid = c.reserve-2.new.self in
-    enters s c.args.self.now c.self.view_is c.self.invariant
-    (record s {
-      heads = c.push_reserved.new.self;
-      cells = c.enter.new.self;
-      head = record { class = callee.class; method = callee.method; place = 0; told = callee.told; locals = callee.locals };
-    })
-    callee.class callee.method callee.args callee.locals callee.told mid refl refl c.requires.args c.requires.locals
-    c.reserve-2.ensures.frames refl
-    (c.push_reserved.ensures.items ∙ ap (λ (l : List Head). l ++ record s.head { place = s.head.place + 1 } ∷ []) c.reserve.ensures.items)
-    (c.enter.ensures.running
-    ∙ ap (λ n. drop (length mid.running - callee.args) mid.running ++ replicate (n - callee.args) cells.Unset) c.from.ensures)
-    c.enter.ensures.callers
+    let head : Head = record { class = callee.class; method = callee.method; place = 0; told = callee.told; locals = callee.locals } in
+    enters c.self.inside c.args.self.now c.self.view_is c.self.invariant
+    (record c.self.inside { heads = c.push_reserved.new.self; cells = c.enter.new.self; head = head })
+    callee.class callee.method callee.args callee.locals _
+    callee.told c.reserve-2.new.self _ refl refl c.requires.args c.requires.locals c.reserve-2.ensures.frames refl c.reserve.ensures.items
+    c.push_reserved.ensures.items c.from.ensures c.enter.ensures.running c.enter.ensures.callers
