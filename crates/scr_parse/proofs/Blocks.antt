@@ -1,21 +1,35 @@
 -- Blocks, choices and loops are read where they are spelled, and nowhere else, whatever the statements in them are.
-use Rattle.std.proofs.Common.{◌≡◌, ◌<◌, List, [], ◌∷◌, ◌++◌, length, true, false, Some, refl, sym, ap, ◌∙◌, subst, append_assoc, arith}
+use Rattle.std.proofs.Common.{◌≡◌, ℕ, ◌<◌, List, [], ◌∷◌, ◌++◌, length, true, false, Some, refl, sym, ap, ◌∙◌, subst}
+use Rattle.std.proofs.Common.{append_assoc, arith}
 use Rattle.mg_text.specs.Call.{Name}
 use Rattle.mg_text.specs.declared.place.Place.{Place}
 use Rattle.mg_read.specs.Reader.{Reader, all_of}
 use Rattle.mg_read.proofs.Steps.{bind_some, some_is, Takes}
 use Rattle.mg_read.proofs.Lists.{Each, IsExact, Starts, all_sound, all_complete}
 use Rattle.mg_read.proofs.Loop.{with_front}
-use Rattle.mg_read.proofs.Turns.{front_sound, front_complete}
+use Rattle.mg_read.proofs.Turns.{front_sound, front_complete, shorter}
 use Rattle.scr_tree.specs.Tok.{Tok, named, marked}
 use Rattle.scr_tree.specs.declared.token.Mark.TheVariants as marks
 use Rattle.scr_parse.specs.Grammar.{IsBraced}
 use Rattle.scr_parse.specs.inner.Reading.{is_at, mark_at, name_at, not_closed, block_with, other_with, branches_with, choice_with, rec_with}
-use Rattle.scr_parse.specs.inner.Reading.{continue_with}
+use Rattle.scr_parse.specs.inner.Reading.{continue_with, Shortens}
 use Rattle.scr_parse.proofs.Steps.{Anything, after, mark_is, name_is}
 
 abbrev pub NotOr : List Tok → Type 0
 NotOr ts = is_at marks.Or ts ≡ false
+
+-- the tokens begin neither with "}" nor with "or", whatever stands behind them
+abbrev pub Begins : List Tok → List Tok → Type 0
+Begins us rest = NotOr (us ++ rest) × (not_closed (us ++ rest) ≡ true) × (0 < length us)
+
+pub starts_of : {S : Type 0} (G : S → List Tok → Type 0) → ((x : S) (us rest : List Tok) → G x us → Begins us rest) →
+    Starts not_closed G NotOr
+starts_of G begins =
+    record {
+      follows = λ x us rest h. (begins x us rest h).0;
+      goes = λ x us rest h. (begins x us rest h).1;
+      nonempty = λ x us h. (begins x us [] h).2;
+    }
 
 -- what takes tokens of one form takes them of another that the first one gives
 pub takes_as : {T : Type 0} {P Q : List T → Type 0} {ts rest : List T} → ((us : List T) → P us → Q us) → Takes P ts rest → Takes Q ts rest
@@ -209,3 +223,16 @@ continue_sound {A} build ts x e =
       parts = after (mark_is marks.Continue ts s.0 s.1) (after (name_is s.0.1 n.0 n.1) (mark_is marks.Semicolon n.0.1 c.0 c.1));
       holds = record { place = s.0.0; name = n.0.0.1; is = refl; name_place = n.0.0.0; end = c.0.0; tokens = refl };
     })
+
+-- `G d` says how a statement is spelled in which statements stand at most so deep, and `f d` reads it.
+module _ {S : Type 0} (G : ℕ → S → List Tok → Type 0) (f : ℕ → Reader Tok S) (exact : (d : ℕ) → IsExact (f d) (G d) NotOr)
+    (starts : (d : ℕ) → Starts not_closed (G d) NotOr)
+  where
+    -- a statement takes a token at least, and so does a further branch
+    pub nested_shorten : Shortens f
+    nested_shorten =
+        record {
+          statement = λ d. shorter (f d) (G d) NotOr (exact d) (starts d).nonempty;
+          other = λ d. shorter (other_with (f d)) (OtherOf (G d)) Anything (other_exact (G d) (f d) (exact d) (starts d))
+              (other_nonempty (G d));
+        }

@@ -1,5 +1,5 @@
 -- Statements are read where the grammar spells them, and nowhere else.
-use Rattle.std.proofs.Common.{◌≡◌, ℕ, zero, suc, ◌<◌, ◌≤◌, List, [], ◌∷◌, ◌++◌, length, map, true, Some, refl, sym, ap, ◌∙◌, subst}
+use Rattle.std.proofs.Common.{◌≡◌, ℕ, zero, suc, ◌≤◌, List, [], ◌∷◌, ◌++◌, map, Some, refl, sym, ap, ◌∙◌, subst}
 use Rattle.std.proofs.Common.{append_assoc, arith, inl, inr}
 use Rattle.mg_text.specs.Call.{Name}
 use Rattle.mg_text.specs.declared.place.Place.{Place}
@@ -19,13 +19,12 @@ use Rattle.scr_parse.specs.Grammar.{Listed, IsNaming, direction_mark, AreTypes, 
 use Rattle.scr_parse.specs.Grammar.{AreStatements, AreBranches, AreOthers}
 use Rattle.scr_parse.specs.inner.View.{joined}
 use Rattle.scr_parse.specs.inner.Reading.{is_at, mark_at, name_at, names_at, direction_at, payload_at, message_at, continue_with, do_at}
-use Rattle.scr_parse.specs.inner.Reading.{not_closed, block_with, other_with, choice_with, rec_with, says_at, statement_with, nested_at}
+use Rattle.scr_parse.specs.inner.Reading.{not_closed, block_with, choice_with, rec_with, says_at, statement_with, nested_at}
 use Rattle.scr_parse.specs.inner.Reading.{a_choice, a_rec, a_continue, plain_at, statement_at, Shortens}
 use Rattle.scr_parse.proofs.Steps.{Anything, after, mark_is, name_is}
-use Rattle.mg_read.proofs.Turns.{shorter}
-use Rattle.scr_parse.proofs.Blocks.{NotOr, takes_as, BlockOf, OtherOf, BranchesOf, IsChoice, IsRec, IsContinue, other_nonempty}
-use Rattle.scr_parse.proofs.Blocks.{block_complete, block_exact, other_exact}
-use Rattle.scr_parse.proofs.Blocks.{branches_complete, choice_sound, rec_sound, continue_sound}
+use Rattle.scr_parse.proofs.Blocks.{NotOr, Begins, starts_of, takes_as, BlockOf, OtherOf, BranchesOf, IsChoice, IsRec, IsContinue}
+use Rattle.scr_parse.proofs.Blocks.{block_complete, block_exact, branches_complete, choice_sound, rec_sound, continue_sound}
+use Rattle.scr_parse.proofs.Blocks.{nested_shorten}
 use Rattle.scr_parse.proofs.Names.{names_sound, names_complete}
 
 -- ---- messages
@@ -274,32 +273,16 @@ module _ (declared : List Declaration) where
 
   -- ---- how each begins
 
-  deep_goes : (d : ℕ) (s : Statements) (us rest : List Tok) → Deep d s us → not_closed (us ++ rest) ≡ true
-  deep_goes d Nothing us rest h = absurd h
-  deep_goes d (Says m behind) us rest (none, (types, (a, b, c, e, f, vs, parts, h, kind)), le) = rw parts refl
-  deep_goes d (Choice place at branches behind) us rest (none, a, b, cs, vs, parts, h, le) = rw parts refl
-  deep_goes d (Rec place name body behind) us rest (none, a, cs, vs, parts, h, le) = rw parts refl
-  deep_goes d (Continue place name behind) us rest (none, a, b, parts, le) = rw parts refl
-  deep_goes d (Do place name behind) us rest (none, a, b, c, e, roles, vs, parts, h, le) = rw parts refl
-
-  deep_follows : (d : ℕ) (s : Statements) (us rest : List Tok) → Deep d s us → NotOr (us ++ rest)
-  deep_follows d Nothing us rest h = absurd h
-  deep_follows d (Says m behind) us rest (none, (types, (a, b, c, e, f, vs, parts, h, kind)), le) = rw parts refl
-  deep_follows d (Choice place at branches behind) us rest (none, a, b, cs, vs, parts, h, le) = rw parts refl
-  deep_follows d (Rec place name body behind) us rest (none, a, cs, vs, parts, h, le) = rw parts refl
-  deep_follows d (Continue place name behind) us rest (none, a, b, parts, le) = rw parts refl
-  deep_follows d (Do place name behind) us rest (none, a, b, c, e, roles, vs, parts, h, le) = rw parts refl
-
-  deep_nonempty : (d : ℕ) (s : Statements) (us : List Tok) → Deep d s us → 0 < length us
-  deep_nonempty d Nothing us h = absurd h
-  deep_nonempty d (Says m behind) us (none, (types, (a, b, c, e, f, vs, parts, h, kind)), le) = rw parts (omega arith)
-  deep_nonempty d (Choice place at branches behind) us (none, a, b, cs, vs, parts, h, le) = rw parts (omega arith)
-  deep_nonempty d (Rec place name body behind) us (none, a, cs, vs, parts, h, le) = rw parts (omega arith)
-  deep_nonempty d (Continue place name behind) us (none, a, b, parts, le) = rw parts (omega arith)
-  deep_nonempty d (Do place name behind) us (none, a, b, c, e, roles, vs, parts, h, le) = rw parts (omega arith)
+  deep_begins : (d : ℕ) (s : Statements) (us rest : List Tok) → Deep d s us → Begins us rest
+  deep_begins d Nothing us rest h = absurd h
+  deep_begins d (Says m behind) us rest (none, (types, (a, b, c, e, f, vs, parts, h, kind)), le) = rw parts (refl, refl, omega arith)
+  deep_begins d (Choice place at branches behind) us rest (none, a, b, cs, vs, parts, h, le) = rw parts (refl, refl, omega arith)
+  deep_begins d (Rec place name body behind) us rest (none, a, cs, vs, parts, h, le) = rw parts (refl, refl, omega arith)
+  deep_begins d (Continue place name behind) us rest (none, a, b, parts, le) = rw parts (refl, refl, omega arith)
+  deep_begins d (Do place name behind) us rest (none, a, b, c, e, roles, vs, parts, h, le) = rw parts (refl, refl, omega arith)
 
   deep_starts : (d : ℕ) → Starts not_closed (Deep d) NotOr
-  deep_starts d = record { follows = deep_follows d; goes = deep_goes d; nonempty = deep_nonempty d }
+  deep_starts d = starts_of (Deep d) (deep_begins d)
 
   -- ---- statements
 
@@ -405,18 +388,8 @@ module _ (declared : List Declaration) where
             (statement_at declared d) d (statement_exact d);
       }
 
-  -- a statement takes a token at least, and so does a further branch
-  statement_shorter : (d : ℕ) (ts : List Tok) (x : Statements) (us : List Tok) → statement_at declared d ts ≡ Some (x, us)
-      → length us < length ts
-  statement_shorter d = shorter (statement_at declared d) (Deep d) NotOr (statement_exact d) (deep_nonempty d)
-
-  other_shorter : (d : ℕ) (ts : List Tok) (x : List Statements) (us : List Tok) → other_with (statement_at declared d) ts ≡ Some (x, us)
-      → length us < length ts
-  other_shorter d = shorter (other_with (statement_at declared d)) (OtherOf (Deep d)) Anything
-      (other_exact (Deep d) (statement_at declared d) (statement_exact d) (deep_starts d)) (other_nonempty (Deep d))
-
   pub shortens : Shortens (statement_at declared)
-  shortens = record { statement = statement_shorter; other = other_shorter }
+  shortens = nested_shorten Deep (statement_at declared) statement_exact deep_starts
 
   pub blocks_exact : (d : ℕ) → IsExact (block_with (statement_at declared d)) (BlockOf (Deep d)) Anything
   blocks_exact d = block_exact (Deep d) (statement_at declared d) (statement_exact d) (deep_starts d)

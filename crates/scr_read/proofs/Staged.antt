@@ -24,13 +24,18 @@ use Rattle.scr_read.specs.Outcome.{Answer, Protocol, Outcome, fault_answer, answ
 use Rattle.scr_read.specs.inner.Stages.{Stage, IsProtocol}
 use Rattle.scr_read.proofs.Unique.{one_outcome}
 
-pub told : (file : ℕ) (bytes : List ℕ) (b : Answer) → Outcome file bytes b → (a : Answer) → ◌≡◌ {A = Option Answer} (Some b) (Some a)
-    → Outcome file bytes a
-told file bytes b h a e = subst (Outcome file bytes) (some_is b a e) h
+-- what holds of an answer holds of the one that was given
+pub told : {A : Type 0} (P : A → Type 0) (b : A) → P b → (a : A) → ◌≡◌ {A = Option A} (Some b) (Some a) → P a
+told P b h a e = subst P (some_is b a e) h
 
-pub told_by : (file : ℕ) (bytes : List ℕ) (o : Option Answer) (b : Answer) → o ≡ Some b → Outcome file bytes b → (a : Answer) → o ≡ Some a
-    → Outcome file bytes a
-told_by file bytes o b is h a e = told file bytes b h a (sym is ∙ e)
+pub told_by : {A : Type 0} (P : A → Type 0) (o : Option A) (b : A) → o ≡ Some b → P b → (a : A) → o ≡ Some a → P a
+told_by P o b is h a e = told P b h a (sym is ∙ e)
+
+-- where it holds of one at most, that one was given, or none
+pub told_alone : {A : Type 0} (P : A → Type 0) → ((b a : A) → P b → P a → b ≡ a) → (o : Option A) → ((a : A) → o ≡ Some a → P a) → (a : A)
+    → P a → (o ≡ Some a) ⊎ (o ≡ None)
+told_alone P one None h a g = inr refl
+told_alone P one (Some b) h a g = inl (ap Some (one b a (h b refl) g))
 
 -- a bad byte lies in the file
 pub bad_within : (k : ℕ) (bytes : List ℕ) → IsBadAt k bytes → k ≤ length bytes
@@ -57,14 +62,10 @@ spells_of file bytes tokens w same separates supported spelled =
 
 pub answered_of : (file : ℕ) (bytes : List ℕ) (r : Result Local ScrFault) → Stage file bytes (IsProtocol file bytes) r → (a : Answer)
     → answer_of r ≡ Some a → Outcome file bytes a
-answered_of file bytes (Ok local) h a e = told file bytes (Protocol (tree_of local)) h a e
+answered_of file bytes (Ok local) h a e = told (Outcome file bytes) (Protocol (tree_of local)) h a e
 answered_of file bytes (Err fault) h a e = h a e
 
 pub only_of : (file : ℕ) (bytes : List ℕ) (r : Result Local ScrFault) → Stage file bytes (IsProtocol file bytes) r → (a : Answer)
     → Outcome file bytes a → IsAnswered a r
 only_of file bytes (Ok local) h a g = inl (ap Some (one_outcome file bytes (Protocol (tree_of local)) a h g))
-only_of file bytes (Err fault) h a g = go (fault_answer fault) refl
-  where
-    go : (o : Option Answer) → fault_answer fault ≡ o → (fault_answer fault ≡ Some a) ⊎ (fault_answer fault ≡ None)
-    go None e = inr e
-    go (Some b) e = inl (e ∙ ap Some (one_outcome file bytes b a (h b e) g))
+only_of file bytes (Err fault) h a g = told_alone (Outcome file bytes) (one_outcome file bytes) (fault_answer fault) h a g

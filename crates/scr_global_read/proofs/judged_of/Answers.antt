@@ -8,7 +8,7 @@ use Rattle.scr_global_judge.specs.declared.fault.Fault.{Fault}
 use Rattle.scr_global_judge.proofs.Faultless.{faultless}
 use Rattle.scr_global_read.specs.Outcome.{Outcome, Protocol, Refused, told, fault_answer, refused, found}
 use Rattle.scr_global_read.proofs.Named.{can_be_written}
-use Rattle.scr_global_read.proofs.Staged.{told_by}
+use Rattle.scr_read.proofs.Staged.{told_by}
 use Rattle.scr_global_read.proofs.judged_of.Goals as goal
 
 pub protocol_of-requires : goal.protocol_of-requires
@@ -22,7 +22,7 @@ returns-in-Some c =
     let w = written_of c.args.file c.in_ok-written.written in
     let f = c.in-Some.fault in
     let fault = subst (λ (o : Option Fault). IsFault w (fault_of o)) c.in-Some.is c.in_ok-fault.ensures in
-    told_by c.args.file c.args.bytes.now (fault_answer c.refusal.result)
+    told_by (Outcome c.args.file c.args.bytes.now) (fault_answer c.refusal.result)
     (Refused f.condition f.place (told f.condition f.name)) c.refusal.ensures
     (refused {w = w} {condition = f.condition} {place = f.place} {name = f.name} c.in_ok-written.ensures fault)
 

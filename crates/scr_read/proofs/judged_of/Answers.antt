@@ -22,7 +22,7 @@ returns-in-Some c =
     let w = written_of c.args.file c.in_ok-written.written in
     let f = c.in-Some.fault in
     let fault = subst (λ (o : Option Fault). IsFault w (fault_of o)) c.in-Some.is c.in_ok-fault.ensures in
-    told_by c.args.file c.args.bytes.now (fault_answer c.refusal.result)
+    told_by (Outcome c.args.file c.args.bytes.now) (fault_answer c.refusal.result)
     (Refused f.condition f.place (told f.condition f.name)) c.refusal.ensures
     (refused {w = w} {condition = f.condition} {place = f.place} {name = f.name} c.in_ok-written.ensures fault)
 

@@ -14,6 +14,6 @@ pub returns-in-Err-BadByte : goal.returns-in-Err-BadByte
 returns-in-Err-BadByte c =
     let fault = c.in-Err-BadByte in
     let bad = bad_of fault.field-0 fault.offset c.args.bytes.now fault.field-0-is c.in-Err-BadByte.ensures.bad in
-    told c.args.file c.args.bytes.now (BadByte c.place_of.result)
+    told (Outcome c.args.file c.args.bytes.now) (BadByte c.place_of.result)
     (subst (λ (p : Place). Outcome c.args.file c.args.bytes.now (BadByte p)) (sym c.place_of.ensures)
     (bad_byte fault.offset c.requires bad))
