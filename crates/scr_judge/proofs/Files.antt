@@ -1,6 +1,6 @@
 -- What a file answers, from what its protocols answer one after another.
 use Rattle.std.proofs.Common.{◌≡◌, ◌↔◌, ◌⊎◌, ⊎_elim, inl, inr, ℕ, Bool, true, false, ◌&&◌, IsTrue, List, [], ◌∷◌, ◌++◌, map, Contains}
-use Rattle.std.proofs.Common.{Option, Some, None, refl, sym, ap, subst, ◌∙◌, true≢false, append_assoc}
+use Rattle.std.proofs.Common.{Option, Some, None, refl, sym, ap, ap₂, subst, ◌∙◌, true≢false, append_assoc}
 use Rattle.std.specs.List.{flat_map}
 use Rattle.std.specs.Option.{option_or}
 use Rattle.std.specs.Str.{bytes_eq}
@@ -22,6 +22,7 @@ use Rattle.scr_tree.specs.declared.written.Arguments.{Arguments as Given}
 use Rattle.scr_tree.specs.declared.written.Carries.{Carries as Kept}
 use Rattle.scr_tree.specs.declared.written.Declaration.{Declaration}
 use Rattle.scr_tree.specs.declared.written.Role.{Role}
+use Rattle.scr_tree.specs.declared.syntax.Statement.{Statement}
 use Rattle.scr_tree.specs.declared.written.Written.{Written}
 use Rattle.scr_tree.specs.declared.written.WrittenPart.{WrittenPart as Part}
 use Rattle.scr_judge.specs.declared.actions.Action.{Action as CodeAction}
@@ -262,14 +263,13 @@ file_last w r e = subst (Judged NotLast (all_held (map body_of (parts_in (writte
 
 -- ---- clashes
 
-module _ (w : Written) (front behind old : List CodeAction) (n : ℕ) where
-  pub all_texts : old ≡ [] → map act front ≡ map act old ++ actions w.first.me.name 1 (statements w.first.body.items) →
-      n ≡ next w.first.me.name 1 (statements w.first.body.items) →
-      map act behind ≡ map act front ++ all_actions me_in body_of n (map part_written w.others.items) →
+module _ (w : Written) (ss : List Statement) (ps : List Part) (front behind old : List CodeAction) (n : ℕ) where
+  pub all_texts : ss ≡ w.first.body.items → ps ≡ w.others.items → map act front ≡ map act old ++ actions w.first.me.name 1 (statements ss) →
+      n ≡ next w.first.me.name 1 (statements ss) → map act behind ≡ map act front ++ all_actions me_in body_of n (map part_written ps) →
       map act behind ≡ map act old ++ all_actions me_in body_of 1 (parts_in (written_of 0 w))
-  all_texts empty first number rest =
-      rest ∙ ap (λ l. l ++ all_actions me_in body_of n (map part_written w.others.items)) first
-      ∙ append_assoc (map act old) (actions w.first.me.name 1 (statements w.first.body.items))
-      (all_actions me_in body_of n (map part_written w.others.items))
-      ∙ ap (λ k. map act old ++ (actions w.first.me.name 1 (statements w.first.body.items) ++ all_actions me_in body_of k
-      (map part_written w.others.items))) number
+  all_texts body others first number rest =
+      rest ∙ ap (λ l. l ++ all_actions me_in body_of n (map part_written ps)) first
+      ∙ append_assoc (map act old) (actions w.first.me.name 1 (statements ss)) (all_actions me_in body_of n (map part_written ps))
+      ∙ ap (λ k. map act old ++ (actions w.first.me.name 1 (statements ss) ++ all_actions me_in body_of k (map part_written ps))) number
+      ∙ ap₂ (λ b o. map act old ++ (actions w.first.me.name 1 (statements b)
+      ++ all_actions me_in body_of (next w.first.me.name 1 (statements b)) (map part_written o))) body others

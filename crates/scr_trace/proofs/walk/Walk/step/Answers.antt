@@ -8,26 +8,14 @@ use Rattle.scr_trace.proofs.walk.Walk.step.Goals as goal
 
 pub returns-in-Some-clause-steps : goal.returns-in-Some-clause-steps
 returns-in-Some-clause-steps c =
-    let to : Walk = record {
-      alloc = c.args.self.now.alloc;
-      local = c.args.self.now.local;
-      laid = c.args.self.now.laid;
-      standing =
-          c.in-Some.standing;
-    } in
+    let to : Walk = record c.args.self.now { standing = c.in-Some.standing } in
     let taken : Taken c.args.self.now (call_said c.args.call.now) c.in-Some.standing =
     subst (λ (o : Option Standing). Goes c.args.self.now (call_said c.args.call.now) o) c.in-Some.is c.in_ok-standing.ensures in
     λ tree position h. edge_steps tree c.args.self.now to position (call_said c.args.call.now) h taken refl refl
 
 pub returns-in-Some-clause-taken : goal.returns-in-Some-clause-taken
 returns-in-Some-clause-taken c =
-    let to : Walk = record {
-      alloc = c.args.self.now.alloc;
-      local = c.args.self.now.local;
-      laid = c.args.self.now.laid;
-      standing =
-          c.in-Some.standing;
-    } in
+    let to : Walk = record c.args.self.now { standing = c.in-Some.standing } in
     let taken : Taken c.args.self.now (call_said c.args.call.now) c.in-Some.standing =
     subst (λ (o : Option Standing). Goes c.args.self.now (call_said c.args.call.now) o) c.in-Some.is c.in_ok-standing.ensures in
     λ tree calls h. takes tree c.args.self.now to (call_said c.args.call.now) calls taken refl refl h
