@@ -1,6 +1,6 @@
 -- Each method that every program has is found by its name, and what is found has it.
-use Rattle.std.proofs.Common.{◌≡◌, ℕ, zero, suc, ◌+◌, ◌<◌, Bool, true, false, List, [], ◌∷◌, length, drop, get_or, Option, Some, refl, sym, ap, ◌∙◌}
-use Rattle.std.proofs.Common.{subst, cond, arith}
+use Rattle.std.proofs.Common.{◌≡◌, ℕ, zero, suc, ◌+◌, ◌<◌, Bool, true, false, List, [], ◌∷◌, length, drop, get_or, Option, Some}
+use Rattle.std.proofs.Common.{refl, sym, ap, ◌∙◌, subst, cond, arith}
 use Rattle.std.specs.List.{find}
 use Rattle.std.specs.Str.{bytes_eq}
 use Rattle.std.proofs.lemmas.Slice.Eq.{bytes_eq-Decides}
@@ -41,7 +41,8 @@ pub passed_over : {C : Type 0} (of : C → PlainMethod) (cs : List C) (name : Na
     find (λ c. bytes_eq (of c).name name) (drop (i + 1) cs) ≡ find (λ c. bytes_eq (of c).name name) (drop i cs)
 passed_over of [] name i d m within is other = absurd (omega (arith, within))
 passed_over of (c ∷ cs) name zero d m within is other =
-    sym (ap (λ b. cond b (Some c) (find (λ c. bytes_eq (of c).name name) cs)) (ap (λ (m : PlainMethod). bytes_eq m.name name) (sym is) ∙ other))
+    sym (ap (λ b. cond b (Some c) (find (λ c. bytes_eq (of c).name name) cs))
+    (ap (λ (m : PlainMethod). bytes_eq m.name name) (sym is) ∙ other))
 passed_over of (c ∷ cs) name (suc i) d m within is other =
     let k : suc i + 1 ≡ suc (i + 1) = omega arith in
     ap (λ n. find (λ c. bytes_eq (of c).name name) (drop n (c ∷ cs))) k ∙ passed_over of cs name i d m (omega (arith, within)) is other

@@ -1,5 +1,6 @@
 -- What isn't met is passed over.
-use Rattle.std.proofs.Common.{◌≡◌, ℕ, zero, suc, ◌+◌, ◌<◌, Bool, false, List, [], ◌∷◌, length, drop, get_or, sym, ap, ◌∙◌, cond, arith, Some}
+use Rattle.std.proofs.Common.{◌≡◌, ℕ, zero, suc, ◌+◌, ◌<◌, Bool, false, List, [], ◌∷◌, length, drop, get_or}
+use Rattle.std.proofs.Common.{sym, ap, ◌∙◌, cond, arith, Some}
 use Rattle.std.specs.List.{find}
 
 pub passed_over : {C : Type 0} (test : C → Bool) (cs : List C) (i : ℕ) (d : C) → i < length cs → test (get_or cs i d) ≡ false →

@@ -57,7 +57,8 @@ fn table_of(alloc: Global, roles: &[Text]) -> Result<Names, Memory>
 /// Appends a message to the queue of a receiver, where there is one.
 fn append_to(queues: &mut Vec<VecDeque<Sent>>, to: usize, message: Sent) -> Result<(), Memory>
     ensures ok { OnOk result (map (λ queue. queue.items) queues.new.items
-        ≡ (let lists = map (λ queue. queue.items) queues.old.items in slice_set lists to (or_nothing (slice_get lists to) ++ message ∷ []))) }
+        ≡ (let lists = map (λ queue. queue.items) queues.old.items in
+        slice_set lists to (or_nothing (slice_get lists to) ++ message ∷ []))) }
     ensures err { OnErr result (map (λ queue. queue.items) queues.new.items ≡ map (λ queue. queue.items) queues.old.items) }
 {
     if to < queues.len() {

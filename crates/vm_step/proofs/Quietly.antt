@@ -107,8 +107,8 @@ params_kept o m kept params e takes is =
     ∙ sym (params_are kept (signature_of m.descriptor) takes) ∙ ap (map type_kept) (sym is)
 
 -- it is left to
-pub left_so : (p : Program) (given : ℕ) (found : MethodOf) (fs : List Frame) {R : Type 0} (S : Type 0) (b : Bool) → Awaits p given found fs →
-    OnTrue b R → OnFalse b ((fs ≡ []) × S) → R
+pub left_so : (p : Program) (given : ℕ) (found : MethodOf) (fs : List Frame) {R : Type 0} (S : Type 0) (b : Bool) →
+    Awaits p given found fs → OnTrue b R → OnFalse b ((fs ≡ []) × S) → R
 left_so p given found fs S true awaits h k = h
 left_so p given found fs S false awaits h k = absurd (subst (Awaits p given found) k.0 awaits)
 
