@@ -1,7 +1,7 @@
 -- Two first refusals of files that aren't accepted are one, but for the place of Syntax.
 use Rattle.std.proofs.Common.{List}
-use Rattle.use_check.specs.Verdict.{FailsFirst}
-use Rattle.use_check.proofs.First.{one_demand}
+use Rattle.use_verdict.specs.Verdict.{FailsFirst}
+use Rattle.use_verdict.proofs.First.{one_demand}
 use Rattle.mg_refusal.specs.Refusals.{Refusal, AreAlike}
 use Rattle.mg_refusal.proofs.Orders.{finds_alike, then_alike}
 use Rattle.mg_sources.specs.Files.{Source}

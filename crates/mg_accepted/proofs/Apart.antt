@@ -5,7 +5,7 @@ use Rattle.use_rules.specs.declared.demand.Demand.{Demand}
 use Rattle.use_rules.specs.Tables.{Solves}
 use Rattle.use_rules.proofs.Laws.{least_solve}
 use Rattle.use_flow.proofs.Reached.{reached_same}
-use Rattle.use_check.specs.Verdict.{IsAccepted, FailsFirst}
+use Rattle.use_verdict.specs.Verdict.{IsAccepted, FailsFirst}
 use Rattle.mg_refusal.specs.Refusals.{Refusal}
 use Rattle.mg_refusal.proofs.Orders.{then_never}
 use Rattle.mg_sources.specs.Files.{Source}

@@ -5,10 +5,10 @@ use Rattle.jv_core.specs.Tree as Core
 use Rattle.jv_core.specs.declared.resolved.Core.{Core as KeptCore}
 use Rattle.use_flow.specs.View.{tables_of, reached_of}
 use Rattle.use_rules.specs.declared.demand.Demand.{Demand}
-use Rattle.use_check.specs.declared.verdict.CheckFault.{CheckFault}
-use Rattle.use_check.specs.declared.verdict.CheckFault.TheVariants as faults
-use Rattle.use_check.specs.Verdict.{FailsFirst}
-use Rattle.use_check.specs.Faults.{IsFault}
+use Rattle.use_verdict.specs.declared.verdict.CheckFault.{CheckFault}
+use Rattle.use_verdict.specs.declared.verdict.CheckFault.TheVariants as faults
+use Rattle.use_verdict.specs.Verdict.{FailsFirst}
+use Rattle.use_verdict.specs.Faults.{IsFault}
 use Rattle.mg_refusal.specs.Refusals.{Refusal}
 use Rattle.mg_refusal.specs.Order.{Finds, Answers, AnswersOnly, IsStopBy, at_first, at_next}
 use Rattle.mg_refusal.specs.declared.stop.Stop.{Stop}

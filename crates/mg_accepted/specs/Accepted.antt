@@ -1,7 +1,7 @@
 -- Which files are accepted, and the first refusal of those that aren't.
 use Rattle.std.specs.Prelude.{List}
 use Rattle.jv_core.specs.Tree as Core
-use Rattle.use_check.specs.Verdict.{IsAccepted, FailsFirst}
+use Rattle.use_verdict.specs.Verdict.{IsAccepted, FailsFirst}
 use Rattle.mg_refusal.specs.Refusals.{Refusal}
 use Rattle.mg_refusal.specs.Order.{Finds, Then}
 use Rattle.mg_sources.specs.Files.{Source}

@@ -1,6 +1,6 @@
 -- What judging the files of a command may answer.
 use Rattle.std.specs.Prelude.{List}
-use Rattle.use_check.specs.Verdict.{AreAnswer}
+use Rattle.use_verdict.specs.Verdict.{AreAnswer}
 use Rattle.mg_sources.specs.Files.{Source}
 use Rattle.mg_accepted.specs.declared.accepted.AcceptedProgram.{AcceptedProgram}
 use Rattle.mg_accepted.specs.Accepted.{AreAccepted}

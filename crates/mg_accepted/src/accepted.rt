@@ -3,7 +3,7 @@
 ghost use Rattle.std.specs.Prelude.{◌≡◌, ◌<◌, ◌^◌, length, OnOk};
 ghost use Rattle.jv_core.specs.Tree as CoreTree;
 ghost use Rattle.mg_sources.specs.Files.{HaveKinds, sources};
-ghost use Rattle.use_check.specs.Verdict.{FailsFirst};
+ghost use Rattle.use_verdict.specs.Verdict.{FailsFirst};
 ghost use Rattle.mg_refusal.specs.Refusals.{Refusal};
 ghost use Rattle.mg_refusal.specs.Order.{Finds, Answers, AnswersOnly};
 ghost use Rattle.mg_accepted.specs.Demands.{demand_refusal};

@@ -1,7 +1,7 @@
 //! The command `check`: what the least tables of a program have, or its first refusal.
 
 ghost use Rattle.std.specs.Prelude.{◌≡◌, ◌<◌, ◌^◌, length, IfOk};
-ghost use Rattle.use_check.specs.Verdict.{AreAnswer};
+ghost use Rattle.use_verdict.specs.Verdict.{AreAnswer};
 ghost use Rattle.mg_sources.specs.Files.{HaveKinds};
 ghost use Rattle.mg_words.specs.Words.{Check};
 ghost use Rattle.mg_top.specs.Commands.{prints};

@@ -1,5 +1,3 @@
 mod Worked
-mod Failing
-pub mod First
 pub mod Listed
 pub mod Reporting

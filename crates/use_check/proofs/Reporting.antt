@@ -10,7 +10,7 @@ use Rattle.use_rules.specs.Tables.{Least}
 use Rattle.use_flow.specs.View.{tables_of, reached_of}
 use Rattle.use_flow.proofs.Reached.{reached_same}
 use Rattle.use_check.specs.Report.{lines, report_text, IsReport, OneReport}
-use Rattle.use_check.specs.Verdict.{AreAnswer}
+use Rattle.use_verdict.specs.Verdict.{AreAnswer}
 
 members_same : (k : ℕ) (s t : List Bool) → ((i : ℕ) → has s i ≡ true → has t i ≡ true) → ((i : ℕ) → has t i ≡ true → has s i ≡ true) →
     members_from k s ≡ members_from k t

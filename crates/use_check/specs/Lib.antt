@@ -2,5 +2,3 @@ pub mod Report
 pub mod inner
 pub mod examples
 pub mod Computed
-pub mod Verdict
-pub mod Faults

@@ -5,15 +5,15 @@ ghost use Rattle.std.specs.Prelude.{◌≡◌, ◌++◌, IfOk, OnOk, string_byte
 ghost use Rattle.jv_core.specs.View.{class_of};
 ghost use Rattle.use_flow.specs.View.{tables_of, reached_of};
 ghost use Rattle.use_check.specs.Report.{state_front, state_lines, class_lines, in_order, report_text, IsReport};
-ghost use Rattle.use_check.specs.Verdict.{AreAnswer};
+ghost use Rattle.use_verdict.specs.Verdict.{AreAnswer};
 ghost use Rattle.use_check.specs.inner.Reported.{seen};
 
-use crate::Accepted;
 use crate::lines::{Reporter, put_state};
 use jv_core::{Core, CoreClass};
 use mg_text::{Memory, Text};
 use std::alloc::Global;
 use use_flow::{FieldTable, contexts, number, typestate_of};
+use use_verdict::Accepted;
 
 impl<'a> Reporter<'a> {
     // What stands before the names of fields in a state.
@@ -103,7 +103,7 @@ pub fn report(alloc: Global, core: &Core, accepted: &Accepted) -> Result<Text, M
 {
     let reporter = Reporter {
         core,
-        tables: &accepted.tables,
+        tables: accepted.tables(),
     };
     let all = contexts(alloc, core)?;
     let mut out = String::new(alloc);

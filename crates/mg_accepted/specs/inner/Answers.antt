@@ -3,9 +3,9 @@ use Rattle.std.specs.Prelude.{◌≡◌, Option, Some, None}
 use Rattle.jv_core.specs.Tree as Core
 use Rattle.jv_rules.specs.Faults.{IsTableFault, IsFault}
 use Rattle.use_rules.specs.declared.demand.Demand.{Demand}
-use Rattle.use_check.specs.declared.verdict.CheckFault.{CheckFault}
-use Rattle.use_check.specs.declared.verdict.CheckFault.TheVariants as faults
-use Rattle.use_check.specs.Verdict.{AreAnswer}
+use Rattle.use_verdict.specs.declared.verdict.CheckFault.{CheckFault}
+use Rattle.use_verdict.specs.declared.verdict.CheckFault.TheVariants as faults
+use Rattle.use_verdict.specs.Verdict.{AreAnswer}
 use Rattle.mg_sources.specs.Sources.{Sourced}
 use Rattle.mg_accepted.specs.declared.accepted.AcceptedProgram.{AcceptedProgram}
 

@@ -4,9 +4,9 @@ use Rattle.jv_core.specs.Tree.{Program}
 use Rattle.use_rules.specs.declared.demand.Demand.{Demand}
 use Rattle.use_rules.specs.declared.demand.DemandKind.{DemandKind}
 use Rattle.use_rules.specs.declared.demand.DemandKind.TheVariants as demands
-use Rattle.use_check.specs.declared.verdict.CheckFault.{CheckFault}
-use Rattle.use_check.specs.declared.verdict.CheckFault.TheVariants as faults
-use Rattle.use_check.specs.Verdict.{FailsFirst}
+use Rattle.use_verdict.specs.declared.verdict.CheckFault.{CheckFault}
+use Rattle.use_verdict.specs.declared.verdict.CheckFault.TheVariants as faults
+use Rattle.use_verdict.specs.Verdict.{FailsFirst}
 
 -- the first demand that fails, of this kind
 pub record Fails (p : Program) (kind : DemandKind) (d : Demand) : Type 0 where

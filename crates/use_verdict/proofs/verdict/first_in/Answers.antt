@@ -1,6 +1,6 @@
 use Rattle.std.proofs.Common.{sym, ◌∙◌}
-use Rattle.use_check.proofs.Failing.{all_rest, passed_over, first_here, none_left}
-use Rattle.use_check.proofs.verdict.first_in.Goals as goal
+use Rattle.use_verdict.proofs.Failing.{all_rest, passed_over, first_here, none_left}
+use Rattle.use_verdict.proofs.verdict.first_in.Goals as goal
 
 pub loop-context-init : goal.loop-context-init
 loop-context-init c = all_rest c.args.core.now c.args.tables.now c.args.contexts.now c.requires.made c.requires.known

@@ -15,9 +15,9 @@ use Rattle.use_rules.specs.Tables.{flow_of, all_failed, Solves, Least}
 use Rattle.use_flow.specs.View.{tables_of, reached_of, contexts_of, log_of, AreFor}
 use Rattle.use_rules.proofs.Laws.{least_solve}
 use Rattle.use_flow.proofs.Reached.{reached_same}
-use Rattle.use_check.specs.declared.verdict.CheckFault.TheVariants as faults
-use Rattle.use_check.specs.Verdict.{AreAnswer, IsAccepted, FailsFirst}
-use Rattle.use_check.specs.Faults.{IsFault, fault_of}
+use Rattle.use_verdict.specs.declared.verdict.CheckFault.TheVariants as faults
+use Rattle.use_verdict.specs.Verdict.{AreAnswer, IsAccepted, FailsFirst}
+use Rattle.use_verdict.specs.Faults.{IsFault, fault_of}
 
 none_some : {A : Type 0} (x : A) → None ≡ Some x → ⊥
 none_some x h = cc

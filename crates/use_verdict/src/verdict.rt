@@ -4,8 +4,8 @@
 ghost use Rattle.std.specs.Prelude.{◌≡◌, IfOk, IfErr, slice_get};
 ghost use Rattle.use_rules.specs.Tables.{all_failed};
 ghost use Rattle.use_flow.specs.View.{tables_of, reached_of, contexts_of, AreFor};
-ghost use Rattle.use_check.specs.Verdict.{AreAnswer, AnswerOf, IsAccepted};
-ghost use Rattle.use_check.specs.Faults.{IsFault, fault_of};
+ghost use Rattle.use_verdict.specs.Verdict.{AreAnswer, AnswerOf, IsAccepted};
+ghost use Rattle.use_verdict.specs.Faults.{IsFault, fault_of};
 
 use jv_core::Core;
 use mg_text::Memory;
@@ -16,8 +16,17 @@ use use_infer::infer;
 /// The usages of an accepted program: its least tables, under which no demand fails.
 #[derive(Drop)]
 pub struct Accepted {
-    pub(crate) tables: Tables,
+    tables: Tables,
     ghost answer: { ∥ AnswerOf tables ∥₁ },
+}
+
+impl Accepted {
+    /// The least tables.
+    pub fn tables(&self) -> &Tables
+        ensures { result.now ≡ self.now.tables }
+    {
+        &self.tables
+    }
 }
 
 /// A demand that fails: a variable that was moved is read or called on; a call is made on one that may
@@ -36,7 +45,7 @@ pub enum CheckFault {
 }
 
 impl From<Memory> for CheckFault {
-    ghost use Rattle.use_check.specs.declared.verdict.CheckFault.TheVariants.{Memory};
+    ghost use Rattle.use_verdict.specs.declared.verdict.CheckFault.TheVariants.{Memory};
 
     ghost from_gives = { λ _ e. e ≡ Memory };
 

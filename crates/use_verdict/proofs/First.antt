@@ -7,10 +7,10 @@ use Rattle.use_rules.specs.declared.demand.DemandKind.TheVariants as demands
 use Rattle.use_rules.specs.Tables.{all_failed, Least}
 use Rattle.use_rules.proofs.Laws.{members_decide}
 use Rattle.use_flow.proofs.Reached.{reached_same}
-use Rattle.use_check.specs.declared.verdict.CheckFault.{CheckFault}
-use Rattle.use_check.specs.declared.verdict.CheckFault.TheVariants as faults
-use Rattle.use_check.specs.Verdict.{FailsFirst}
-use Rattle.use_check.specs.Faults.{IsFault, fault_of, OneFault}
+use Rattle.use_verdict.specs.declared.verdict.CheckFault.{CheckFault}
+use Rattle.use_verdict.specs.declared.verdict.CheckFault.TheVariants as faults
+use Rattle.use_verdict.specs.Verdict.{FailsFirst}
+use Rattle.use_verdict.specs.Faults.{IsFault, fault_of, OneFault}
 
 some_same : {A : Type 0} (x y : A) → Some x ≡ Some y → x ≡ y
 some_same x y e = cc

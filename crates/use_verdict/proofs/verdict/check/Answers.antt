@@ -1,9 +1,9 @@
 use Rattle.std.proofs.Common.{refl, sym, subst, ◌∙◌}
 use Rattle.std.proofs.lemmas.Result.{err_from_is_err_and}
 use Rattle.use_infer.proofs.Taking.{same_contexts}
-use Rattle.use_check.specs.Faults.{IsFault}
-use Rattle.use_check.proofs.Failing.{is_answer, is_fault, none_fails}
-use Rattle.use_check.proofs.verdict.check.Goals as goal
+use Rattle.use_verdict.specs.Faults.{IsFault}
+use Rattle.use_verdict.proofs.Failing.{is_answer, is_fault, none_fails}
+use Rattle.use_verdict.proofs.verdict.check.Goals as goal
 
 pub first_in-requires-clause-made : goal.first_in-requires-clause-made
 first_in-requires-clause-made c = c.in_ok-tables.ensures.made

@@ -1,7 +1,7 @@
 use Rattle.std.proofs.Common.{◌≡◌, drop, flat_map}
 use Rattle.use_rules.specs.Tables.{flow_of, all_failed}
 use Rattle.use_flow.specs.View.{tables_of, reached_of}
-use Rattle.use_check.proofs.verdict.first_in.Given as goal
+use Rattle.use_verdict.proofs.verdict.first_in.Given as goal
 
 abbrev pub invariant-loop-context : goal.invariant-loop-context
 invariant-loop-context l = all_failed l.core (reached_of l.tables) (tables_of l.tables)

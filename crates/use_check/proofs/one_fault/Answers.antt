@@ -1,5 +1,0 @@
-use Rattle.use_check.proofs.First.{one_fault as the_law}
-use Rattle.use_check.proofs.one_fault.Goals as goal
-
-pub returns : goal.returns
-returns c = the_law
