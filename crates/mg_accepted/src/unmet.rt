@@ -1,7 +1,7 @@
 //! Demands that fail, as refusals.
 
 ghost use Rattle.std.specs.Prelude.{◌≡◌, IfOk, option_map, string_bytes};
-ghost use Rattle.use_flow.specs.inner.Followed.{typestate_or_end};
+ghost use Rattle.use_elements.specs.Mappings.{typestate_or_end};
 ghost use Rattle.use_check.specs.Report.{state_text, element_text};
 ghost use Rattle.mg_refusal.specs.Order.{IsStopBy};
 ghost use Rattle.mg_accepted.specs.Demands.{demand_word, tells_element, element_of, demand_name, demand_refusal};

@@ -10,7 +10,7 @@ use Rattle.jv_core.specs.declared.program.CoreSlot.{CoreSlot}
 use Rattle.jv_core.specs.View.{slot_of}
 use Rattle.mg_text.specs.Call.{Name}
 use Rattle.mg_sets.specs.Sets.{has, members_from}
-use Rattle.use_flow.proofs.Rests.{append_nil}
+use Rattle.use_elements.proofs.Rests.{append_nil}
 use Rattle.use_flow.proofs.Turns.{one, last}
 use Rattle.use_check.specs.Report.{in_order}
 

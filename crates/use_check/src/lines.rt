@@ -8,7 +8,7 @@ ghost use Rattle.jv_core.specs.View.{field_of};
 ghost use Rattle.jv_core.specs.Lookup.{text_at};
 ghost use Rattle.use_rules.specs.Keys.{typestate_of};
 ghost use Rattle.use_flow.specs.inner.Fields.{key_in};
-ghost use Rattle.use_flow.specs.inner.Followed.{typestate_or_end};
+ghost use Rattle.use_elements.specs.Mappings.{typestate_or_end};
 ghost use Rattle.use_check.specs.Report.{state_text, member_text, set_text, table_text, variable_line, field_lines};
 ghost use Rattle.use_check.specs.inner.Reported.{seen};
 
@@ -45,7 +45,7 @@ pub(crate) fn put_state(
 }
 
 // Appends an element by its place, with a blank before it.
-#[tactic(auto, using(use_flow::proofs::Leading::leading))]
+#[tactic(auto, using(use_elements::proofs::Leading::leading))]
 fn put_member(out: &mut String, typestate: Option<&Typestate>, element: usize) -> Result<(), Memory>
     ensures { OnOk result (string_bytes out.new ≡ string_bytes out.old
         ++ member_text (typestate_or_end (option_map (λ t. t.now) typestate.entry)) element) }

@@ -21,7 +21,7 @@ use Rattle.use_rules.specs.Keys.{class_in}
 use Rattle.use_flow.specs.inner.Fields.{key_in}
 use Rattle.use_flow.specs.inner.Listing.{listed_from, entry_if, field_entry, field_entries, state_entry, class_entries, method_entries}
 use Rattle.use_flow.specs.inner.Listing.{param_entry, slot_entry, loop_entries, entries_at}
-use Rattle.use_flow.proofs.Rests.{append_nil}
+use Rattle.use_elements.proofs.Rests.{append_nil}
 use Rattle.use_flow.proofs.Turns.{one, last}
 
 -- Lists of images, item by item.

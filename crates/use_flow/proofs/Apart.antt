@@ -21,7 +21,7 @@ use Rattle.use_rules.specs.Keys.{same_context, typestate_of}
 use Rattle.use_flow.specs.inner.Holding.{AreApart}
 use Rattle.use_flow.proofs.Keyed.{context_eq}
 use Rattle.use_flow.proofs.Listing.{every_append}
-use Rattle.use_flow.proofs.Rests.{append_nil}
+use Rattle.use_elements.proofs.Rests.{append_nil}
 
 both : (a b : Bool) → (a && b) ≡ true → (a ≡ true) × (b ≡ true)
 both true b h = (refl, h)

@@ -1,7 +1,7 @@
 -- What a context reads, part by part.
 use Rattle.std.proofs.Common.{◌≡◌, ℕ, zero, suc, ◌+◌, ◌-◌, ◌<◌, ◌≤◌, List, [], ◌∷◌, ◌++◌, length, get_or, drop, map, Option, Some, None}
 use Rattle.std.proofs.Common.{refl, sym, ap, ◌∙◌, arith, add-one, append_assoc}
-use Rattle.use_flow.proofs.Rests.{append_nil}
+use Rattle.use_elements.proofs.Rests.{append_nil}
 use Rattle.use_flow.proofs.Turns.{one, last}
 use Rattle.jv_core.specs.Tree.{Program}
 use Rattle.jv_core.specs.declared.program.CoreLoop.{CoreLoop}

@@ -17,7 +17,7 @@ use Rattle.use_rules.specs.State.{Out, Log}
 use Rattle.use_flow.specs.inner.Calling.{which_of}
 use Rattle.use_flow.specs.inner.Ending.{followed, fields_left, leaves_fields, left}
 use Rattle.use_flow.specs.inner.Followed.{Followed, own_fields, open_fields, to_states, left_open, result_out}
-use Rattle.use_flow.proofs.Rests.{append_nil}
+use Rattle.use_elements.proofs.Rests.{append_nil}
 
 abbrev ended : Followed → Place → Bool → List Set → List Demand
 ended s q b sets = if b then open_fields s q 0 (own_fields s) sets else []

@@ -17,7 +17,7 @@ use Rattle.use_flow.specs.inner.Followed.{Followed}
 use Rattle.use_flow.specs.inner.Jumping.{held}
 use Rattle.use_flow.specs.inner.Simple.{exit}
 use Rattle.use_flow.specs.inner.Stepping.{Follows, jump_flow}
-use Rattle.use_flow.proofs.Rests.{append_nil}
+use Rattle.use_elements.proofs.Rests.{append_nil}
 use Rattle.use_flow.proofs.Jumping.{nat_turned, same_turned, joined-none}
 
 -- Which slots are left.

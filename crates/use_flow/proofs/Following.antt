@@ -19,7 +19,7 @@ use Rattle.use_rules.specs.Elements.{Set}
 use Rattle.use_rules.specs.State.{Now, Log, Argued, joined}
 use Rattle.use_rules.specs.Flow.{Evaluated, NullTest, null_test, alike}
 use Rattle.use_flow.specs.inner.Followed.{Followed, eval, eval_all, width_of}
-use Rattle.use_flow.proofs.Rests.{append_nil}
+use Rattle.use_elements.proofs.Rests.{append_nil}
 use Rattle.use_flow.specs.inner.Values.{yes_of, no_of, evaluated_of, argued_of, settled, parted, both_ways, both_with, either_with, turned}
 use Rattle.use_flow.specs.inner.Values.{behind, null_tested, operands, conjunction, disjunction, called, widths_of}
 

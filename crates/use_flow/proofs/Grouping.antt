@@ -20,7 +20,7 @@ use Rattle.use_flow.specs.inner.Switching.{follow, entry_of, group_flow, switch_
 use Rattle.use_flow.proofs.Choosing.{group_of-is}
 use Rattle.use_flow.proofs.Jumping.{joined-none, held_more}
 use Rattle.use_rules.proofs.Orders.{same_is, caught_passing}
-use Rattle.use_flow.proofs.Rests.{append_nil}
+use Rattle.use_elements.proofs.Rests.{append_nil}
 use Rattle.use_flow.proofs.Stepping.{follows_as}
 
 -- a group, from what its list has

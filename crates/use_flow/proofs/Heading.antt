@@ -11,7 +11,7 @@ use Rattle.use_rules.specs.Keys.{class_in}
 use Rattle.use_rules.specs.State.{Out}
 use Rattle.use_flow.specs.View.{tables_of}
 use Rattle.use_flow.specs.inner.Followed.{Followed, here, slot_class, slot_heads, slots_at}
-use Rattle.use_flow.proofs.Rests.{append_nil}
+use Rattle.use_elements.proofs.Rests.{append_nil}
 
 -- what stands for a slot depends on its class alone
 by_class : {A : Type 0} (none : A) (some : A) (o : Option CoreType) →

@@ -13,13 +13,13 @@ use Rattle.jv_core.specs.declared.program.CoreField.{CoreField}
 use Rattle.jv_core.specs.declared.tree.Var.TheVariants as vars
 use Rattle.jv_core.specs.View.{field_of}
 use Rattle.use_rules.specs.declared.demand.Demand.{Demand}
-use Rattle.use_flow.specs.declared.elements.Rule.TheVariants as rules
+use Rattle.use_elements.specs.declared.elements.Rule.TheVariants as rules
 use Rattle.use_rules.specs.Elements.{Set}
 use Rattle.ts_tree.specs.Typestate.{Typestate}
 use Rattle.ts_tree.specs.Calls.{may_end}
 use Rattle.use_rules.specs.State.{Out}
 use Rattle.use_flow.specs.inner.Followed.{Followed, judged_variable, left_open, without, to_states, open_fields}
-use Rattle.use_flow.proofs.Rests.{append_nil}
+use Rattle.use_elements.proofs.Rests.{append_nil}
 
 -- Slots.
 

@@ -1,9 +1,5 @@
 pub mod Keyed
 pub mod Answered
-pub mod Rests
-pub mod Leading
-pub mod Unions
-pub mod Rows
 pub mod Grown
 pub mod Scenes
 pub mod Seeking

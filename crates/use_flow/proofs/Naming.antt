@@ -12,7 +12,7 @@ use Rattle.jv_core.specs.View.{expr_of, exprs_of, stmt_of, stmts_of, group_of, g
 use Rattle.jv_core.specs.View.{placed_stmt_layer}
 use Rattle.jv_core.proofs.ViewLaws.{views}
 use Rattle.use_rules.specs.Reads.{calls_in, calls_in_all, named_in, named_in_all, named_in_groups}
-use Rattle.use_flow.proofs.Rests.{append_nil}
+use Rattle.use_elements.proofs.Rests.{append_nil}
 
 -- a turn takes the first of what is left, and the last turn leaves nothing
 module _ {A : Type 0} (rest : List A → List ℕ) (xs : List A) (i : ℕ) (ns total : List ℕ) (h : ns ++ rest (drop i xs) ≡ total) where

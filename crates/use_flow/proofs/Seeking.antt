@@ -12,7 +12,7 @@ use Rattle.ts_tree.specs.Calls.{offered}
 use Rattle.ts_tree.proofs.Searches.{by_label-drop, by_label-past, offered_in-drop, offered_in-past}
 use Rattle.use_rules.specs.Elements.{Set, marked, element_of, along, leads_by, target_at, unless_called, unless_offered, states_in}
 use Rattle.use_rules.specs.Elements.{offering_from}
-use Rattle.use_flow.proofs.Rests.{append_nil}
+use Rattle.use_elements.proofs.Rests.{append_nil}
 
 -- the branch at i leads to its place, and then those after it
 pub marked_branch : (bs : List Branch) (i : ℕ) (b : Branch) (s s' total : Set) → i < length bs → b ≡ get_or bs i b →

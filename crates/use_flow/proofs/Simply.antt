@@ -10,7 +10,7 @@ use Rattle.jv_core.specs.Tree.{Expr}
 use Rattle.use_flow.specs.declared.evaluated.Value.{Value}
 use Rattle.use_rules.specs.declared.demand.Demand.{Demand}
 use Rattle.use_rules.specs.declared.demand.DemandKind.TheVariants as demands
-use Rattle.use_flow.specs.declared.elements.Rule.TheVariants as judging
+use Rattle.use_elements.specs.declared.elements.Rule.TheVariants as judging
 use Rattle.use_rules.specs.Elements.{Set, if_open}
 use Rattle.use_rules.specs.Keys.{typestate_of}
 use Rattle.use_rules.specs.State.{Now, Out, Log, Jump, joined, judged}

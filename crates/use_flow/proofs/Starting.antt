@@ -5,7 +5,7 @@ use Rattle.jv_core.specs.declared.program.CoreSlot.{CoreSlot}
 use Rattle.use_rules.specs.Elements.{Set}
 use Rattle.use_flow.specs.inner.Followed.{Followed}
 use Rattle.use_flow.specs.inner.Starting.{param_set, params_from}
-use Rattle.use_flow.proofs.Rests.{append_nil}
+use Rattle.use_elements.proofs.Rests.{append_nil}
 use Rattle.use_flow.proofs.Turns.{one, last}
 
 pub param_taken : (s : Followed) (ps : List CoreSlot) (i : ℕ) (p : CoreSlot) (done done' total : List Set) (x : Set) → i < length ps →

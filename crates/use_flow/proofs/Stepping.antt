@@ -22,7 +22,7 @@ use Rattle.use_flow.specs.inner.Simple.{exit, declared}
 use Rattle.use_flow.specs.inner.Stepping.{Follows, both_flows, step, steps, Declared, local_in, declared_by, item, if_flow, if_else_flow}
 use Rattle.use_flow.specs.inner.Stepping.{while_end, while_flow, do_end, do_flow}
 use Rattle.use_flow.specs.inner.Values.{parted, both_ways}
-use Rattle.use_flow.proofs.Rests.{append_nil}
+use Rattle.use_elements.proofs.Rests.{append_nil}
 use Rattle.use_flow.proofs.Jumping.{joined-none, held_more, behind-caught, on-caught, loop_held}
 
 pub follows_as : (f g : Flow) (scope : List ℕ) (j : Jumps) (n : Now) (c : Course) → f ≡ g → Follows f scope j n c → Follows g scope j n c

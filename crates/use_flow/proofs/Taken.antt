@@ -15,7 +15,7 @@ use Rattle.use_rules.specs.Elements.{Set, union}
 use Rattle.use_rules.specs.Keys.{class_in, number_of}
 use Rattle.use_rules.specs.State.{Out}
 use Rattle.use_flow.specs.inner.Followed.{Followed, param_outs, state_outs, result_in, state_results}
-use Rattle.use_flow.proofs.Rests.{append_nil}
+use Rattle.use_elements.proofs.Rests.{append_nil}
 
 -- The parameters are the first slots.
 

@@ -11,7 +11,7 @@ use Rattle.use_rules.specs.Keys.{class_in}
 use Rattle.use_rules.specs.State.{Out}
 use Rattle.use_flow.specs.View.{tables_of}
 use Rattle.use_flow.specs.inner.Followed.{Followed, field_outs_from, with_fields_from}
-use Rattle.use_flow.proofs.Rests.{append_nil}
+use Rattle.use_elements.proofs.Rests.{append_nil}
 
 -- A function of a list that gives, for each item, what stands for it.
 module _ {A B : Type 0} (F : ℕ → List A → List B) (f : ℕ → A → List B) (unfolds : (k : ℕ) (x : A) (s : List A) →

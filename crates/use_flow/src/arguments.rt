@@ -10,15 +10,14 @@ ghost use Rattle.use_rules.specs.declared.key.Context.TheVariants as contexts;
 ghost use Rattle.use_flow.specs.inner.Fields.{outs_in};
 ghost use Rattle.use_flow.specs.inner.Followed.{seen, param_outs, state_outs, result_in, state_results};
 
-use crate::elements::empty_set;
 use crate::fields::{copy_at, number, send};
 use crate::scene::{Scene, class_in};
-use crate::sets::{Sets, take_in};
 use crate::{Context, Out, TableKey};
 use jv_core::{Core, CoreMethod, CoreSlot};
 use mg_sets::StateSet;
 use mg_text::{List, Memory};
 use std::alloc::Global;
+use use_elements::{Sets, empty_set, take_in};
 
 /// The method of this number, if there is one.
 #[tactic(auto, using(crate::proofs::Scenes::scenes))]

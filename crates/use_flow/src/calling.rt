@@ -7,15 +7,14 @@ ghost use Rattle.ts_tree.specs.View.{method_of, target_of};
 ghost use Rattle.use_rules.specs.Elements.{begin, image, along, element_of, marked, target_at, unless_called, offering};
 ghost use Rattle.use_rules.specs.State.{judged};
 ghost use Rattle.use_flow.specs.inner.Calling.{which_of};
-ghost use Rattle.use_flow.specs.inner.Followed.{typestate_or_end};
-ghost use Rattle.use_flow.specs.inner.Mappings.{title_in};
+ghost use Rattle.use_elements.specs.Mappings.{typestate_or_end, title_in};
 
-use crate::elements::{Subject, blame, empty_set, mark};
 use crate::{Demand, DemandKind};
 use mg_sets::StateSet;
 use mg_text::{List, Memory, Names};
 use std::alloc::Global;
 use ts_tree::{Branch, Method, Target, To, Typestate};
+use use_elements::{Subject, blame, empty_set, mark};
 
 // The method of a name among those of a state.
 #[tactic(auto, using(crate::proofs::Seeking::seeking))]
@@ -125,7 +124,7 @@ fn mark_led(
 }
 
 // Where the elements of a set lead by a call, as a set of this width.
-#[tactic(auto, using(crate::proofs::Rests::rests))]
+#[tactic(auto, using(use_elements::proofs::Rests::rests))]
 pub(crate) fn image_along(
     alloc: Global,
     width: usize,
@@ -168,7 +167,7 @@ fn called_asked(typestate: Option<&Typestate>, method: &str, element: usize) -> 
 }
 
 // Appends the demands that a set fails on which a method is called.
-#[tactic(auto, using(crate::proofs::Rests::rests))]
+#[tactic(auto, using(use_elements::proofs::Rests::rests))]
 pub(crate) fn judge_call(
     alloc: Global,
     names: &Names,

@@ -14,11 +14,11 @@ use crate::calling::{image_along, judge_call, offering};
 use crate::evaluated::{Arguments, Value, Ways};
 use crate::fields::{FieldTable, copy_at};
 use crate::scene::{Scene, typestate_of};
-use crate::sets::Sets;
 use crate::{Context, Flow};
 use jv_core::{CoreMethod, CoreVar, name_text};
 use mg_text::Memory;
 use std::alloc::Global;
+use use_elements::Sets;
 
 impl<'a> Scene<'a> {
     // A call of a static method.

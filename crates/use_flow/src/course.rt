@@ -13,13 +13,12 @@ ghost use Rattle.use_flow.specs.inner.Simple.{exit};
 ghost use Rattle.use_flow.specs.inner.Stepping.{Follows, scope_of, jump_flow};
 
 use crate::Flow;
-use crate::elements::{empty_set, mark};
 use crate::jumps::{Jumps, Lead};
 use crate::scene::Scene;
-use crate::sets::Sets;
 use mg_sets::StateSet;
 use mg_text::{Memory, Place};
 use std::alloc::Global;
+use use_elements::{Sets, empty_set, mark};
 
 /// The slots in scope, in the order of their declarations, what has jumped, and what was met.
 #[derive(Drop)]

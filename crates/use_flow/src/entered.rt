@@ -11,7 +11,7 @@ ghost use Rattle.use_rules.specs.Keys.{AreReached, contexts_in, contexts_of, in_
 ghost use Rattle.use_rules.specs.Keys.{AreProper};
 ghost use Rattle.use_flow.specs.View.{AreContexts};
 ghost use Rattle.use_flow.specs.inner.Entering.{set_or_none, entered_from};
-ghost use Rattle.use_flow.specs.inner.Followed.{typestate_or_end};
+ghost use Rattle.use_elements.specs.Mappings.{typestate_or_end};
 
 use crate::Context;
 use crate::calling::offers;

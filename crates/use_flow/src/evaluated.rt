@@ -6,12 +6,11 @@ ghost use Rattle.use_rules.specs.Elements.{marked, none};
 ghost use Rattle.use_rules.specs.State.{joined};
 ghost use Rattle.use_flow.specs.inner.Values.{yes_of, no_of};
 
-use crate::elements::{empty_set, mark};
-use crate::sets::{Sets, copy_now, meet};
 use jv_core::Var;
 use mg_sets::StateSet;
 use mg_text::Memory;
 use std::alloc::Global;
+use use_elements::{Sets, copy_now, empty_set, mark, meet};
 
 /// What flows on: alike both ways, or where a condition holds and where it doesn't.
 #[derive(Drop)]

@@ -8,18 +8,18 @@ ghost use Rattle.ts_tree.specs.View.{target_of};
 ghost use Rattle.ts_tree.specs.Calls.{may_end};
 ghost use Rattle.use_flow.specs.inner.Calling.{which_of};
 ghost use Rattle.use_flow.specs.inner.Fields.{outs_in};
-ghost use Rattle.use_flow.specs.inner.Followed.{seen, typestate_or_end, left_open, without, to_states, open_fields};
+ghost use Rattle.use_flow.specs.inner.Followed.{seen, left_open, without, to_states, open_fields};
+ghost use Rattle.use_elements.specs.Mappings.{typestate_or_end};
 
 use crate::calling::by_label;
-use crate::elements::{Rule, drops_at, empty_set};
 use crate::fields::{FieldTable, number};
 use crate::scene::Scene;
-use crate::sets::Sets;
 use crate::{Demand, Out};
 use jv_core::{CoreField, Var};
 use mg_text::{List, Memory, Place};
 use std::alloc::Global;
 use ts_tree::{Branch, Target, To, Typestate};
+use use_elements::{Rule, Sets, drops_at, empty_set};
 
 // Whether an object may be left at a place of its typestate.
 fn may_end(typestate: Option<&Typestate>, to: To) -> bool

@@ -13,14 +13,13 @@ ghost use Rattle.use_flow.specs.inner.Values.{read, settled, parted, both_ways, 
 use crate::Flow;
 use crate::arguments::{method_at, params_of};
 use crate::calling::begin_of;
-use crate::elements::Mapping;
 use crate::evaluated::{Arguments, NullTest, Value, Ways};
 use crate::null_tests::null_test;
 use crate::scene::{Scene, typestate_of};
-use crate::sets::{Sets, meet};
 use jv_core::{CoreExpr, CoreExprKind, CoreOp, CoreSlot, CoreVar, Var};
 use mg_text::{Memory, Place};
 use std::alloc::Global;
+use use_elements::{Mapping, Sets, meet};
 
 impl<'a> Scene<'a> {
     // A variable that is read.

@@ -6,14 +6,13 @@ ghost use Rattle.jv_core.specs.View.{field_of};
 ghost use Rattle.use_flow.specs.inner.Fields.{key_in, outs_in};
 ghost use Rattle.use_flow.specs.inner.Followed.{seen, field_outs, field_outs_from, with_fields, with_fields_from};
 
-use crate::elements::{copy_set, empty_set};
 use crate::scene::{Scene, class_in};
-use crate::sets::Sets;
 use crate::{Out, TableKey};
 use jv_core::CoreField;
 use mg_sets::StateSet;
 use mg_text::{List, Memory};
 use std::alloc::Global;
+use use_elements::{Sets, copy_set, empty_set};
 
 /// The tables of the fields of an object: in a state, where a helper is entered or left, or at the
 /// head of a loop, where fields stand behind so many slots.

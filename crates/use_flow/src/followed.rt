@@ -13,7 +13,6 @@ ghost use Rattle.use_flow.specs.inner.Starting.{whole};
 
 use crate::arguments::method_at;
 use crate::course::Course;
-use crate::elements::empty_set;
 use crate::jumps::Jumps;
 use crate::scene::Scene;
 use crate::types::method_in;
@@ -21,6 +20,7 @@ use crate::{Context, Flow, Follows, Tables};
 use jv_core::Core;
 use mg_text::{List, Memory};
 use std::alloc::Global;
+use use_elements::empty_set;
 
 /// What flows out of a context, and which of its demands fail, in order, by what the tables hold.
 /// Also where the answer is an error, one more context was followed.

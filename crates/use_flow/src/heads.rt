@@ -10,11 +10,11 @@ ghost use Rattle.use_flow.specs.inner.Followed.{slots_at, at_head};
 
 use crate::fields::{FieldTable, copy_at, send};
 use crate::scene::{Scene, class_in};
-use crate::sets::Sets;
 use crate::{Flow, Out, TableKey};
 use jv_core::{CoreLoop, MethodKind};
 use mg_text::{List, Memory};
 use std::alloc::Global;
+use use_elements::Sets;
 
 impl<'a> Scene<'a> {
     // The number of the context that is followed.

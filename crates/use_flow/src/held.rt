@@ -15,7 +15,6 @@ ghost use Rattle.use_flow.specs.Runs.{starts_of, starts_in};
 ghost use Rattle.use_flow.specs.View.{same_key, tables_of, contexts_of, reached_of, lacks, HasKey, AreFor, IsKept};
 
 use crate::classed::{Entry, entries_of};
-use crate::elements::{copy_set, empty_set, mark};
 use crate::entered::{contexts_by, reached_in, reached_sets};
 use crate::fields::number;
 use crate::runs::{Runs, runs_by};
@@ -27,6 +26,7 @@ use mg_sets::StateSet;
 use mg_text::Memory;
 use std::alloc::Global;
 use ts_tree::To;
+use use_elements::{copy_set, empty_set, mark};
 
 /// The tables of a program: a set for each field of an object in a state, each parameter and result
 /// of a context, each field where a helper is entered and left, and each variable at a loop's head.

@@ -5,9 +5,9 @@ ghost use Rattle.std.specs.Prelude.{◌≡◌, ◌≤◌, ℕ, None, length, sli
 ghost use Rattle.use_rules.specs.State.{Leads, BehindLoop, GoesOn, same_lead, joined};
 ghost use Rattle.use_flow.specs.inner.Jumping.{HasRoom, held, lead_of, put_now};
 
-use crate::sets::{Sets, meet};
 use mg_text::Memory;
 use std::alloc::Global;
+use use_elements::{Sets, meet};
 
 /// Where a jump leads: behind the innermost switch, behind a loop, or to where a loop goes on.
 #[derive(Clone, Copy, Debug)]

@@ -13,12 +13,12 @@ use crate::calling::target_at;
 use crate::exits::ends;
 use crate::fields::FieldTable;
 use crate::scene::{Scene, typestate_of};
-use crate::sets::Sets;
 use crate::{Context, Flow};
 use mg_sets::StateSet;
 use mg_text::{Memory, Name, Place};
 use std::alloc::Global;
 use ts_tree::Target;
+use use_elements::Sets;
 
 impl<'a> Scene<'a> {
     // The text of a name.

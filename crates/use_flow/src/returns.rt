@@ -7,11 +7,11 @@ ghost use Rattle.use_flow.specs.inner.Followed.{seen, own_fields, open_fields, r
 
 use crate::fields::send;
 use crate::scene::{Scene, class_in};
-use crate::sets::Sets;
 use crate::{Demand, Out, TableKey};
 use mg_sets::StateSet;
 use mg_text::{List, Memory, Place};
 use std::alloc::Global;
+use use_elements::Sets;
 
 impl<'a> Scene<'a> {
     // Appends the demands that no own field has a state.

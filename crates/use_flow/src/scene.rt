@@ -5,15 +5,15 @@ ghost use Rattle.std.specs.Prelude.{◌≡◌, map, option_map, slice_get};
 ghost use Rattle.jv_core.specs.View.{class_of};
 ghost use Rattle.jv_core.specs.Lookup.{slot_type, field_type, variable_type};
 ghost use Rattle.use_rules.specs.Keys.{class_in, typestate_of};
-ghost use Rattle.use_flow.specs.inner.Followed.{seen, typestate_or_end, variable_at, variable_text, class_or_none, variable_class};
+ghost use Rattle.use_flow.specs.inner.Followed.{seen, variable_at, variable_text, class_or_none, variable_class};
 ghost use Rattle.use_flow.specs.inner.Followed.{elements_of, width_of, variable_width};
-ghost use Rattle.use_flow.specs.inner.Mappings.{title_in};
+ghost use Rattle.use_elements.specs.Mappings.{typestate_or_end, title_in};
 
-use crate::elements::{Subject, Title};
 use crate::{Context, Tables};
 use jv_core::{Core, CoreClass, CoreMethod, CoreType, Var};
 use mg_text::Place;
 use ts_tree::Typestate;
+use use_elements::{Subject, Title};
 
 /// A context that is followed, its method, and the tables.
 #[derive(Drop)]

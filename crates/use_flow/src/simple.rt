@@ -11,14 +11,13 @@ ghost use Rattle.use_flow.specs.inner.Followed.{seen};
 ghost use Rattle.use_flow.specs.inner.Simple.{exit, slot_width, local, declared, assigned, printed, dropped, returned};
 
 use crate::Flow;
-use crate::elements::{Rule, Subject, Title, empty_set, judge};
 use crate::evaluated::Value;
 use crate::scene::{Scene, typestate_of};
-use crate::sets::Sets;
 use jv_core::{CoreExpr, CoreVar};
 use mg_sets::StateSet;
 use mg_text::{Memory, Place};
 use std::alloc::Global;
+use use_elements::{Rule, Sets, Subject, Title, empty_set, judge};
 
 // What is known where a variable has this set.
 pub(crate) fn put_in(now: Option<Sets>, variable: usize, set: StateSet) -> Option<Sets>

@@ -7,15 +7,14 @@ ghost use Rattle.use_flow.specs.inner.Followed.{seen, here, own_fields};
 ghost use Rattle.use_flow.specs.inner.Starting.{param_set, params_from, fields_at_start, start};
 
 use crate::arguments::params_of;
-use crate::elements::empty_set;
 use crate::fields::{FieldTable, number, sum};
 use crate::scene::{Scene, class_in};
-use crate::sets::Sets;
 use crate::{Context, TableKey};
 use jv_core::CoreType;
 use mg_sets::StateSet;
 use mg_text::Memory;
 use std::alloc::Global;
+use use_elements::{Sets, empty_set};
 
 impl<'a> Scene<'a> {
     // The set of a parameter, by its table.

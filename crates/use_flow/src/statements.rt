@@ -14,11 +14,11 @@ use crate::course::{Course, copy_slots};
 use crate::jumps::Lead;
 use crate::listed::local_in;
 use crate::scene::Scene;
-use crate::sets::{Sets, meet};
 use crate::switches::Sprouts;
 use jv_core::{CoreExpr, CoreGroup, CoreStmt, CoreStmtKind};
 use mg_text::{Memory, Place};
 use std::alloc::Global;
+use use_elements::{Sets, meet};
 
 impl<'a> Scene<'a> {
     // Follows a statement. `outer` has the slots in scope around the innermost switch.

@@ -20,17 +20,16 @@ ghost use Rattle.use_flow.specs.inner.Values.{protocol_call};
 use crate::Flow;
 use crate::arguments::{method_at, params_of};
 use crate::calling::image_along;
-use crate::elements::{copy_set, empty_set, mark};
 use crate::evaluated::{Arguments, Value};
 use crate::fields::copy_at;
 use crate::listed::{Call, call_in};
 use crate::scene::{Scene, typestate_of};
-use crate::sets::{Sets, copy_now, take_in};
 use crate::simple::put_in;
 use jv_core::{CoreExpr, CoreGroup, CoreMethod, CoreVar, Var};
 use mg_sets::StateSet;
 use mg_text::{Memory, Name};
 use std::alloc::Global;
+use use_elements::{Sets, copy_now, copy_set, empty_set, mark, take_in};
 
 /// What flows on with each constant: what is known, but for one variable, and the sets of that.
 #[derive(Drop)]

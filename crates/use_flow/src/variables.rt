@@ -6,16 +6,15 @@ ghost use Rattle.use_rules.specs.Elements.{image, as_value, left_behind};
 ghost use Rattle.use_rules.specs.State.{asks};
 ghost use Rattle.use_flow.specs.View.{log_of};
 ghost use Rattle.use_flow.specs.inner.Followed.{seen, variable_at, variable_width, judged_variable};
-ghost use Rattle.use_flow.specs.inner.Mappings.{mapping_of};
+ghost use Rattle.use_elements.specs.Mappings.{mapping_of};
 
-use crate::elements::{Mapping, Rule, empty_set, image, judge};
 use crate::scene::{Scene, typestate_of};
-use crate::sets::Sets;
 use crate::{Demand, Flow};
 use jv_core::Var;
 use mg_sets::StateSet;
 use mg_text::{List, Memory, Place};
 use std::alloc::Global;
+use use_elements::{Mapping, Rule, Sets, empty_set, image, judge};
 
 // Where the elements at a place lead, as a set of this width.
 #[tactic(auto, using(crate::proofs::Scenes::scenes))]

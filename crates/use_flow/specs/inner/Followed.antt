@@ -1,26 +1,25 @@
 -- What is followed, as the code has it: a context of a program, with its method and the tables as they stand.
-use Rattle.std.specs.Prelude.{ℕ, Bool, List, Option, Some, None, option_and_then}
+use Rattle.std.specs.Prelude.{ℕ, Bool, List, Option, option_and_then}
 use Rattle.mg_text.specs.Call.{Name}
 use Rattle.mg_text.specs.declared.place.Place.{Place}
 use Rattle.ts_tree.specs.declared.parts.To.{To}
-use Rattle.ts_tree.specs.Typestate.{Typestate}
 use Rattle.jv_core.specs.declared.tree.Var.{Var}
 use Rattle.jv_core.specs.declared.program.CoreType.{CoreType}
 use Rattle.jv_core.specs.Tree.{Expr, Exprs, Field, Method, Program}
 use Rattle.jv_core.specs.View.{method_of}
 use Rattle.jv_core.specs.Lookup.{slot_type}
 use Rattle.use_rules.specs.declared.demand.Demand.{Demand}
-use Rattle.use_flow.specs.declared.elements.Rule.{Rule}
+use Rattle.use_elements.specs.declared.elements.Rule.{Rule}
 use Rattle.use_rules.specs.declared.key.Context.{Context}
 use Rattle.use_rules.specs.declared.key.TableKey.{TableKey}
 use Rattle.use_flow.specs.declared.held.Tables as held
 use Rattle.use_flow.specs.declared.scene.Scene.{Scene}
 use Rattle.use_rules.specs.Elements.{Set}
-use Rattle.use_rules.specs.Keys.{at_end, class_in, typestate_of}
+use Rattle.use_rules.specs.Keys.{class_in, typestate_of}
 use Rattle.use_rules.specs.State.{Now, Out, Log, Argued}
 use Rattle.use_rules.specs.Flow as rules
 use Rattle.use_flow.specs.View.{contexts_of, tables_of}
-use Rattle.use_flow.specs.inner.Mappings.{rule_of}
+use Rattle.use_elements.specs.Mappings.{rule_of}
 
 pub record Followed : Type 0 where
   pub program : Program
@@ -37,11 +36,6 @@ seen s = record {
   method = method_of s.method.now;
   held = s.tables.now;
 }
-
--- the typestate that there may be
-abbrev pub typestate_or_end : Option Typestate → Typestate
-typestate_or_end None = at_end
-typestate_or_end (Some t) = t
 
 abbrev pub own_fields : Followed → List Field
 own_fields s = rules.own_fields s.program s.contexts s.context s.method

@@ -5,7 +5,7 @@ use Rattle.jv_core.specs.declared.tree.CoreVar.{CoreVar}
 use Rattle.jv_core.specs.declared.program.CoreType.{CoreType}
 use Rattle.jv_core.specs.declared.program.CoreType.TheVariants as types
 use Rattle.jv_core.specs.Tree.{Expr}
-use Rattle.use_flow.specs.declared.elements.Rule.TheVariants as judging
+use Rattle.use_elements.specs.declared.elements.Rule.TheVariants as judging
 use Rattle.use_rules.specs.declared.demand.DemandKind.TheVariants as demands
 use Rattle.use_rules.specs.Elements.{Set, if_open}
 use Rattle.use_rules.specs.Keys.{typestate_of}

@@ -1,6 +1,6 @@
 use Rattle.std.proofs.Common.{◌≡◌, ◌<◌, ◌≤◌, true, false, length, rules, sym, ◌∙◌, arith, string_bytes}
 use Rattle.std.specs.Prelude.{option_map}
-use Rattle.use_flow.specs.inner.Followed.{typestate_or_end}
+use Rattle.use_elements.specs.Mappings.{typestate_or_end}
 use Rattle.use_check.specs.Report.{member_text}
 use Rattle.use_check.proofs.Listed.{member_skip, member_take, member_end}
 use Rattle.use_check.proofs.lines.put_members.Goals as goal

@@ -2,7 +2,7 @@ use Rattle.std.proofs.Common.{◌≡◌, ◌++◌, drop, string_bytes}
 use Rattle.std.specs.Prelude.{option_map}
 use Rattle.std.specs.List.{flat_map}
 use Rattle.mg_sets.specs.Sets.{members, members_from}
-use Rattle.use_flow.specs.inner.Followed.{typestate_or_end}
+use Rattle.use_elements.specs.Mappings.{typestate_or_end}
 use Rattle.use_check.specs.Report.{member_text}
 use Rattle.use_check.proofs.lines.put_members.Given as goal
 

@@ -2,8 +2,8 @@ use Rattle.std.proofs.Common.{ℕ, List, arith, refl, sym, ◌∙◌}
 use Rattle.std.specs.Prelude.{option_map}
 use Rattle.use_rules.specs.Elements.{along}
 use Rattle.use_flow.specs.inner.Calling.{which_of}
-use Rattle.use_flow.specs.inner.Followed.{typestate_or_end}
-use Rattle.use_flow.proofs.Rests.{image_skip, image_take}
+use Rattle.use_elements.specs.Mappings.{typestate_or_end}
+use Rattle.use_elements.proofs.Rests.{image_skip, image_take}
 use Rattle.use_flow.proofs.calling.image_along.Goals as goal
 use Rattle.use_flow.proofs.calling.image_along.Goals.{then-has, else-has}
 

@@ -2,7 +2,7 @@ use Rattle.std.proofs.Common.{◌≡◌, drop}
 use Rattle.std.specs.Prelude.{option_map}
 use Rattle.use_rules.specs.Elements.{along, image, leads_from, marked}
 use Rattle.use_flow.specs.inner.Calling.{which_of}
-use Rattle.use_flow.specs.inner.Followed.{typestate_or_end}
+use Rattle.use_elements.specs.Mappings.{typestate_or_end}
 use Rattle.use_flow.proofs.calling.image_along.Given as goal
 
 abbrev pub invariant-loop-element : goal.invariant-loop-element

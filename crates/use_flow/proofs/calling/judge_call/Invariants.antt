@@ -2,8 +2,7 @@ use Rattle.std.proofs.Common.{◌≡◌, ◌++◌, drop}
 use Rattle.std.specs.Prelude.{option_map}
 use Rattle.use_rules.specs.Elements.{unless_called}
 use Rattle.use_rules.specs.State.{judged, judged_from}
-use Rattle.use_flow.specs.inner.Followed.{typestate_or_end}
-use Rattle.use_flow.specs.inner.Mappings.{title_in}
+use Rattle.use_elements.specs.Mappings.{typestate_or_end, title_in}
 use Rattle.use_flow.proofs.calling.judge_call.Given as goal
 
 abbrev pub invariant-loop-element : goal.invariant-loop-element

@@ -1,8 +1,7 @@
 use Rattle.std.proofs.Common.{◌≡◌, ◌++◌, drop, option_map}
 use Rattle.use_rules.specs.State.{judged, judged_from}
-use Rattle.use_flow.specs.inner.Followed.{typestate_or_end}
-use Rattle.use_flow.specs.inner.Mappings.{rule_of, title_in}
-use Rattle.use_flow.proofs.elements.judge.Given as goal
+use Rattle.use_elements.specs.Mappings.{typestate_or_end, rule_of, title_in}
+use Rattle.use_elements.proofs.elements.judge.Given as goal
 
 abbrev pub invariant-loop-element : goal.invariant-loop-element
 invariant-loop-element l =

@@ -10,7 +10,7 @@ use Rattle.use_rules.specs.declared.demand.DemandKind.{DemandKind}
 use Rattle.use_rules.specs.declared.demand.Demand.{Demand}
 use Rattle.use_rules.specs.Elements.{Set, marked, leads_from}
 use Rattle.use_rules.specs.State.{judged_from}
-use Rattle.use_flow.specs.inner.Mappings.{blamed}
+use Rattle.use_elements.specs.Mappings.{blamed}
 
 pub append_nil : {A : Type 0} (a : List A) → a ++ [] ≡ a
 append_nil [] = refl

@@ -5,18 +5,17 @@ ghost use Rattle.std.specs.Prelude.{◌≡◌, ◌++◌, slice_set, true, option
 ghost use Rattle.ts_tree.specs.Calls.{drops};
 ghost use Rattle.use_rules.specs.Elements.{element_at, if_open, image, marked, none};
 ghost use Rattle.use_rules.specs.State.{judged};
-ghost use Rattle.use_flow.specs.inner.Followed.{typestate_or_end};
-ghost use Rattle.use_flow.specs.inner.Mappings.{mapping_of, rule_of, listed, blamed, title_in};
+ghost use Rattle.use_elements.specs.Mappings.{typestate_or_end, mapping_of, rule_of, listed, blamed, title_in};
 
-use crate::{Demand, DemandKind, Element};
 use mg_sets::StateSet;
 use mg_text::{List, Memory, Name, Names, Place, Text};
 use std::alloc::Global;
 use ts_tree::Typestate;
+use use_rules::{Demand, DemandKind, Element};
 
 /// Where reads and null tests lead from an element.
 #[derive(Clone, Copy, Debug, PartialEq, Eq)]
-pub(crate) enum Mapping {
+pub enum Mapping {
     /// What a read gives.
     AsValue,
     /// What a read leaves in the variable.
@@ -27,15 +26,18 @@ pub(crate) enum Mapping {
 
 /// What is asked of an element, wherever it stands.
 #[derive(Clone, Copy, Debug, PartialEq, Eq)]
-pub(crate) enum Rule {
+pub enum Rule {
     Moved,
     LeftOpen,
     Overwritten,
     FieldOpenAtEnd,
 }
 
-// The set of this width without members.
-pub(crate) fn empty_set(alloc: Global, width: usize) -> Result<StateSet, Memory>
+/// The set of this width without members.
+///
+/// # Errors
+/// `Memory` only.
+pub fn empty_set(alloc: Global, width: usize) -> Result<StateSet, Memory>
     ensures { IfOk result (λ s. s ≡ none width) }
 {
     let Ok(set) = StateSet::new(alloc, width) else {
@@ -44,8 +46,11 @@ pub(crate) fn empty_set(alloc: Global, width: usize) -> Result<StateSet, Memory>
     Ok(set)
 }
 
-// An equal set.
-pub(crate) fn copy_set(set: &StateSet) -> Result<StateSet, Memory>
+/// An equal set.
+///
+/// # Errors
+/// `Memory` only.
+pub fn copy_set(set: &StateSet) -> Result<StateSet, Memory>
     ensures { IfOk result (λ s. s ≡ set.now) }
 {
     let Ok(copy) = set.copy() else {
@@ -54,8 +59,8 @@ pub(crate) fn copy_set(set: &StateSet) -> Result<StateSet, Memory>
     Ok(copy)
 }
 
-// Makes an element a member, where it is below the width.
-pub(crate) fn mark(set: &mut StateSet, element: usize)
+/// Makes an element a member, where it is below the width.
+pub fn mark(set: &mut StateSet, element: usize)
     ensures { set.new ≡ slice_set set.old element true }
 {
     if element < set.width() {
@@ -89,9 +94,12 @@ fn mark_found(set: &mut StateSet, element: Option<usize>)
     }
 }
 
-// Where the elements of a set lead, as a set of this width.
+/// Where the elements of a set lead, as a set of this width.
+///
+/// # Errors
+/// `Memory` only.
 #[tactic(auto, using(crate::proofs::Rests::rests))]
-pub(crate) fn image(
+pub fn image(
     alloc: Global,
     width: usize,
     mapping: Mapping,
@@ -108,9 +116,9 @@ pub(crate) fn image(
     Ok(found)
 }
 
-// Whether a state of a typestate is marked drop.
-#[tactic(auto, using(crate::proofs::Scenes::scenes))]
-pub(crate) fn drops_at(typestate: Option<&Typestate>, state: usize) -> bool
+/// Whether a state of a typestate is marked drop. False where there is no typestate, or no such state.
+#[tactic(auto, using(crate::proofs::Found::found))]
+pub fn drops_at(typestate: Option<&Typestate>, state: usize) -> bool
     ensures { result ≡ drops (typestate_or_end (option_map (λ t. t.now) typestate.entry)) state }
 {
     let Some(typestate) = typestate else {
@@ -178,7 +186,7 @@ fn element_at(place: usize) -> Result<Element, Memory>
 
 /// What a demand is about: a variable of this name, or a value that is dropped.
 #[derive(Clone, Copy, Debug)]
-pub(crate) enum Title {
+pub enum Title {
     Variable(Name),
     Value,
     Unnamed,
@@ -186,14 +194,14 @@ pub(crate) enum Title {
 
 /// What a demand is about, where that stands, and the class of its objects.
 #[derive(Clone, Copy, Debug)]
-pub(crate) struct Subject {
+pub struct Subject {
     pub place: Place,
     pub title: Title,
     pub class: u32,
 }
 
 // What a demand is about, as a text.
-#[tactic(auto, using(crate::proofs::Scenes::scenes))]
+#[tactic(auto, using(crate::proofs::Found::found))]
 fn title_text(alloc: Global, names: &Names, title: Title) -> Result<Text, Memory>
     ensures { IfOk result (λ t. t ≡ title_in names.now title) }
 {
@@ -209,8 +217,12 @@ fn title_text(alloc: Global, names: &Names, title: Title) -> Result<Text, Memory
     }
 }
 
-// Appends the demand that an element fails, where it fails one.
-pub(crate) fn blame(
+/// Appends the demand that an element fails, where it fails one. The place is that of the element in a
+/// set.
+///
+/// # Errors
+/// `Memory` only, also where the number of a state fits no `u32`.
+pub fn blame(
     alloc: Global,
     names: &Names,
     failed: &mut List<Demand>,
@@ -235,9 +247,12 @@ pub(crate) fn blame(
     Ok(())
 }
 
-// Appends the demands that a set fails, element by element. The typestate is that of the class.
+/// Appends the demands that a set fails, element by element. The typestate is that of the class.
+///
+/// # Errors
+/// `Memory` only, also where the number of a state fits no `u32`.
 #[tactic(auto, using(crate::proofs::Rests::rests))]
-pub(crate) fn judge(
+pub fn judge(
     alloc: Global,
     names: &Names,
     failed: &mut List<Demand>,

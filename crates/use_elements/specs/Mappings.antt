@@ -1,18 +1,24 @@
 -- The element maps and demands of the rules, by the names that the code has for them.
 use Rattle.std.specs.Prelude.{ℕ, List, [], ◌∷◌, Option, Some, None, get_or, codes}
-use Rattle.use_flow.specs.declared.elements.Mapping.{Mapping}
-use Rattle.use_flow.specs.declared.elements.Mapping.TheVariants as mappings
-use Rattle.use_flow.specs.declared.elements.Rule.{Rule}
-use Rattle.use_flow.specs.declared.elements.Rule.TheVariants as rules
-use Rattle.use_flow.specs.declared.elements.Title.{Title}
-use Rattle.use_flow.specs.declared.elements.Title.TheVariants as titles
+use Rattle.use_elements.specs.declared.elements.Mapping.{Mapping}
+use Rattle.use_elements.specs.declared.elements.Mapping.TheVariants as mappings
+use Rattle.use_elements.specs.declared.elements.Rule.{Rule}
+use Rattle.use_elements.specs.declared.elements.Rule.TheVariants as rules
+use Rattle.use_elements.specs.declared.elements.Title.{Title}
+use Rattle.use_elements.specs.declared.elements.Title.TheVariants as titles
 use Rattle.use_rules.specs.declared.demand.DemandKind.{DemandKind}
 use Rattle.use_rules.specs.declared.demand.DemandKind.TheVariants as demands
 use Rattle.use_rules.specs.declared.demand.Demand.{Demand}
 use Rattle.mg_text.specs.Call.{Name}
 use Rattle.ts_tree.specs.Typestate.{Typestate}
 use Rattle.mg_text.specs.declared.place.Place.{Place}
+use Rattle.use_rules.specs.Keys.{at_end}
 use Rattle.use_rules.specs.Elements.{as_value, left_behind, not_null, only_null, if_moved, if_open, element_at}
+
+-- the typestate that there may be
+abbrev pub typestate_or_end : Option Typestate → Typestate
+typestate_or_end None = at_end
+typestate_or_end (Some t) = t
 
 abbrev pub mapping_of : Mapping → ℕ → List ℕ
 mapping_of mappings.AsValue = as_value

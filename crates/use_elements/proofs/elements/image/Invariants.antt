@@ -1,7 +1,7 @@
 use Rattle.std.proofs.Common.{◌≡◌, drop}
 use Rattle.use_rules.specs.Elements.{image, leads_from, marked}
-use Rattle.use_flow.specs.inner.Mappings.{mapping_of}
-use Rattle.use_flow.proofs.elements.image.Given as goal
+use Rattle.use_elements.specs.Mappings.{mapping_of}
+use Rattle.use_elements.proofs.elements.image.Given as goal
 
 abbrev pub invariant-loop-element : goal.invariant-loop-element
 invariant-loop-element l =

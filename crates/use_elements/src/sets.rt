@@ -13,7 +13,7 @@ use std::marker::Model;
 
 /// A set for each variable, seen as the list of them.
 #[derive(Drop)]
-pub(crate) struct Sets {
+pub struct Sets {
     sets: Vec<StateSet>,
 }
 
@@ -25,9 +25,12 @@ impl Model for Sets {
     ghost view = { λ s. s.sets.items };
 }
 
-// Makes the members of another set members of this one, which gets as wide.
+/// Makes the members of another set members of this one, which gets as wide.
+///
+/// # Errors
+/// `Memory` only.
 #[tactic(auto, using(crate::proofs::Unions::unions))]
-pub(crate) fn take_in(set: &mut StateSet, other: &StateSet) -> Result<(), Memory>
+pub fn take_in(set: &mut StateSet, other: &StateSet) -> Result<(), Memory>
     ensures { OnOk result (set.new ≡ union set.old other.now) }
 {
     if set.width() < other.width() {
@@ -41,7 +44,8 @@ pub(crate) fn take_in(set: &mut StateSet, other: &StateSet) -> Result<(), Memory
 }
 
 impl Sets {
-    pub(crate) fn new(alloc: Global) -> Sets
+    /// No sets.
+    pub fn new(alloc: Global) -> Sets
         ensures { result ≡ [] }
     {
         Sets {
@@ -49,29 +53,34 @@ impl Sets {
         }
     }
 
-    pub(crate) fn push(&mut self, set: StateSet) -> Result<(), Memory>
+    /// Puts a set behind the others.
+    ///
+    /// # Errors
+    /// `Memory` only.
+    pub fn push(&mut self, set: StateSet) -> Result<(), Memory>
         ensures { OnOk result (self.new ≡ self.old ++ set ∷ []) }
     {
         self.sets.push(set)?;
         Ok(())
     }
 
-    pub(crate) fn len(&self) -> usize
+    /// How many variables have a set.
+    pub fn len(&self) -> usize
         ensures { result ≡ length self.now }
     {
         self.sets.len()
     }
 
-    // The set of a variable that there is.
-    pub(crate) fn get(&self, variable: usize) -> &StateSet
+    /// The set of a variable that there is.
+    pub fn get(&self, variable: usize) -> &StateSet
         requires { variable < length self.now }
         ensures { result.now ≡ slice_index_or self.now variable [] }
     {
         &self.sets[variable]
     }
 
-    // Gives a variable another set, where there is such a variable.
-    pub(crate) fn put(&mut self, variable: usize, set: StateSet)
+    /// Gives a variable another set, where there is such a variable.
+    pub fn put(&mut self, variable: usize, set: StateSet)
         ensures { self.new ≡ slice_set self.old variable set }
     {
         if variable < self.sets.len() {
@@ -79,9 +88,12 @@ impl Sets {
         }
     }
 
-    // An equal one.
+    /// An equal one.
+    ///
+    /// # Errors
+    /// `Memory` only.
     #[tactic(auto, using(crate::proofs::Rows::rows))]
-    pub(crate) fn copy(&self, alloc: Global) -> Result<Sets, Memory>
+    pub fn copy(&self, alloc: Global) -> Result<Sets, Memory>
         ensures { IfOk result (λ s. s ≡ self.now) }
     {
         let mut sets = Vec::new(alloc);
@@ -92,9 +104,12 @@ impl Sets {
         Ok(Sets { sets })
     }
 
-    // Takes in the sets of another, variable by variable.
+    /// Takes in the sets of another, variable by variable.
+    ///
+    /// # Errors
+    /// `Memory` only.
     #[tactic(auto, using(crate::proofs::Rows::rows))]
-    pub(crate) fn take_in(&mut self, other: &Sets) -> Result<(), Memory>
+    pub fn take_in(&mut self, other: &Sets) -> Result<(), Memory>
         ensures { OnOk result (self.new ≡ joined_sets self.old other.now) }
     {
         for i in 0..other.sets.len() {
@@ -109,8 +124,11 @@ impl Sets {
     }
 }
 
-// What is known where two ways meet; a way that isn't reached adds nothing.
-pub(crate) fn meet(one: Option<Sets>, other: Option<Sets>) -> Result<Option<Sets>, Memory>
+/// What is known where two ways meet; a way that isn't reached adds nothing.
+///
+/// # Errors
+/// `Memory` only.
+pub fn meet(one: Option<Sets>, other: Option<Sets>) -> Result<Option<Sets>, Memory>
     ensures { IfOk result (λ n. n ≡ joined one other) }
 {
     let Some(mut one) = one else {
@@ -123,8 +141,11 @@ pub(crate) fn meet(one: Option<Sets>, other: Option<Sets>) -> Result<Option<Sets
     Ok(Some(one))
 }
 
-// The same once more, where the way splits.
-pub(crate) fn copy_now(alloc: Global, now: &Option<Sets>) -> Result<Option<Sets>, Memory>
+/// The same once more, where the way splits.
+///
+/// # Errors
+/// `Memory` only.
+pub fn copy_now(alloc: Global, now: &Option<Sets>) -> Result<Option<Sets>, Memory>
     ensures { IfOk result (λ n. n ≡ now.now) }
 {
     match now {

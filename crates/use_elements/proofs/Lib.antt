@@ -1,0 +1,5 @@
+pub mod Found
+pub mod Rests
+pub mod Leading
+pub mod Unions
+pub mod Rows
