@@ -17,9 +17,10 @@ use Rattle.vm_model.specs.Actions.{Action}
 use Rattle.std.specs.Prelude.{not, if◌then◌else◌}
 use Rattle.vm_model.specs.Tests.{Needs, needs, wrong, wrong_by, below, on_top, misfits, misfit_read, some_of, is_kind, is_member}
 use Rattle.vm_model.specs.Step.{act, acts, tested, broken}
-use Rattle.vm_step.specs.declared.stepped.Stepped.{Stepped}
-use Rattle.vm_step.specs.Doing.{Does, Plays}
-use Rattle.vm_step.specs.inner.Tops.{at_top}
+use Rattle.vm_session.specs.declared.stepped.Stepped.{Stepped}
+use Rattle.vm_session.specs.Doing.{Does}
+use Rattle.vm_step.specs.Doing.{Plays}
+use Rattle.vm_session.specs.inner.Tops.{at_top}
 
 module _ (p : Program) (q : Messages) (m : Machine) (me : ℕ) (a : Action) where
   pub act_wrong : (wrongness : BadKind) → Some wrongness ≡ wrong p (needs p m a) m → act p q m me a ≡ broken wrongness

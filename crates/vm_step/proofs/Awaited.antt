@@ -13,8 +13,8 @@ use Rattle.vm_model.specs.Actions.{Switch, Return, Read, Write, Make, Call, Use}
 use Rattle.vm_model.specs.Tests.{needs, wrong, below}
 use Rattle.vm_model.specs.Step.{Payload, other_role, takes_first, act}
 use Rattle.vm_step.specs.Doing.{waits_in}
-use Rattle.vm_step.specs.inner.Tops.{at_top, text_in}
-use Rattle.vm_step.specs.inner.Sessions.{looks_head, looks_role, looks_by, taken_where, takes_head, takes_role, takes_by}
+use Rattle.vm_session.specs.inner.Tops.{at_top, text_in}
+use Rattle.vm_session.specs.inner.Sessions.{looks_head, looks_role, looks_by, taken_where, takes_head, takes_role, takes_by}
 use Rattle.vm_step.specs.inner.Awaiting.{awaited_head, awaited_role, awaited_in, awaited_with, used_in}
 use Rattle.vm_step.proofs.Waiting.{looks, looks_at_messages}
 use Rattle.vm_step.proofs.Whole.{taken}

@@ -11,12 +11,12 @@ use Rattle.vm_model.specs.Messages.{Messages, on_way, role_named}
 use Rattle.vm_model.specs.Machine.{Machine, Object}
 use Rattle.vm_model.specs.Actions.{Operation, Comparison, Telling, Silent}
 use Rattle.vm_model.specs.Step as model
-use Rattle.vm_step.specs.inner.Tops.{int_in, text_in, int_of_local}
+use Rattle.vm_session.specs.inner.Tops.{int_in, text_in, int_of_local}
 use Rattle.vm_step.specs.inner.Acts.{computes_by, negates_by, increased_by, on_zero_by, on_both_by, switches_by}
 use Rattle.vm_step.specs.inner.Objects.{reads_at, reads_by, writes_by, field_of_object}
 use Rattle.vm_step.specs.inner.Calls.{calls_by}
-use Rattle.vm_step.specs.inner.Sessions.{payload_in, sends_by, looks_head, looks_role, looks_by, takes_head, takes_role, takes_by}
-use Rattle.vm_step.specs.inner.Sessions.{refuses_by}
+use Rattle.vm_session.specs.inner.Sessions.{payload_in, sends_by, looks_head, looks_role, looks_by, takes_head, takes_role, takes_by}
+use Rattle.vm_session.specs.inner.Sessions.{refuses_by}
 use Rattle.vm_step.specs.inner.Builts.{inits_by, joins_by, equals_by, shows_int_by, shows_truth_by, prints_by}
 
 module _ (q : Messages) (m : Machine) (rest : List Value) where

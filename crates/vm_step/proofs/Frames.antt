@@ -11,7 +11,7 @@ use Rattle.vm_model.specs.Machine.{Machine, Went}
 use Rattle.vm_model.specs.Tests.{below}
 use Rattle.vm_model.specs.Program.{Program, class_at, class_name, fields_in}
 use Rattle.vm_model.specs.Step.{at_place, next, goes, blank, makes, writes_object}
-use Rattle.vm_step.specs.inner.Tops.{at_top}
+use Rattle.vm_session.specs.inner.Tops.{at_top}
 use Rattle.vm_step.specs.inner.Objects.{writes_by}
 
 -- a field is written

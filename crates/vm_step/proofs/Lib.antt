@@ -1,12 +1,10 @@
 pub mod Testing
 pub mod Tops
-pub mod Ints
 pub mod Acts
 pub mod Cases
 pub mod Whole
 pub mod Ready
 pub mod Frames
-pub mod Added
 pub mod Calling
 pub mod Places
 pub mod Mains

@@ -28,7 +28,7 @@ use Rattle.vm_model.specs.Tests.{object_name, params_in, descriptor_in, result_i
 use Rattle.vm_model.specs.Step.{act_at, act_some, calls, calls_in, code_in, left, next, same_text, truth}
 use Rattle.vm_frames.specs.Frames.{entered, left_to, IsNearest}
 use Rattle.vm_step.specs.Alone.{Quiet, Alone, Stays, Runs, Leads, LeadsAlone, Keeps, AllAlone}
-use Rattle.vm_step.specs.inner.Tops.{at_top, text_in}
+use Rattle.vm_session.specs.inner.Tops.{at_top, text_in}
 use Rattle.vm_step.specs.inner.Builts.{equals_by}
 use Rattle.vm_step.specs.inner.Objects.{field_in, reads_at, reads_by}
 use Rattle.vm_step.specs.inner.Calls.{Awaits}

@@ -19,7 +19,7 @@ use Rattle.vm_model.specs.Tests.{Needs, needs, wrong_by, below, on_top, misfits,
 use Rattle.vm_model.specs.Tests.{is_kind, is_member, is_null}
 use Rattle.vm_model.specs.Step.{next, at_place, with_local, pushed, computed_to, same_truth}
 use Rattle.vm_step.specs.Alone.{SameMethod, Alone}
-use Rattle.vm_step.specs.inner.Tops.{at_top, int_in, int_of_local}
+use Rattle.vm_session.specs.inner.Tops.{at_top, int_in, int_of_local}
 use Rattle.vm_step.specs.inner.Acts.{stored_by, computes_by, negates_by, increased_by, on_zero_by, on_both_by, on_null_by}
 use Rattle.vm_step.specs.inner.Acts.{switches_by}
 use Rattle.vm_step.proofs.Acts.{by_one, by_two, There, there}

@@ -3,7 +3,7 @@ use Rattle.std.proofs.Common.{◌≡◌, ℕ, zero, suc, ◌+◌, ◌-◌, ◌<�
 use Rattle.std.proofs.Common.{slice_get, Option, Some, refl, sym, ap, ◌∙◌, arith}
 use Rattle.std.proofs.lemmas.List.{drop_more, drop_all}
 use Rattle.std.proofs.lemmas.Option.{slice_get_within, get_or_from_slice_get}
-use Rattle.vm_step.specs.inner.Tops.{at_top}
+use Rattle.vm_session.specs.inner.Tops.{at_top}
 use Rattle.mg_text.specs.declared.event.BadKind.{BadKind}
 use Rattle.vm_model.specs.Program.{Program}
 use Rattle.vm_model.specs.Machine.{Object, Machine}

@@ -7,7 +7,7 @@ use Rattle.vm_model.specs.Messages.{Messages}
 use Rattle.vm_model.specs.Machine.{Machine, Went}
 use Rattle.vm_model.specs.Step.{at_place, next, goes}
 use Rattle.vm_model.specs.Tests.{below}
-use Rattle.vm_step.specs.inner.Tops.{at_top}
+use Rattle.vm_session.specs.inner.Tops.{at_top}
 use Rattle.vm_step.specs.inner.Acts.{doubled_by, swapped_by}
 
 -- the operand on top, and those below it

@@ -15,11 +15,11 @@ use Rattle.vm_model.specs.Tests.{Want, Needs, needs, wrong, below, on_top, retur
 use Rattle.vm_model.specs.Tests.{method_of_frame}
 use Rattle.vm_model.specs.Step as model
 use Rattle.vm_model.specs.Step.{act, goes, next, at_place}
-use Rattle.vm_step.specs.inner.Tops.{at_top, int_in, text_in, int_of_local}
+use Rattle.vm_session.specs.inner.Tops.{at_top, int_in, text_in, int_of_local}
 use Rattle.vm_step.specs.inner.Acts.{stored_by, doubled_by, swapped_by, computes_by, negates_by, increased_by, on_zero_by, on_both_by}
 use Rattle.vm_step.specs.inner.Acts.{on_null_by, switches_by}
 use Rattle.vm_step.specs.inner.Objects.{reads_by, writes_by}
-use Rattle.vm_step.specs.inner.Sessions.{payload_in, sends_by, looks_by, takes_by, refuses_by}
+use Rattle.vm_session.specs.inner.Sessions.{payload_in, sends_by, looks_by, takes_by, refuses_by}
 use Rattle.vm_step.specs.inner.Builts.{inits_by, joins_by, equals_by, shows_int_by, shows_truth_by, prints_by}
 use Rattle.vm_step.proofs.Acts.{act_right, enough, below_none, by_none, by_one, by_two, by_three}
 use Rattle.vm_step.proofs.Cases.{computes_cases, negates_cases, on_zero_cases, on_both_cases, switches_cases, increased_cases, reads_cases}

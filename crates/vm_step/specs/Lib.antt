@@ -1,4 +1,3 @@
-pub mod State
 pub mod Doing
 pub mod Alone
 pub mod Steady

@@ -8,18 +8,16 @@ ghost use Rattle.vm_model.specs.Tests.{below};
 ghost use Rattle.vm_model.specs.Step as model;
 ghost use Rattle.vm_frames.specs.Kept.{most};
 ghost use Rattle.vm_frames.specs.Seen.{value_in, IsSet};
-ghost use Rattle.vm_step.specs.State.{state_of, operands_of};
+ghost use Rattle.vm_session.specs.State.{state_of, operands_of};
 ghost use Rattle.vm_step.specs.Doing.{Plays};
-ghost use Rattle.vm_step.specs.inner.Tops.{at_top, int_in, text_in};
+ghost use Rattle.vm_session.specs.inner.Tops.{at_top, int_in, text_in};
 ghost use Rattle.vm_step.specs.inner.Builts.{inits_by, joins_by, equals_by, shows_int_by, shows_truth_by, prints_by};
 
 use crate::needs::is_null;
-use crate::operands::{int_at, put_text, text_at};
-use crate::session::{is_true, truth};
-use crate::stepped::Stepped;
 use mg_text::{BadKind, Ending, Event, Memory, Text};
 use std::alloc::Global;
 use vm_frames::{Cell, State};
+use vm_session::{Stepped, int_at, is_true, put_text, text_at, truth};
 
 /// The constructor of `Object`.
 pub(crate) fn init(state: &mut State) -> Stepped

@@ -10,21 +10,21 @@ ghost use Rattle.vm_model.specs.Actions.{Call};
 ghost use Rattle.vm_model.specs.Tests.{below, on_top, max_locals_in, Typed, params_in, descriptor_in, name_of_method, receiver, call_takes};
 ghost use Rattle.vm_model.specs.Tests.{call_needs};
 ghost use Rattle.vm_model.specs.Step as model;
-ghost use Rattle.vm_step.specs.State.{state_of, operands_of};
+ghost use Rattle.vm_session.specs.State.{state_of, operands_of};
 ghost use Rattle.vm_actions.specs.Table.{calling_of};
 ghost use Rattle.vm_step.specs.Doing.{Plays};
 ghost use Rattle.vm_step.specs.Needing.{wants_of, needs_of};
-ghost use Rattle.vm_step.specs.inner.Tops.{at_top};
+ghost use Rattle.vm_session.specs.inner.Tops.{at_top};
 ghost use Rattle.vm_step.specs.inner.Calls.{calls_by, IsReceived};
 
 use crate::needs::{Needs, Want, taking, wrong};
 use crate::program::{class_name, max_locals, method_at, method_name};
-use crate::stepped::Stepped;
 use mg_text::{BadKind, Ending, Event, Memory, Text};
 use std::alloc::Global;
 use vm_actions::Calling;
 use vm_frames::{Callee, Cell, State};
 use vm_model::{FieldType, Linked, LinkedMethod, LinkedType};
+use vm_session::Stepped;
 
 /// A method that is called, how many operands it takes, and the object that tells of it.
 #[derive(Clone, Copy)]

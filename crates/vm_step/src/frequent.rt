@@ -8,16 +8,17 @@ ghost use Rattle.vm_model.specs.Tests.{misfit_sort};
 ghost use Rattle.vm_model.specs.Step.{next};
 ghost use Rattle.mg_text.specs.Call.{Name};
 ghost use Rattle.vm_frames.specs.Seen.{value_in, IsSet};
-ghost use Rattle.vm_step.specs.State.{state_of, operands_of};
+ghost use Rattle.vm_session.specs.State.{state_of, operands_of};
 ghost use Rattle.vm_actions.specs.Table.{sort_of, constant_of, operation_of, comparison_of};
 ghost use Rattle.vm_step.specs.Alone.{Alone};
 
-use crate::arithmetic::{added, compares, computed, negated, switched};
 use crate::needs::is_null;
-use crate::operands::{int_at, int_of_local};
 use crate::plain::{place_after, same_truth};
-use vm_actions::{Comparison, Constant, Operation, Sort};
+use vm_actions::{
+    Comparison, Constant, Operation, Sort, added, compares, computed, negated, switched,
+};
 use vm_frames::{Cell, State};
+use vm_session::{int_at, int_of_local};
 
 /// Whether a value is of this sort.
 #[inline(always)]

@@ -2,23 +2,19 @@
 //! What a step is stands in the definitions of `vm_model`.
 #![tactic(auto)]
 
-mod arithmetic;
 mod built;
 mod calls;
 mod frequent;
 mod machine;
 mod needs;
 mod objects;
-mod operands;
 mod plain;
 mod program;
 mod quiet;
 mod returns;
-mod session;
 mod step;
-mod stepped;
 mod waits;
 
 pub use machine::{Machine, has_main};
-pub use stepped::Stepped;
 pub use vm_frames::Cell;
+pub use vm_session::Stepped;

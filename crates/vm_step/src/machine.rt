@@ -7,8 +7,9 @@ ghost use Rattle.vm_model.specs.View.{method_of};
 ghost use Rattle.vm_model.specs.Program as program;
 ghost use Rattle.vm_model.specs.Start.{IsStart, started, class_named, main_in, is_main};
 ghost use Rattle.vm_model.specs.Step as model;
-ghost use Rattle.vm_step.specs.State.{state_of};
-ghost use Rattle.vm_step.specs.Doing.{Does, waits_in};
+ghost use Rattle.vm_session.specs.State.{state_of};
+ghost use Rattle.vm_session.specs.Doing.{Does};
+ghost use Rattle.vm_step.specs.Doing.{waits_in};
 ghost use Rattle.vm_step.specs.Alone.{AllAlone};
 ghost use Rattle.vm_step.specs.Main.{HasMain};
 ghost use Rattle.vm_step.specs.Steady.{is_steady, next_action};
@@ -17,7 +18,6 @@ ghost use Rattle.vm_frames.specs.Lying.{AllLie};
 use crate::program::{class_at, max_locals, method_at};
 use crate::quiet::steps_alone;
 use crate::step::take_step;
-use crate::stepped::Stepped;
 use crate::waits::waits;
 use mg_text::{List, Memory, Text};
 use raw_stack::RawStack;
@@ -25,6 +25,7 @@ use std::alloc::Global;
 use std::marker::Model;
 use vm_frames::{Cell, State};
 use vm_model::{Linked, LinkedClass, LinkedMethod, Ports};
+use vm_session::Stepped;
 
 /// A machine that runs a linked program. Contracts see its frames and its objects.
 #[derive(Drop)]

@@ -8,7 +8,7 @@ ghost use Rattle.vm_model.specs.Tests as model;
 ghost use Rattle.mg_text.specs.Call.{Name};
 ghost use Rattle.vm_frames.specs.Seen.{value_in};
 ghost use Rattle.vm_frames.specs.Kept.{most};
-ghost use Rattle.vm_step.specs.State.{state_of, operands_of};
+ghost use Rattle.vm_session.specs.State.{state_of, operands_of};
 ghost use Rattle.vm_actions.specs.Table.{sort_of};
 ghost use Rattle.vm_step.specs.inner.Judged.{judged};
 ghost use Rattle.vm_step.specs.Needing.{want_of, wants_of, needs_of};

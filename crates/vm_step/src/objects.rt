@@ -9,17 +9,17 @@ ghost use Rattle.vm_model.specs.Step as model;
 ghost use Rattle.mg_text.specs.Call.{Name};
 ghost use Rattle.vm_frames.specs.Seen.{value_in, values_in, IsSet};
 ghost use Rattle.vm_frames.specs.Kept.{most};
-ghost use Rattle.vm_step.specs.State.{state_of, operands_of};
+ghost use Rattle.vm_session.specs.State.{state_of, operands_of};
 ghost use Rattle.vm_step.specs.Doing.{Plays};
-ghost use Rattle.vm_step.specs.inner.Tops.{at_top};
+ghost use Rattle.vm_session.specs.inner.Tops.{at_top};
 ghost use Rattle.vm_step.specs.inner.Objects.{reads_by, writes_by};
 
 use crate::program::{class_at, class_name};
-use crate::stepped::{Stepped, broken};
 use mg_text::{BadKind, Ending, Event, Memory, Text};
 use std::alloc::Global;
 use vm_frames::{Cell, State};
 use vm_model::{Linked, LinkedField, LinkedType};
+use vm_session::{Stepped, broken};
 
 /// What a field of a new object holds: 0, false or null.
 fn blank(field: &LinkedField) -> Cell

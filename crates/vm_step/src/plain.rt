@@ -6,22 +6,20 @@ ghost use Rattle.vm_model.specs.Tests.{below};
 ghost use Rattle.vm_model.specs.Step as model;
 ghost use Rattle.vm_frames.specs.Kept.{most};
 ghost use Rattle.vm_frames.specs.Seen.{value_in, IsSet};
-ghost use Rattle.vm_step.specs.State.{state_of, operands_of};
+ghost use Rattle.vm_session.specs.State.{state_of, operands_of};
 ghost use Rattle.vm_actions.specs.Table.{constant_of, operation_of, comparison_of};
 ghost use Rattle.vm_model.specs.Actions.{Push};
 ghost use Rattle.vm_step.specs.Steady.{is_steady_action};
 ghost use Rattle.vm_step.specs.Doing.{Plays};
-ghost use Rattle.vm_step.specs.inner.Tops.{at_top, int_in, int_of_local};
+ghost use Rattle.vm_session.specs.inner.Tops.{at_top, int_in, int_of_local};
 ghost use Rattle.vm_step.specs.inner.Acts.{stored_by, doubled_by, swapped_by, computes_by, negates_by, increased_by, on_zero_by};
 ghost use Rattle.vm_step.specs.inner.Acts.{on_both_by, on_null_by, switches_by};
 
-use crate::arithmetic::{added, compares, computed, negated, switched};
 use crate::needs::is_null;
-use crate::operands::{int_at, int_of_local, push_text, set_local};
-use crate::stepped::{Stepped, broken};
 use mg_text::{BadKind, Ending, Memory};
-use vm_actions::{Comparison, Constant, Operation};
+use vm_actions::{Comparison, Constant, Operation, added, compares, computed, negated, switched};
 use vm_frames::{Cell, State};
+use vm_session::{Stepped, broken, int_at, int_of_local, push_text, set_local};
 
 /// Pushes a value.
 fn push(state: &mut State, cell: Cell) -> Stepped

@@ -13,7 +13,7 @@ ghost use Rattle.vm_model.specs.Program as forms;
 ghost use Rattle.vm_model.specs.Tests.{Typed, max_stack_in, method_of_frame, misfits, on_top, some_of};
 ghost use Rattle.vm_model.specs.View.{args_of, instr_of, method_of};
 ghost use Rattle.vm_frames.specs.Frames.{entered};
-ghost use Rattle.vm_step.specs.State.{state_of, operands_of};
+ghost use Rattle.vm_session.specs.State.{state_of, operands_of};
 ghost use Rattle.vm_actions.specs.Table.{sort_of};
 ghost use Rattle.vm_step.specs.Alone.{Alone, Stays, Runs, Leads, LeadsAlone, Tried, Keeps, AllAlone};
 ghost use Rattle.vm_step.specs.inner.Calls.{Awaits};
@@ -24,9 +24,7 @@ use crate::frequent::{
     negate, pop, push_constant, store, switch,
 };
 use crate::needs::{Want, misfit_type};
-use crate::operands::text_at;
 use crate::program::{field_at, method_at, result_type};
-use crate::session::truth;
 use crate::step::field_want;
 use cls_tree::opcodes::*;
 use mg_text::Text;
@@ -34,6 +32,7 @@ use std::rc::Rc;
 use vm_actions::{Comparison, Constant, Operation, Sort};
 use vm_frames::{Callee, Cell, State};
 use vm_model::{Built, Linked, LinkedArgs, LinkedInstr, LinkedMethod, LinkedType};
+use vm_session::{text_at, truth};
 
 /// The number of an object, where a value is one of the class of this number.
 #[inline(always)]

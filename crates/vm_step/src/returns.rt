@@ -8,18 +8,18 @@ ghost use Rattle.vm_model.specs.Tests as tests;
 ghost use Rattle.vm_model.specs.Step as model;
 ghost use Rattle.mg_text.specs.Call.{Name};
 ghost use Rattle.vm_frames.specs.Seen.{value_in, IsSet};
-ghost use Rattle.vm_step.specs.State.{state_of};
+ghost use Rattle.vm_session.specs.State.{state_of};
 ghost use Rattle.vm_actions.specs.Table.{sort_of};
 ghost use Rattle.vm_step.specs.Needing.{wants_of, needs_of};
 ghost use Rattle.vm_step.specs.Doing.{Plays};
 
 use crate::needs::{Needs, Want, taking, wrong};
 use crate::program::{max_stack, method_at, result_type};
-use crate::stepped::Stepped;
 use mg_text::{BadKind, Ending, Event};
 use vm_actions::Sort;
 use vm_frames::{Cell, State};
 use vm_model::{FieldType, Linked};
+use vm_session::Stepped;
 
 /// Whether a return is of the kind that the descriptor says.
 fn is_sort(sort: Option<Sort>, answer: Option<FieldType<'_>>) -> bool

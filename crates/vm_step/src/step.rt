@@ -10,11 +10,12 @@ ghost use Rattle.vm_model.specs.Types as types;
 ghost use Rattle.vm_model.specs.Tests as tests;
 ghost use Rattle.vm_model.specs.Step as model;
 ghost use Rattle.vm_frames.specs.Kept.{most};
-ghost use Rattle.vm_step.specs.State.{state_of};
+ghost use Rattle.vm_session.specs.State.{state_of};
 ghost use Rattle.vm_actions.specs.Table.{sort_of, plain_of, action_of};
 ghost use Rattle.vm_step.specs.Needing.{want_of, wants_of};
 ghost use Rattle.vm_step.specs.Steady.{is_steady, is_steady_action, next_action};
-ghost use Rattle.vm_step.specs.Doing.{Does, Plays};
+ghost use Rattle.vm_session.specs.Doing.{Does};
+ghost use Rattle.vm_step.specs.Doing.{Plays};
 
 use crate::built::{concat, equals, init, print, push_out, show_int, show_truth};
 use crate::calls::call;
@@ -26,13 +27,12 @@ use crate::plain::{
 };
 use crate::program::{class_name, field_at, lent, method_at};
 use crate::returns::return_from;
-use crate::session::{Payload, look, refuse, send, take};
-use crate::stepped::Stepped;
 use mg_text::{BadKind, Ending, Memory};
 use std::alloc::Global;
 use vm_actions::{Action, Plain, Sort, action_of};
 use vm_frames::State;
 use vm_model::{Built, FieldType, Linked, LinkedField, LinkedInstr, Ports};
+use vm_session::{Payload, Stepped, look, refuse, send, take};
 
 /// What is wrong with an instruction that takes these operands and gives so many.
 fn check(linked: &Linked, state: &State, takes: &[Want<'_>], gives: usize) -> Option<BadKind>

@@ -4,18 +4,17 @@
 ghost use Rattle.std.specs.Prelude.{◌≡◌, ◌≤◌, length};
 ghost use Rattle.vm_model.specs.Actions.{Use};
 ghost use Rattle.vm_model.specs.Step as model;
-ghost use Rattle.vm_step.specs.State.{state_of, operands_of};
+ghost use Rattle.vm_session.specs.State.{state_of, operands_of};
 ghost use Rattle.vm_actions.specs.Table.{action_of};
 ghost use Rattle.vm_step.specs.Doing.{waits_in};
-ghost use Rattle.vm_step.specs.inner.Tops.{at_top, text_in};
+ghost use Rattle.vm_session.specs.inner.Tops.{at_top, text_in};
 ghost use Rattle.vm_step.specs.inner.Awaiting.{awaited, awaited_in, awaited_with, used_in};
 
-use crate::operands::text_at;
-use crate::session::other_role;
 use crate::step::{check_built, next_instr};
 use vm_actions::{Action, action_of};
 use vm_frames::State;
 use vm_model::{Built, Linked, Ports};
+use vm_session::{other_role, text_at};
 
 /// The role of this name, where it has sent nothing that wasn't taken.
 fn awaited(ports: &Ports, me: u32, peer: &str) -> Option<u32>

@@ -3,7 +3,7 @@ use Rattle.std.proofs.lemmas.List.{length-map}
 use Rattle.vm_model.specs.Program.{method_at}
 use Rattle.vm_model.specs.Actions.{Call}
 use Rattle.vm_model.specs.Tests.{Needs, needs, wrong, call_takes}
-use Rattle.vm_step.specs.State.{state_of}
+use Rattle.vm_session.specs.State.{state_of}
 use Rattle.vm_actions.specs.Table.{calling_of}
 use Rattle.vm_step.specs.Needing.{want_of, needs_of}
 use Rattle.vm_step.proofs.Acts.{act_wrong, plays_for, room_in}

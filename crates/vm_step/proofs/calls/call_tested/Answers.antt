@@ -2,7 +2,7 @@ use Rattle.std.proofs.Common.{true, false}
 use Rattle.vm_model.specs.Actions.{Telling, Silent}
 use Rattle.vm_model.specs.Tests.{below}
 use Rattle.vm_model.specs.Step as model
-use Rattle.vm_step.specs.State.{state_of, operands_of}
+use Rattle.vm_session.specs.State.{state_of, operands_of}
 use Rattle.vm_step.specs.inner.Calls.{calls_by}
 use Rattle.vm_step.proofs.Acts.{plays_same, by_head}
 use Rattle.vm_step.proofs.Cases.{telling_cases, silent_cases}

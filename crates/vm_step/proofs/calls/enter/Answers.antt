@@ -1,6 +1,6 @@
 use Rattle.std.proofs.Common.{ap, ◌∙◌}
 use Rattle.vm_model.specs.Tests.{max_locals_in}
-use Rattle.vm_step.specs.State.{state_of}
+use Rattle.vm_session.specs.State.{state_of}
 use Rattle.vm_step.proofs.Calling.{calls_is}
 use Rattle.vm_step.proofs.calls.enter.Goals as goal
 

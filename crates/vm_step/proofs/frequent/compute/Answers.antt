@@ -7,7 +7,7 @@ use Rattle.vm_model.specs.Machine.{Machine}
 use Rattle.vm_model.specs.Tests.{below}
 use Rattle.vm_model.specs.Arithmetic.{computed}
 use Rattle.vm_model.specs.Step.{at_place}
-use Rattle.vm_step.specs.State.{state_of}
+use Rattle.vm_session.specs.State.{state_of}
 use Rattle.vm_actions.specs.Table.{operation_of}
 use Rattle.vm_step.proofs.Ready.{compute_alone}
 use Rattle.vm_step.proofs.frequent.compute.Goals as goal

@@ -2,7 +2,7 @@ use Rattle.std.proofs.Common.{arith, refl}
 use Rattle.vm_model.specs.declared.value.Value.{Value}
 use Rattle.vm_model.specs.Actions.{Double}
 use Rattle.vm_frames.specs.Seen.{value_in}
-use Rattle.vm_step.specs.State.{state_of}
+use Rattle.vm_session.specs.State.{state_of}
 use Rattle.vm_step.proofs.Ready.{alone_if, double_alone}
 use Rattle.vm_step.proofs.frequent.double.Goals as goal
 

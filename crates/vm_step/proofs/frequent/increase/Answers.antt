@@ -6,8 +6,8 @@ use Rattle.vm_model.specs.declared.value.Value.TheVariants as values
 use Rattle.vm_model.specs.Machine.{Machine}
 use Rattle.vm_model.specs.Arithmetic.{wrap}
 use Rattle.vm_model.specs.Step.{at_place, with_local}
-use Rattle.vm_step.specs.State.{state_of}
-use Rattle.vm_step.specs.inner.Tops.{int_of_local}
+use Rattle.vm_session.specs.State.{state_of}
+use Rattle.vm_session.specs.inner.Tops.{int_of_local}
 use Rattle.vm_step.proofs.Ready.{increase_alone}
 use Rattle.vm_step.proofs.frequent.increase.Goals as goal
 

@@ -4,7 +4,7 @@ use Rattle.std.proofs.lemmas.Int.{to_z-of_z}
 use Rattle.std.specs.Prelude.{if◌then◌else◌}
 use mir.Syntax.{w32}
 use Rattle.vm_model.specs.Arithmetic.{compares}
-use Rattle.vm_step.specs.State.{state_of}
+use Rattle.vm_session.specs.State.{state_of}
 use Rattle.vm_actions.specs.Table.{comparison_of}
 use Rattle.vm_step.proofs.Ready.{if_both_alone}
 use Rattle.vm_step.proofs.frequent.jump_on_both.Goals as goal

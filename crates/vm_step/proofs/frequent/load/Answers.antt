@@ -2,7 +2,7 @@ use Rattle.std.proofs.Common.{sym, ap, ◌∙◌, slice_get}
 use Rattle.vm_model.specs.declared.value.Value.{Value}
 use Rattle.vm_model.specs.Actions.{Load}
 use Rattle.vm_frames.specs.Seen.{value_in}
-use Rattle.vm_step.specs.State.{state_of}
+use Rattle.vm_session.specs.State.{state_of}
 use Rattle.vm_actions.specs.Table.{sort_of}
 use Rattle.vm_step.proofs.Ready.{alone_if, load_alone, when_true, held_is}
 use Rattle.vm_step.proofs.frequent.load.Goals as goal

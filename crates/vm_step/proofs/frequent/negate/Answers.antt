@@ -8,7 +8,7 @@ use Rattle.vm_model.specs.Machine.{Machine}
 use Rattle.vm_model.specs.Tests.{below}
 use Rattle.vm_model.specs.Arithmetic.{wrap}
 use Rattle.vm_model.specs.Step.{at_place}
-use Rattle.vm_step.specs.State.{state_of}
+use Rattle.vm_session.specs.State.{state_of}
 use Rattle.vm_step.proofs.Ready.{negate_alone}
 use Rattle.vm_step.proofs.frequent.negate.Goals as goal
 

@@ -2,7 +2,7 @@ use Rattle.std.proofs.Common.{◌+◌, arith, ◌∙◌}
 use Rattle.vm_model.specs.Machine.{Machine}
 use Rattle.vm_model.specs.Tests.{below}
 use Rattle.vm_model.specs.Step.{at_place}
-use Rattle.vm_step.specs.State.{state_of}
+use Rattle.vm_session.specs.State.{state_of}
 use Rattle.vm_step.proofs.Ready.{pop_alone}
 use Rattle.vm_step.proofs.frequent.pop.Goals as goal
 

@@ -5,7 +5,7 @@ use mir.Syntax.{w32}
 use Rattle.vm_model.specs.declared.value.Value.TheVariants as values
 use Rattle.vm_model.specs.Actions.{Push}
 use Rattle.vm_model.specs.Step.{next}
-use Rattle.vm_step.specs.State.{state_of, operands_of}
+use Rattle.vm_session.specs.State.{state_of, operands_of}
 use Rattle.vm_step.proofs.Ready.{alone_if, push_alone}
 use Rattle.vm_step.proofs.frequent.push_constant.Goals as goal
 

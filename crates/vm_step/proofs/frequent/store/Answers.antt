@@ -4,7 +4,7 @@ use Rattle.vm_model.specs.Machine.{Machine}
 use Rattle.vm_model.specs.Tests.{below}
 use Rattle.vm_model.specs.Step.{at_place, with_local}
 use Rattle.vm_frames.specs.Seen.{value_in}
-use Rattle.vm_step.specs.State.{state_of}
+use Rattle.vm_session.specs.State.{state_of}
 use Rattle.vm_actions.specs.Table.{sort_of}
 use Rattle.vm_step.proofs.Ready.{store_alone, when_true}
 use Rattle.vm_step.proofs.frequent.store.Goals as goal

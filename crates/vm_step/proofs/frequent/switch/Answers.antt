@@ -3,7 +3,7 @@ use Rattle.std.proofs.Common.{of_z}
 use Rattle.std.proofs.lemmas.Int.{to_z-of_z}
 use mir.Syntax.{w32}
 use Rattle.vm_model.specs.Arithmetic.{switched}
-use Rattle.vm_step.specs.State.{state_of}
+use Rattle.vm_session.specs.State.{state_of}
 use Rattle.vm_step.proofs.Ready.{switch_alone}
 use Rattle.vm_step.proofs.frequent.switch.Goals as goal
 

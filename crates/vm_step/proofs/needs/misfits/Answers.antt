@@ -1,7 +1,7 @@
 use Rattle.std.proofs.Common.{◌≡◌, ◌-◌, ◌∙◌, length, slice_get, Some}
 use Rattle.vm_model.specs.Tests as model
 use Rattle.vm_frames.specs.Seen.{value_in}
-use Rattle.vm_step.specs.State.{state_of, operands_of}
+use Rattle.vm_session.specs.State.{state_of, operands_of}
 use Rattle.vm_step.proofs.Testing.{found_more, found_all, taken_at}
 use Rattle.vm_step.proofs.needs.misfits.Goals as goal
 

@@ -1,6 +1,6 @@
 use Rattle.std.proofs.Common.{◌≡◌, ◌||◌, drop, length}
 use Rattle.vm_model.specs.Tests as model
-use Rattle.vm_step.specs.State.{state_of, operands_of}
+use Rattle.vm_session.specs.State.{state_of, operands_of}
 use Rattle.vm_step.specs.Needing.{wants_of}
 use Rattle.vm_step.proofs.needs.misfits.Given as goal
 

@@ -1,7 +1,7 @@
 use Rattle.std.proofs.Common.{◌≡◌, ◌∙◌, ◌||◌, ◌≤◌, ℕ, length, ap, sym, arith}
 use Rattle.std.proofs.lemmas.List.{length-map}
 use Rattle.vm_model.specs.Tests as model
-use Rattle.vm_step.specs.State.{state_of, operands_of}
+use Rattle.vm_session.specs.State.{state_of, operands_of}
 use Rattle.vm_step.specs.Needing.{want_of, wants_of, needs_of}
 use Rattle.vm_step.proofs.Testing.{wrong_is}
 use Rattle.vm_step.proofs.needs.wrong.Goals as goal

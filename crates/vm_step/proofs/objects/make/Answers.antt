@@ -1,6 +1,6 @@
 use Rattle.std.proofs.Common.{◌∙◌}
 use Rattle.vm_frames.specs.Seen.{values_in}
-use Rattle.vm_step.specs.State.{state_of}
+use Rattle.vm_session.specs.State.{state_of}
 use Rattle.vm_step.proofs.Frames.{makes_is}
 use Rattle.vm_step.proofs.objects.make.Goals as goal
 

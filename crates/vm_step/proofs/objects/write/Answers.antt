@@ -4,7 +4,7 @@ use Rattle.vm_model.specs.Tests.{below}
 use Rattle.vm_model.specs.Step.{at_place}
 use Rattle.vm_frames.specs.Seen.{value_in}
 use Rattle.vm_frames.specs.Frames.{with_field}
-use Rattle.vm_step.specs.State.{state_of, operands_of}
+use Rattle.vm_session.specs.State.{state_of, operands_of}
 use Rattle.vm_step.proofs.Calling.{has_object}
 use Rattle.vm_step.proofs.Frames.{writes_is}
 use Rattle.vm_step.proofs.objects.write.Goals as goal

@@ -2,7 +2,7 @@ use Rattle.std.proofs.Common.{◌≡◌, Ok, Some, slice_get, sym, ap, ◌∙◌
 use Rattle.vm_model.specs.declared.value.Value.{Value}
 use Rattle.vm_model.specs.Step.{pushed}
 use Rattle.vm_frames.specs.Seen.{value_in}
-use Rattle.vm_step.specs.State.{state_of, operands_of}
+use Rattle.vm_session.specs.State.{state_of, operands_of}
 use Rattle.vm_step.proofs.Acts.{plays_same}
 use Rattle.vm_step.proofs.Ready.{held_is}
 use Rattle.vm_step.proofs.plain.load.Goals as goal

@@ -3,7 +3,7 @@ use Rattle.std.proofs.lemmas.Int.{to_z-of_z}
 use mir.Syntax.{w32}
 use Rattle.vm_model.specs.declared.value.Value.TheVariants as values
 use Rattle.vm_model.specs.Step.{goes, next}
-use Rattle.vm_step.specs.State.{state_of, operands_of}
+use Rattle.vm_session.specs.State.{state_of, operands_of}
 use Rattle.vm_step.proofs.Acts.{plays_same}
 use Rattle.vm_step.proofs.plain.push_constant.Goals as goal
 

@@ -1,7 +1,7 @@
 use Rattle.std.proofs.Common.{◌≡◌, Some, arith}
 use Rattle.vm_model.specs.Program.{method_at}
 use Rattle.vm_model.specs.View.{method_of}
-use Rattle.vm_step.specs.State.{state_of}
+use Rattle.vm_session.specs.State.{state_of}
 use Rattle.vm_step.proofs.Quietly.{near_room}
 use Rattle.vm_step.proofs.quiet.awaiting.Goals as goal
 

@@ -6,7 +6,7 @@ use Rattle.vm_model.specs.Kept.{type_kept}
 use Rattle.vm_model.specs.Tests.{params_in, descriptor_in, max_locals_in}
 use Rattle.vm_model.specs.View.{method_of}
 use Rattle.vm_frames.specs.Seen.{value_in}
-use Rattle.vm_step.specs.State.{state_of}
+use Rattle.vm_session.specs.State.{state_of}
 use Rattle.vm_step.proofs.Ready.{when_true, when_false}
 use Rattle.vm_step.proofs.Quietly.{quiet_silent, entered_runs, params_kept}
 use Rattle.vm_step.proofs.quiet.call_silent.Goals as goal

@@ -5,7 +5,7 @@ use Rattle.vm_model.specs.Types.{FieldType, signature_of}
 use Rattle.vm_model.specs.Kept.{type_kept}
 use Rattle.vm_model.specs.Tests.{params_in, descriptor_in, max_locals_in}
 use Rattle.vm_model.specs.View.{method_of}
-use Rattle.vm_step.specs.State.{state_of}
+use Rattle.vm_session.specs.State.{state_of}
 use Rattle.vm_step.proofs.Ready.{when_true, when_false}
 use Rattle.vm_step.proofs.Quietly.{quiet_static, entered_runs, params_kept}
 use Rattle.vm_step.proofs.quiet.call_static.Goals as goal

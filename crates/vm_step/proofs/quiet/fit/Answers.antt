@@ -3,8 +3,8 @@ use Rattle.std.proofs.lemmas.List.{drop_all}
 use Rattle.vm_model.specs.Kept.{type_kept}
 use Rattle.vm_model.specs.Tests.{Typed, misfits, on_top, some_of}
 use Rattle.vm_frames.specs.Seen.{value_in}
-use Rattle.vm_step.specs.State.{state_of}
-use Rattle.vm_step.specs.State.{operands_of}
+use Rattle.vm_session.specs.State.{state_of}
+use Rattle.vm_session.specs.State.{operands_of}
 use Rattle.vm_step.proofs.Quietly.{one_less}
 use Rattle.vm_step.proofs.Testing.{taken_at}
 use Rattle.vm_step.proofs.quiet.fit.Goals as goal

@@ -2,7 +2,7 @@ use Rattle.std.proofs.Common.{◌≡◌, Bool, false, Option, None, map, drop, l
 use Rattle.mg_text.specs.declared.event.BadKind.{BadKind}
 use Rattle.vm_model.specs.Kept.{type_kept}
 use Rattle.vm_model.specs.Tests.{Typed, misfits, on_top, some_of}
-use Rattle.vm_step.specs.State.{state_of, operands_of}
+use Rattle.vm_session.specs.State.{state_of, operands_of}
 use Rattle.vm_step.proofs.quiet.fit.Given as goal
 
 abbrev pub invariant-loop-at : goal.invariant-loop-at

@@ -5,7 +5,7 @@ use Rattle.vm_model.specs.Machine.{Machine}
 use Rattle.vm_model.specs.Program.{Int, Instr, MethodOf}
 use Rattle.vm_model.specs.Actions.{Push, action, int_action}
 use Rattle.vm_model.specs.View.{instr_of, method_of}
-use Rattle.vm_step.specs.State.{state_of}
+use Rattle.vm_session.specs.State.{state_of}
 use Rattle.vm_step.specs.Alone.{Alone, Keeps}
 use Rattle.vm_step.proofs.Quietly.{keeps_so}
 use Rattle.vm_step.proofs.quiet.push_int.Goals as goal

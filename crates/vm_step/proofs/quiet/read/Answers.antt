@@ -3,7 +3,7 @@ use Rattle.vm_model.specs.Machine.{Machine}
 use Rattle.vm_model.specs.Tests.{below}
 use Rattle.vm_model.specs.Step.{at_place, next}
 use Rattle.vm_frames.specs.Seen.{value_in}
-use Rattle.vm_step.specs.State.{state_of}
+use Rattle.vm_session.specs.State.{state_of}
 use Rattle.vm_step.proofs.Ready.{stays}
 use Rattle.vm_step.proofs.Quietly.{quiet_read}
 use Rattle.vm_step.proofs.quiet.read.Goals as goal

@@ -4,7 +4,7 @@ use Rattle.vm_model.specs.Types.{signature_of}
 use Rattle.vm_model.specs.Descriptors.{type_view}
 use Rattle.vm_model.specs.Tests.{result_in, descriptor_in, method_of_frame}
 use Rattle.vm_model.specs.View.{method_of}
-use Rattle.vm_step.specs.State.{state_of}
+use Rattle.vm_session.specs.State.{state_of}
 use Rattle.vm_step.proofs.Quietly.{left_so, left_runs, quiet_return}
 use Rattle.vm_step.proofs.quiet.return_nothing.Goals as goal
 

@@ -5,7 +5,7 @@ use Rattle.vm_model.specs.Descriptors.{type_view}
 use Rattle.vm_model.specs.Tests.{result_in, descriptor_in, method_of_frame}
 use Rattle.vm_model.specs.View.{method_of}
 use Rattle.vm_frames.specs.Seen.{value_in}
-use Rattle.vm_step.specs.State.{state_of}
+use Rattle.vm_session.specs.State.{state_of}
 use Rattle.vm_actions.specs.Table.{sort_of}
 use Rattle.vm_step.proofs.Ready.{when_true}
 use Rattle.vm_step.proofs.Quietly.{left_so, left_runs, quiet_return_value}

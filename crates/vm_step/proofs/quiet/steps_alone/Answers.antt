@@ -2,7 +2,7 @@ use Rattle.std.proofs.Common.{refl, ap, ◌∙◌}
 use Rattle.std.specs.Option.{option_map}
 use Rattle.vm_model.specs.Program.{method_at}
 use Rattle.vm_model.specs.View.{method_of}
-use Rattle.vm_step.specs.State.{state_of}
+use Rattle.vm_session.specs.State.{state_of}
 use Rattle.vm_step.proofs.Quietly.{leads_on, leads_no_more}
 use Rattle.vm_step.proofs.quiet.steps_alone.Goals as goal
 

@@ -1,5 +1,5 @@
 use Rattle.vm_model.specs.View.{method_of}
-use Rattle.vm_step.specs.State.{state_of}
+use Rattle.vm_session.specs.State.{state_of}
 use Rattle.vm_step.specs.Alone.{Runs, AllAlone}
 use Rattle.vm_step.proofs.quiet.steps_alone.Given as goal
 

@@ -4,7 +4,7 @@ use Rattle.vm_model.specs.Machine.{Machine}
 use Rattle.vm_model.specs.Tests.{below, type_in}
 use Rattle.vm_model.specs.Step.{at_place, next}
 use Rattle.vm_frames.specs.Seen.{value_in}
-use Rattle.vm_step.specs.State.{state_of}
+use Rattle.vm_session.specs.State.{state_of}
 use Rattle.vm_frames.specs.Frames.{with_field}
 use Rattle.vm_step.specs.Needing.{want_of}
 use Rattle.vm_step.proofs.Quietly.{has_class, quiet_write}

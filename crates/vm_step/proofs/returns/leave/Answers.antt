@@ -3,7 +3,7 @@ use Rattle.std.specs.Option.{option_map, option_to_list}
 use Rattle.vm_model.specs.declared.value.Value.{Value}
 use Rattle.vm_model.specs.Step as model
 use Rattle.vm_frames.specs.Seen.{value_in}
-use Rattle.vm_step.specs.State.{state_of}
+use Rattle.vm_session.specs.State.{state_of}
 use Rattle.vm_step.proofs.Calling.{returns_is, ends_is}
 use Rattle.vm_step.proofs.Ready.{when_true, when_false}
 use Rattle.vm_step.proofs.returns.leave.Goals as goal

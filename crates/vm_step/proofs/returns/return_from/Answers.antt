@@ -6,7 +6,7 @@ use Rattle.vm_model.specs.Descriptors.{type_view}
 use Rattle.vm_model.specs.Actions.{Return}
 use Rattle.vm_model.specs.Tests.{needs, wrong, return_needs, result_in, descriptor_in, method_of_frame}
 use Rattle.vm_frames.specs.Seen.{value_in}
-use Rattle.vm_step.specs.State.{state_of}
+use Rattle.vm_session.specs.State.{state_of}
 use Rattle.vm_actions.specs.Table.{sort_of}
 use Rattle.vm_step.proofs.Acts.{act_wrong, plays_for}
 use Rattle.vm_step.proofs.Whole.{return_none_is, return_some_is}

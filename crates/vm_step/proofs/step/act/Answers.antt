@@ -2,7 +2,7 @@ use Rattle.std.proofs.Common.{Ok}
 use Rattle.vm_model.specs.Actions.{Return}
 use Rattle.vm_model.specs.Step as model
 use Rattle.std.specs.Option.{option_map}
-use Rattle.vm_step.specs.State.{state_of}
+use Rattle.vm_session.specs.State.{state_of}
 use Rattle.vm_actions.specs.Table.{sort_of}
 use Rattle.vm_step.proofs.Acts.{does_plays_for}
 use Rattle.vm_step.proofs.step.act.Goals as goal

@@ -1,7 +1,7 @@
 use Rattle.std.proofs.Common.{◌∙◌, sym, ap, Ok, refl, arith}
 use Rattle.vm_model.specs.Actions.{Use}
 use Rattle.vm_model.specs.Tests.{needs}
-use Rattle.vm_step.specs.State.{state_of}
+use Rattle.vm_session.specs.State.{state_of}
 use Rattle.vm_step.proofs.Acts.{act_wrong, does_so, does_alone_so, room_in}
 use Rattle.vm_step.proofs.Whole.{init_is, concat_is, equals_is, show_int_is, show_truth_is, out_is, print_is, send_is, send_int_is}
 use Rattle.vm_step.proofs.Whole.{send_truth_is, send_text_is, look_is, take_is, take_int_is, take_truth_is, take_text_is, refuse_is}

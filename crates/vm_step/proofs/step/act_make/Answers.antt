@@ -1,7 +1,7 @@
 use Rattle.std.proofs.Common.{[], ◌∙◌, sym, refl, arith}
 use Rattle.vm_model.specs.Actions as actions
 use Rattle.vm_model.specs.Tests.{taking}
-use Rattle.vm_step.specs.State.{state_of}
+use Rattle.vm_session.specs.State.{state_of}
 use Rattle.vm_step.proofs.Acts.{act_wrong, plays_for, room_in}
 use Rattle.vm_step.proofs.Whole.{make_is}
 use Rattle.vm_step.proofs.step.act_make.Goals as goal

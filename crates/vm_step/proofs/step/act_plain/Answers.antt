@@ -1,6 +1,6 @@
 use Rattle.std.proofs.Common.{◌∙◌, sym, ap, Ok, refl, arith}
 use Rattle.vm_model.specs.Tests.{needs}
-use Rattle.vm_step.specs.State.{state_of}
+use Rattle.vm_session.specs.State.{state_of}
 use Rattle.vm_actions.specs.Table.{plain_of}
 use Rattle.vm_step.proofs.Acts.{act_wrong, plays_so, room_in}
 use Rattle.vm_step.proofs.Whole.{push_is, load_is, store_is, pop_is, double_is, swap_is, compute_is, negate_is, increase_is, if_zero_is}

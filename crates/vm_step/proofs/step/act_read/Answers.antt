@@ -1,7 +1,7 @@
 use Rattle.std.proofs.Common.{◌∙◌, ◌∷◌, [], sym, ap, Ok, refl}
 use Rattle.vm_model.specs.Actions as actions
 use Rattle.vm_model.specs.Tests.{Want, taking, wrong}
-use Rattle.vm_step.specs.State.{state_of}
+use Rattle.vm_session.specs.State.{state_of}
 use Rattle.vm_step.proofs.Acts.{act_wrong, plays_for}
 use Rattle.vm_step.proofs.Whole.{read_is}
 use Rattle.vm_step.proofs.step.act_read.Goals as goal

@@ -4,7 +4,7 @@ use Rattle.vm_model.specs.Tests.{Want, Typed, taking, wrong, type_in}
 use Rattle.vm_model.specs.Types.{Named}
 use Rattle.vm_model.specs.Program.{class_name}
 use Rattle.vm_step.specs.Needing.{want_of}
-use Rattle.vm_step.specs.State.{state_of}
+use Rattle.vm_session.specs.State.{state_of}
 use Rattle.vm_step.proofs.Acts.{act_wrong, plays_for}
 use Rattle.vm_step.proofs.Whole.{write_is}
 use Rattle.vm_step.proofs.step.act_write.Goals as goal

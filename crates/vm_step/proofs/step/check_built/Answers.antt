@@ -1,6 +1,6 @@
 use Rattle.std.proofs.Common.{◌∷◌, [], ◌∙◌}
 use Rattle.vm_model.specs.Tests.{taking, wrong}
-use Rattle.vm_step.specs.State.{state_of}
+use Rattle.vm_session.specs.State.{state_of}
 use Rattle.vm_step.proofs.step.check_built.Goals as goal
 
 pub returns-in-Equals-clause-wrong : goal.returns-in-Equals-clause-wrong

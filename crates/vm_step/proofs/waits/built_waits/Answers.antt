@@ -2,9 +2,9 @@ use Rattle.std.proofs.Common.{◌∙◌, sym, ap}
 use Rattle.vm_model.specs.Actions.{Use}
 use Rattle.vm_model.specs.Tests.{below}
 use Rattle.vm_model.specs.Step as model
-use Rattle.vm_step.specs.State.{state_of, operands_of}
+use Rattle.vm_session.specs.State.{state_of, operands_of}
 use Rattle.vm_step.specs.Doing.{waits_in}
-use Rattle.vm_step.specs.inner.Tops.{at_top, text_in}
+use Rattle.vm_session.specs.inner.Tops.{at_top, text_in}
 use Rattle.vm_step.proofs.Acts.{act_wrong}
 use Rattle.vm_step.proofs.Whole.{look_is, take_is, take_int_is, take_truth_is, take_text_is}
 use Rattle.vm_step.proofs.Waiting.{rests}

@@ -1,6 +1,6 @@
 use Rattle.std.proofs.Common.{rules, ◌≡◌, ◌∙◌, None, sym, ap}
 use Rattle.vm_model.specs.Step.{act, act_at, act_some, step}
-use Rattle.vm_step.specs.State.{state_of}
+use Rattle.vm_session.specs.State.{state_of}
 use Rattle.vm_actions.specs.Table.{action_of}
 use Rattle.vm_step.specs.Doing.{waits_in}
 use Rattle.vm_step.proofs.Waiting.{rests}

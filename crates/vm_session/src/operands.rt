@@ -8,15 +8,15 @@ ghost use Rattle.vm_model.specs.Step.{next, with_local};
 ghost use Rattle.vm_model.specs.declared.value.Value.TheVariants as values;
 ghost use Rattle.vm_frames.specs.Kept.{most};
 ghost use Rattle.vm_frames.specs.Seen.{value_in, IsSet};
-ghost use Rattle.vm_step.specs.State.{state_of, operands_of};
-ghost use Rattle.vm_step.specs.inner.Tops.{at_top, int_in, text_in, int_of_local};
+ghost use Rattle.vm_session.specs.State.{state_of, operands_of};
+ghost use Rattle.vm_session.specs.inner.Tops.{at_top, int_in, text_in, int_of_local};
 
 use mg_text::{Memory, Text};
 use vm_frames::{Cell, State};
 
 /// The operand so far below the top where it is an int.
 #[inline(always)]
-pub(crate) fn int_at(state: &State, depth: usize) -> Option<i32>
+pub fn int_at(state: &State, depth: usize) -> Option<i32>
     requires { depth < length (operands_of state.now) }
     ensures { result ≡ int_in (at_top (operands_of state.now) depth) }
 {
@@ -26,9 +26,9 @@ pub(crate) fn int_at(state: &State, depth: usize) -> Option<i32>
     }
 }
 
-/// The same where it is a text.
+/// The operand so far below the top where it is a text.
 #[inline(always)]
-pub(crate) fn text_at(state: &State, depth: usize) -> Option<&Text>
+pub fn text_at(state: &State, depth: usize) -> Option<&Text>
     requires { depth < length (operands_of state.now) }
     ensures { option_map (λ t. t.now) result ≡ text_in (at_top (operands_of state.now) depth) }
 {
@@ -40,7 +40,7 @@ pub(crate) fn text_at(state: &State, depth: usize) -> Option<&Text>
 
 /// The int that a local holds, where it holds one.
 #[inline(always)]
-pub(crate) fn int_of_local(state: &State, local: usize) -> Option<i32>
+pub fn int_of_local(state: &State, local: usize) -> Option<i32>
     ensures { result ≡ int_of_local (slice_get (state_of state.now).frame.locals local) }
 {
     match state.held(local) {
@@ -66,7 +66,7 @@ fn number_of(state: &mut State, text: &Text) -> Result<u32, Memory>
 }
 
 /// Pushes a text of the program. After an error nothing has changed.
-pub(crate) fn push_text(state: &mut State, text: &Text) -> Result<(), Memory>
+pub fn push_text(state: &mut State, text: &Text) -> Result<(), Memory>
     requires place { state.old.machine.frame.place < 2 ^ 32 - 1 }
     requires room { length (operands_of state.old) < most }
     ensures ok { OnOk result (state_of state.new ≡ next (state_of state.old) (operands_of state.old ++ values.Text text.now ∷ [])) }
@@ -80,7 +80,7 @@ pub(crate) fn push_text(state: &mut State, text: &Text) -> Result<(), Memory>
 
 /// Puts a text, which is put into the table first, in the place of so many operands. After an error
 /// nothing has changed.
-pub(crate) fn put_text(state: &mut State, count: usize, text: Text) -> Result<(), Memory>
+pub fn put_text(state: &mut State, count: usize, text: Text) -> Result<(), Memory>
     requires place { state.old.machine.frame.place < 2 ^ 32 - 1 }
     requires some { 0 < count }
     requires within { count ≤ length (operands_of state.old) }
@@ -95,7 +95,7 @@ pub(crate) fn put_text(state: &mut State, count: usize, text: Text) -> Result<()
 }
 
 /// Puts a value into a local, where there is one of this number.
-pub(crate) fn set_local(state: &mut State, local: usize, cell: Cell)
+pub fn set_local(state: &mut State, local: usize, cell: Cell)
     requires { IsSet (length state.old.texts) cell }
     ensures machine { state_of state.new ≡ with_local (state_of state.old) local (value_in state.old.texts cell) }
     ensures texts { state.new.texts ≡ state.old.texts }

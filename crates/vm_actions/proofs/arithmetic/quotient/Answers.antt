@@ -1,9 +1,9 @@
 use Rattle.std.proofs.Common.{◌≡◌, ◌∙◌, ap, pos, false, Some}
 use Rattle.std.proofs.lemmas.Int.{to_z-of_z}
 use Rattle.vm_model.specs.Arithmetic.{int_same}
-use Rattle.vm_step.proofs.Ints.{quotient_wraps, nonzero}
+use Rattle.vm_actions.proofs.Ints.{quotient_wraps, nonzero}
 use mir.Syntax.{w32}
-use Rattle.vm_step.proofs.arithmetic.quotient.Goals as goal
+use Rattle.vm_actions.proofs.arithmetic.quotient.Goals as goal
 
 pub returns : goal.returns
 returns c =

@@ -2,9 +2,9 @@
 use Rattle.std.proofs.Common.{length, ap, arith}
 use Rattle.vm_model.specs.Machine.{Machine}
 use Rattle.vm_model.specs.Tests.{below}
-use Rattle.vm_step.specs.State.{state_of}
-use Rattle.vm_step.proofs.Added.{added_within, added_says, text_on_top}
-use Rattle.vm_step.proofs.operands.put_text.Goals as goal
+use Rattle.vm_session.specs.State.{state_of}
+use Rattle.vm_session.proofs.Added.{added_within, added_says, text_on_top}
+use Rattle.vm_session.proofs.operands.put_text.Goals as goal
 
 pub put-requires-clause-within : goal.put-requires-clause-within
 put-requires-clause-within c =

@@ -1,7 +1,7 @@
 use Rattle.std.proofs.Common.{◌∙◌}
 use Rattle.std.proofs.lemmas.Int.{wrapping_neg_is, to_z-of_z}
 use mir.Syntax.{w32}
-use Rattle.vm_step.proofs.arithmetic.negated.Goals as goal
+use Rattle.vm_actions.proofs.arithmetic.negated.Goals as goal
 
 pub returns : goal.returns
 returns c =

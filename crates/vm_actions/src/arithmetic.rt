@@ -5,10 +5,11 @@ ghost use Rattle.std.specs.Prelude.{◌≡◌, neg_ℤ, ◌+ℤ◌};
 ghost use Rattle.vm_model.specs.Arithmetic as model;
 ghost use Rattle.vm_actions.specs.Table.{operation_of, comparison_of};
 
-use vm_actions::{Comparison, Operation};
+use crate::action::{Comparison, Operation};
 
 /// What two ints are computed to; none where the divisor is zero.
-pub(crate) fn computed(operation: Operation, x: i32, y: i32) -> Option<i32>
+#[inline(always)]
+pub fn computed(operation: Operation, x: i32, y: i32) -> Option<i32>
     ensures { result ≡ model.computed (operation_of operation) x y }
 {
     match operation {
@@ -20,6 +21,7 @@ pub(crate) fn computed(operation: Operation, x: i32, y: i32) -> Option<i32>
     }
 }
 
+#[inline(always)]
 fn quotient(x: i32, y: i32) -> Option<i32>
     ensures { result ≡ model.computed (operation_of Operation.Divide) x y }
 {
@@ -29,6 +31,7 @@ fn quotient(x: i32, y: i32) -> Option<i32>
     Some(x.wrapping_div(y))
 }
 
+#[inline(always)]
 fn remainder(x: i32, y: i32) -> Option<i32>
     ensures { result ≡ model.computed (operation_of Operation.Remain) x y }
 {
@@ -39,7 +42,8 @@ fn remainder(x: i32, y: i32) -> Option<i32>
 }
 
 /// Whether two ints compare so.
-pub(crate) fn compares(comparison: Comparison, x: i32, y: i32) -> bool
+#[inline(always)]
+pub fn compares(comparison: Comparison, x: i32, y: i32) -> bool
     ensures { result ≡ model.compares (comparison_of comparison) x y }
 {
     match comparison {
@@ -53,6 +57,7 @@ pub(crate) fn compares(comparison: Comparison, x: i32, y: i32) -> bool
 }
 
 /// The target at a place of a table.
+#[inline(always)]
 fn target_at(default: u32, targets: &[u32], place: i64) -> u32
     ensures { result ≡ model.target_at default targets.now place }
 {
@@ -68,21 +73,24 @@ fn target_at(default: u32, targets: &[u32], place: i64) -> u32
 }
 
 /// The target of an int in a table that begins at `low`.
-pub(crate) fn switched(default: u32, low: i32, targets: &[u32], x: i32) -> u32
+#[inline(always)]
+pub fn switched(default: u32, low: i32, targets: &[u32], x: i32) -> u32
     ensures { result ≡ model.switched default low targets.now x }
 {
     target_at(default, targets, i64::from(x) - i64::from(low))
 }
 
 /// The sum of an int and a small one.
-pub(crate) fn added(x: i32, by: i8) -> i32
+#[inline(always)]
+pub fn added(x: i32, by: i8) -> i32
     ensures { result ≡ model.wrap (x +ℤ by) }
 {
     x.wrapping_add(i32::from(by))
 }
 
 /// The int with the other sign.
-pub(crate) fn negated(x: i32) -> i32
+#[inline(always)]
+pub fn negated(x: i32) -> i32
     ensures { result ≡ model.wrap (neg_ℤ x) }
 {
     x.wrapping_neg()

@@ -7,11 +7,11 @@ ghost use Rattle.vm_model.specs.Tests.{below};
 ghost use Rattle.vm_model.specs.Step as model;
 ghost use Rattle.mg_text.specs.Call.{Name};
 ghost use Rattle.vm_frames.specs.Seen.{value_in, IsSet};
-ghost use Rattle.vm_step.specs.State.{state_of, operands_of};
-ghost use Rattle.vm_step.specs.Doing.{Does};
-ghost use Rattle.vm_step.specs.inner.Tops.{at_top, text_in};
-ghost use Rattle.vm_step.specs.inner.Sessions.{payload_of, payload_in, sent_count, pushed_of, taken_where, sends_by, looks_by, takes_by};
-ghost use Rattle.vm_step.specs.inner.Sessions.{refuses_by};
+ghost use Rattle.vm_session.specs.State.{state_of, operands_of};
+ghost use Rattle.vm_session.specs.Doing.{Does};
+ghost use Rattle.vm_session.specs.inner.Tops.{at_top, text_in};
+ghost use Rattle.vm_session.specs.inner.Sessions.{payload_of, payload_in, sent_count, pushed_of, taken_where, sends_by, looks_by, takes_by};
+ghost use Rattle.vm_session.specs.inner.Sessions.{refuses_by};
 
 use crate::operands::{int_at, put_text, text_at};
 use crate::stepped::Stepped;
@@ -21,15 +21,15 @@ use vm_model::Ports;
 
 /// What a message carries, by the method that sends or takes it.
 #[derive(Clone, Copy)]
-pub(crate) enum Payload {
+pub enum Payload {
     Nothing,
     Int,
     Truth,
     Text,
 }
 
-/// The number of another role of the run.
-pub(crate) fn other_role(ports: &Ports, me: u32, name: &str) -> Option<u32>
+/// The number of the role of this name, where the run has it and it is another than `me`.
+pub fn other_role(ports: &Ports, me: u32, name: &str) -> Option<u32>
     ensures { result ≡ model.other_role me (role_named ports.now name.now) }
 {
     match ports.role(name) {
@@ -62,14 +62,14 @@ fn copied(carried: &Carried) -> Result<Carried, Memory>
 }
 
 /// Whether an int is a truth value that holds.
-pub(crate) fn is_true(x: i32) -> bool
+pub fn is_true(x: i32) -> bool
     ensures { result ≡ model.is_true x }
 {
     x != 0
 }
 
 /// A truth value as an int.
-pub(crate) fn truth(b: bool) -> Cell
+pub fn truth(b: bool) -> Cell
     ensures value { (texts : List Name) → value_in texts result ≡ model.truth b }
     ensures set { (count : ℕ) → IsSet count result }
 {
@@ -166,8 +166,8 @@ fn send_payload(
     Ok(Stepped::Went(Some(event)))
 }
 
-/// Sends a message. After an error nothing has changed.
-pub(crate) fn send(
+/// Sends a message. After an error, which is want of memory, nothing has changed.
+pub fn send(
     state: &mut State,
     ports: &mut Ports,
     me: u32,
@@ -190,8 +190,9 @@ pub(crate) fn send(
     send_payload(state, ports, me, taken, payload)
 }
 
-/// Looks at the label of the next message from a role.
-pub(crate) fn look(state: &mut State, ports: &Ports, me: u32) -> Result<Stepped, Memory>
+/// Looks at the label of the next message from a role. After an error, which is want of memory,
+/// nothing has changed.
+pub fn look(state: &mut State, ports: &Ports, me: u32) -> Result<Stepped, Memory>
     requires place { state.old.machine.frame.place < 2 ^ 32 - 1 }
     requires within { 1 ≤ length (operands_of state.old) }
     ensures ok { IfOk result (λ s. Does (looks_by ports.now (state_of state.old) me (below 1 (operands_of state.old))
@@ -287,7 +288,8 @@ fn mismatch(peer: &Text, label: &Text) -> Result<Stepped, Memory>
 }
 
 /// Takes the next message from a role, where its label and what it carries are those that are wanted.
-pub(crate) fn take(
+/// After an error, which is want of memory, nothing has changed.
+pub fn take(
     state: &mut State,
     ports: &mut Ports,
     me: u32,
@@ -322,8 +324,8 @@ pub(crate) fn take(
     Ok(Stepped::Went(Some(event)))
 }
 
-/// Refuses the label that was found.
-pub(crate) fn refuse(state: &State, ports: &Ports, me: u32) -> Result<Stepped, Memory>
+/// Refuses the label that was found. The one error is want of memory.
+pub fn refuse(state: &State, ports: &Ports, me: u32) -> Result<Stepped, Memory>
     requires { 2 ≤ length (operands_of state.now) }
     ensures { IfOk result (λ s. Does (refuses_by ports.now me (text_in (at_top (operands_of state.now) 1))
         (text_in (at_top (operands_of state.now) 0))) (state_of state.now) ports.now (state_of state.now) ports.now s) }

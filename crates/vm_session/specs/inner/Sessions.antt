@@ -13,9 +13,9 @@ use Rattle.vm_model.specs.Messages.{Messages, on_way, role_named}
 use Rattle.vm_model.specs.Machine.{Machine, Stepped, Waits, Stops}
 use Rattle.vm_model.specs.Step.{next, tells, is_true, truth, other_role, sends, taken_as, takes_first, refuses_from, Payload, NoPayload}
 use Rattle.vm_model.specs.Step.{IntPayload, TruthPayload, TextPayload}
-use Rattle.vm_step.specs.declared.session.Payload.{Payload as Kept}
-use Rattle.vm_step.specs.declared.session.Payload.TheVariants as kept
-use Rattle.vm_step.specs.inner.Tops.{int_in, text_in}
+use Rattle.vm_session.specs.declared.session.Payload.{Payload as Kept}
+use Rattle.vm_session.specs.declared.session.Payload.TheVariants as kept
+use Rattle.vm_session.specs.inner.Tops.{int_in, text_in}
 
 abbrev pub payload_of : Kept → Payload
 payload_of kept.Nothing = NoPayload

@@ -1,7 +1,7 @@
 use Rattle.std.proofs.Common.{◌≡◌, ◌∙◌, arith}
 use Rattle.std.proofs.lemmas.Int.{wrapping_add_is, to_z-of_z}
 use mir.Syntax.{w8, w32}
-use Rattle.vm_step.proofs.arithmetic.added.Goals as goal
+use Rattle.vm_actions.proofs.arithmetic.added.Goals as goal
 
 pub returns : goal.returns
 returns c =

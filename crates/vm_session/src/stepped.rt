@@ -16,8 +16,8 @@ pub enum Stepped {
     Ended(Ending),
 }
 
-/// The code is wrong.
-pub(crate) fn broken(kind: BadKind) -> Stepped
+/// The code is wrong in this way, which ends the run.
+pub fn broken(kind: BadKind) -> Stepped
     ensures { result ≡ Stepped.Ended (Ending.Bad kind) }
 {
     Stepped::Ended(Ending::Bad(kind))

@@ -1,9 +1,9 @@
 -- The text stands in the table.
 use Rattle.std.proofs.Common.{length, ap, arith}
 use Rattle.vm_model.specs.Machine.{Machine}
-use Rattle.vm_step.specs.State.{state_of}
-use Rattle.vm_step.proofs.Added.{text_on_top}
-use Rattle.vm_step.proofs.operands.push_text.Goals as goal
+use Rattle.vm_session.specs.State.{state_of}
+use Rattle.vm_session.proofs.Added.{text_on_top}
+use Rattle.vm_session.proofs.operands.push_text.Goals as goal
 
 pub push-requires-clause-room : goal.push-requires-clause-room
 push-requires-clause-room c = omega (arith, c.requires.room, ap (λ (m : Machine). length m.frame.operands) c.number_of.ensures.machine)
