@@ -2,14 +2,14 @@
 use Rattle.std.proofs.Common.{◌≡◌, ℕ, Bool, map, List, [], ◌∷◌, ◌++◌, All, codes, inl, inr, Option, None, sym, ap, ◌∙◌, subst, append_assoc}
 use Rattle.std.specs.Prelude.{IfOk, Result, Ok, Err, if◌then◌else◌}
 use Rattle.mg_text.specs.declared.memory.Memory.{Memory}
-use Rattle.mg_top.specs.declared.status.Status.{Status}
-use Rattle.mg_top.specs.declared.status.Status.TheVariants as statuses
-use Rattle.mg_top.specs.declared.delivery.Action.{Action}
-use Rattle.mg_top.specs.declared.delivery.Action.TheVariants.{Print, Say}
-use Rattle.mg_top.specs.declared.delivery.Delivery.{Delivery}
+use Rattle.mg_delivery.specs.declared.status.Status.{Status}
+use Rattle.mg_delivery.specs.declared.status.Status.TheVariants as statuses
+use Rattle.mg_delivery.specs.declared.delivery.Action.{Action}
+use Rattle.mg_delivery.specs.declared.delivery.Action.TheVariants.{Print, Say}
+use Rattle.mg_delivery.specs.declared.delivery.Delivery.{Delivery}
 use Rattle.mg_words.specs.Words.{Word, Asked, limit_of, order_of, are_named, Command, Check, Run, Refine, Verify, files_of, IsCommand}
 use Rattle.mg_words.specs.Words.{IsFileOf}
-use Rattle.mg_top.specs.Lines.{refusal_line, read_line, memory_line}
+use Rattle.mg_delivery.specs.Lines.{refusal_line, read_line, memory_line}
 use Rattle.mg_compile.specs.declared.files.ClassFile.{ClassFile}
 use Rattle.vm_world_law.specs.declared.role.RoleMain.{RoleMain}
 use Rattle.vm_world_law.specs.declared.stand.Stand.{Stand}
@@ -41,8 +41,9 @@ use Rattle.jv_core.specs.Tree as Core
 use Rattle.mg_accepted.specs.Accepted.{AreAccepted}
 use Rattle.use_check.specs.Report.{IsReport}
 use Rattle.mg_top.specs.Translation.{AreTranslated}
-use Rattle.mg_top.specs.Outside.{Outside}
-use Rattle.mg_top.specs.Ending.{read_limit, AreRead, after_read, IsUnread, IsDue, unread, yielded, starved, mute}
+use Rattle.mg_delivery.specs.Outside.{Outside}
+use Rattle.mg_delivery.specs.Contents.{AreRead, after_read}
+use Rattle.mg_top.specs.Ending.{read_limit, IsUnread, IsDue, unread, yielded, starved, mute}
 use Rattle.mg_top.specs.inner.Preparing.{IsCarried, IsReported, IsPrepared, IsLeft, EachIsWritten, locals_in}
 use Rattle.mg_top.proofs.SourceLemmas.{translated}
 

@@ -19,18 +19,18 @@ use Rattle.mg_calls.specs.declared.CallsFault.{CallsFault}
 use Rattle.mg_calls.specs.declared.CallsFault.TheVariants as faults
 use Rattle.mg_calls.specs.Calls.{CallAt}
 use Rattle.mg_calls.specs.Answer.{call_of, IsRead}
-use Rattle.mg_top.specs.declared.status.Status.{Status}
-use Rattle.mg_top.specs.declared.status.Status.TheVariants as statuses
-use Rattle.mg_top.specs.declared.delivery.Action.{Action}
-use Rattle.mg_top.specs.declared.delivery.Action.TheVariants.{Print}
-use Rattle.mg_top.specs.declared.delivery.Delivery.{Delivery}
+use Rattle.mg_delivery.specs.declared.status.Status.{Status}
+use Rattle.mg_delivery.specs.declared.status.Status.TheVariants as statuses
+use Rattle.mg_delivery.specs.declared.delivery.Action.{Action}
+use Rattle.mg_delivery.specs.declared.delivery.Action.TheVariants.{Print}
+use Rattle.mg_delivery.specs.declared.delivery.Delivery.{Delivery}
 use Rattle.mg_words.specs.Words.{Word, Conform, IsCommand}
 use Rattle.mg_refusal.specs.Refusals.{Refusal, refusal_at, in_file}
 use Rattle.mg_refusal.specs.Order.{Answers, IsStopOf, stop_in, at_first, at_next}
 use Rattle.mg_refusal.specs.declared.stop.Stop.{Stop}
 use Rattle.mg_refusal.specs.declared.stop.Stop.TheVariants as stops
 use Rattle.mg_refusal.proofs.Orders.{stop_in_file}
-use Rattle.mg_top.specs.Lines.{ended, not_offered_line}
+use Rattle.mg_delivery.specs.Lines.{ended, not_offered_line}
 use Rattle.mg_sources.specs.Files.{source_of, EndsWith}
 use Rattle.mg_sources.specs.Reading.{Protocol, Reads, Refuses}
 use Rattle.mg_top.specs.Conformance.{calls_of, Conforms, complete, unfinished, not_offered, IsNoList, too_large, bad_line}

@@ -11,10 +11,10 @@ use Rattle.mg_exec.specs.Runs.{Course}
 use Rattle.mg_exec.specs.View.{Shows, IsOfRun}
 use Rattle.mg_typed_law.specs.Laws.{TypableRunsNeverBad}
 use Rattle.mg_words.specs.Words.{Word, Asked, limit_of, order_of, are_named, Exec}
-use Rattle.mg_top.specs.declared.status.Status.{Status}
-use Rattle.mg_top.specs.declared.delivery.Action.{Action}
-use Rattle.mg_top.specs.declared.delivery.Action.TheVariants.{Say}
-use Rattle.mg_top.specs.declared.delivery.Delivery.{Delivery}
+use Rattle.mg_delivery.specs.declared.status.Status.{Status}
+use Rattle.mg_delivery.specs.declared.delivery.Action.{Action}
+use Rattle.mg_delivery.specs.declared.delivery.Action.TheVariants.{Say}
+use Rattle.mg_delivery.specs.declared.delivery.Delivery.{Delivery}
 use Rattle.mg_top.specs.Commands.{prints, role_mains_of, exec_said, exec_printed, status_of, Gives, executed}
 use Rattle.mg_top.proofs.CommandLemmas.{gives_so}
 

@@ -1,6 +1,4 @@
-pub mod DeliveryLaws
 pub mod SourceLemmas
-pub mod ReadingLemmas
 pub mod RoleLemmas
 pub mod CommandLemmas
 pub mod ConformLemmas

@@ -19,10 +19,10 @@ use Rattle.mg_runs.specs.View.{Shows, IsOfRun}
 use Rattle.mg_typed_law.specs.Laws.{RunsAreTypable}
 use Rattle.mg_words.specs.Words.{Word, limit_of, order_of, Load}
 use Rattle.mg_words.proofs.WordsLemmas.{All-cons, All-one}
-use Rattle.mg_top.specs.declared.status.Status.{Status}
-use Rattle.mg_top.specs.declared.delivery.Action.{Action}
-use Rattle.mg_top.specs.declared.delivery.Action.TheVariants.{Print, Say}
-use Rattle.mg_top.specs.declared.delivery.Delivery.{Delivery}
+use Rattle.mg_delivery.specs.declared.status.Status.{Status}
+use Rattle.mg_delivery.specs.declared.delivery.Action.{Action}
+use Rattle.mg_delivery.specs.declared.delivery.Action.TheVariants.{Print, Say}
+use Rattle.mg_delivery.specs.declared.delivery.Delivery.{Delivery}
 use Rattle.mg_top.specs.Commands.{role_mains_of, run_said, run_printed, status_of, load_asked, load_sources, Gives, loaded, IsRefused}
 use Rattle.mg_top.specs.Commands as commands
 use Rattle.mg_top.proofs.CommandLemmas.{gives_so}

@@ -37,14 +37,14 @@ use Rattle.mg_verified.proofs.Apart.{one_line}
 use Rattle.mg_refined.proofs.Apart.{one_telling}
 use Rattle.mg_projected.proofs.Telling.{written_once}
 use Rattle.mg_projected.proofs.Alike as projected_alike
-use Rattle.mg_top.specs.declared.status.Status.{Status}
-use Rattle.mg_top.specs.declared.status.Status.TheVariants as statuses
-use Rattle.mg_top.specs.declared.delivery.Action.{Action}
-use Rattle.mg_top.specs.declared.delivery.Action.TheVariants.{Write, Print, Say}
-use Rattle.mg_top.specs.Files.{Output}
+use Rattle.mg_delivery.specs.declared.status.Status.{Status}
+use Rattle.mg_delivery.specs.declared.status.Status.TheVariants as statuses
+use Rattle.mg_delivery.specs.declared.delivery.Action.{Action}
+use Rattle.mg_delivery.specs.declared.delivery.Action.TheVariants.{Write, Print, Say}
+use Rattle.mg_delivery.specs.Files.{Output}
 use Rattle.mg_top.specs.Writing.{classes_written, roles_written}
 use Rattle.mg_top.specs.Translation.{IsTypestateFile, api_written, IsTranslation, Translates, EachTranslates, none, one}
-use Rattle.mg_top.specs.Lines.{refusal_line, not_offered_line}
+use Rattle.mg_delivery.specs.Lines.{refusal_line, not_offered_line}
 use Rattle.mg_top.specs.Conformance.{calls_of, Conforms, complete, unfinished, not_offered, IsNoList, too_large, bad_line, ConformRefusal}
 use Rattle.mg_top.specs.Commands.{loaded, load_asked, load_sources, judged_names, prints, kept_in, role_mains_of, run_said, run_printed}
 use Rattle.mg_top.specs.Commands.{exec_said, exec_printed}

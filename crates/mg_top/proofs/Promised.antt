@@ -3,25 +3,26 @@ use Rattle.std.proofs.Common.{◌≡◌, ◌≢◌, ◌<◌, ℕ, zero, suc, ◌
 use Rattle.std.proofs.Common.{sym, ap, ◌∙◌, subst, length-append, arith}
 use Rattle.std.proofs.lemmas.List.Elements.{Contains-append_right}
 use Rattle.mg_io.specs.Outside.{Files, Rose}
-use Rattle.mg_top.specs.declared.status.Status.{Status}
-use Rattle.mg_top.specs.declared.status.Status.TheVariants as statuses
-use Rattle.mg_top.specs.declared.delivery.Action.{Action}
-use Rattle.mg_top.specs.declared.delivery.Action.TheVariants.{Write, Print, Say}
+use Rattle.mg_delivery.specs.declared.status.Status.{Status}
+use Rattle.mg_delivery.specs.declared.status.Status.TheVariants as statuses
+use Rattle.mg_delivery.specs.declared.delivery.Action.{Action}
+use Rattle.mg_delivery.specs.declared.delivery.Action.TheVariants.{Write, Print, Say}
 use Rattle.mg_words.specs.Words.{Word, Asked, Command, Exec, files_of, IsCommand, AreWrong}
-use Rattle.mg_top.specs.Files.{Output}
-use Rattle.mg_top.specs.Lines.{words_line, read_line, not_offered_line, memory_line}
-use Rattle.mg_top.specs.Outside.{Outside, IsRead}
-use Rattle.mg_top.specs.Delivery.{AreDone, Delivers}
+use Rattle.mg_delivery.specs.Files.{Output}
+use Rattle.mg_delivery.specs.Lines.{words_line, read_line, not_offered_line, memory_line}
+use Rattle.mg_delivery.specs.Outside.{Outside, IsRead, held}
+use Rattle.mg_delivery.specs.Delivery.{AreDone, Delivers, IsUnlessStopped}
 use Rattle.mg_top.specs.Commands.{Yields}
-use Rattle.mg_top.specs.Ending.{read_limit, AreRead, after_read, MayRead, IsUnread, IsDue, wrong, unread, yielded, starved, mute, Ends}
-use Rattle.mg_top.specs.Promises.{IsUnlessStopped, IsYielded, Carries, MayWrite, IsSmooth, held, Promises}
+use Rattle.mg_delivery.specs.Contents.{AreRead, after_read}
+use Rattle.mg_top.specs.Ending.{read_limit, MayRead, IsUnread, IsDue, wrong, unread, yielded, starved, mute, Ends}
+use Rattle.mg_top.specs.Promises.{IsYielded, Carries, MayWrite, IsSmooth, Promises}
 use Rattle.mg_words.proofs.WordsLemmas.{wrong_is_none}
 use Rattle.mg_words.proofs.RunLemmas.{same_command}
 use Rattle.mg_top.proofs.Exact.{one_status, proper, SaysRefusal, refusal_says, broken_command}
 use Rattle.mg_text.specs.Call.{Call}
 use Rattle.ts_refine.specs.declared.verdict.Reason.{Reason}
 use Rattle.mg_refined.specs.Refined.{no_text}
-use Rattle.mg_top.proofs.DeliveryLaws as laws
+use Rattle.mg_delivery.proofs.DeliveryLaws as laws
 
 -- ---- what is read of files that are told is one thing
 

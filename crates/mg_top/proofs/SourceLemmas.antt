@@ -5,15 +5,15 @@ use Rattle.std.specs.Prelude.{OnOk}
 use Rattle.std.proofs.lemmas.List.{append-nil, take_more, map-append}
 use Rattle.mg_read.specs.First.{Judged, clean, later}
 use Rattle.scr_tree.specs.Tree.{LocalTree}
-use Rattle.mg_top.specs.declared.delivery.Action.{Action}
-use Rattle.mg_top.specs.declared.delivery.Action.TheVariants as acts
+use Rattle.mg_delivery.specs.declared.delivery.Action.{Action}
+use Rattle.mg_delivery.specs.declared.delivery.Action.TheVariants as acts
 use Rattle.mg_words.specs.Words.{Word, IsFileOf}
 use Rattle.mg_sources.specs.Files.{Source, Scribble, source_of, sources_from, HaveKinds}
 use Rattle.mg_sources.specs.Reading.{Part, Protocol, States, Classes, EachSpells, Refuses}
 use Rattle.mg_sources.specs.Parts.{part_of}
 use Rattle.mg_sources.specs.declared.part.Part.{Part as KeptPart}
 use Rattle.mg_sources.proofs.OneKind.{no_states, no_classes, excludes}
-use Rattle.mg_top.specs.Files.{Output}
+use Rattle.mg_delivery.specs.Files.{Output}
 use Rattle.mg_top.specs.Translation.{IsTypestateFile, IsTranslation, api_written, EachTranslates, none, one}
 use Rattle.mg_text.specs.declared.memory.Memory.{Memory}
 use Rattle.stm_api.specs.Api.{IsApi}

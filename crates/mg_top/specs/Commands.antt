@@ -29,11 +29,11 @@ use Rattle.mg_load.specs.Workload.{file_names, file_texts, loaded_line}
 use Rattle.mg_projected.specs.declared.files.RoleFile.{RoleFile}
 use Rattle.mg_projected.specs.Told.{AreWritten}
 use Rattle.mg_projected.specs.Told as projecting
-use Rattle.mg_top.specs.declared.status.Status.{Status}
-use Rattle.mg_top.specs.declared.status.Status.TheVariants.{Done, Refused}
-use Rattle.mg_top.specs.declared.status.Status.TheVariants as statuses
-use Rattle.mg_top.specs.declared.delivery.Action.{Action}
-use Rattle.mg_top.specs.declared.delivery.Action.TheVariants.{Print, Say}
+use Rattle.mg_delivery.specs.declared.status.Status.{Status}
+use Rattle.mg_delivery.specs.declared.status.Status.TheVariants.{Done, Refused}
+use Rattle.mg_delivery.specs.declared.status.Status.TheVariants as statuses
+use Rattle.mg_delivery.specs.declared.delivery.Action.{Action}
+use Rattle.mg_delivery.specs.declared.delivery.Action.TheVariants.{Print, Say}
 use Rattle.mg_words.specs.Words.{Word, RoleClass, Asked, limit_of, mains_of, order_of, are_named, Command, Translate, Conform, Check}
 use Rattle.mg_words.specs.Words.{Compile, Run, Exec, Refine, Project, Load, Verify, Several}
 use Rattle.mg_refusal.specs.Refusals.{Refusal}
@@ -42,7 +42,7 @@ use Rattle.mg_sources.specs.Reading.{Protocol, Reads}
 use Rattle.mg_sources.specs.Sources as reading
 use Rattle.mg_top.specs.Writing.{classes_written, roles_written}
 use Rattle.mg_top.specs.Translation.{AreTranslated}
-use Rattle.mg_top.specs.Lines.{refusal_line}
+use Rattle.mg_delivery.specs.Lines.{refusal_line}
 use Rattle.mg_top.specs.Conformance.{Lists, Conforms, ConformRefusal}
 
 -- an empty text isn't put

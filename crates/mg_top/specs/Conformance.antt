@@ -7,13 +7,13 @@ use Rattle.scr_tree.specs.Tree.{LocalTree}
 use Rattle.scr_tree.specs.Meaning.{protocol_of}
 use Rattle.scr_tree.specs.Traces.{Trace, Complete}
 use Rattle.mg_calls.specs.Calls.{CallAt, AreCalls, IsFirstBad}
-use Rattle.mg_top.specs.declared.status.Status.{Status}
-use Rattle.mg_top.specs.declared.status.Status.TheVariants.{Done, Refused}
+use Rattle.mg_delivery.specs.declared.status.Status.{Status}
+use Rattle.mg_delivery.specs.declared.status.Status.TheVariants.{Done, Refused}
 use Rattle.mg_sources.specs.Files.{Source}
 use Rattle.mg_sources.specs.Reading.{Protocol, Reads, Refuses}
 use Rattle.mg_refusal.specs.Refusals.{Refusal, refusal_at, in_file}
 use Rattle.mg_refusal.specs.Order.{Then}
-use Rattle.mg_top.specs.Lines.{ended, not_offered_line}
+use Rattle.mg_delivery.specs.Lines.{ended, not_offered_line}
 
 -- the calls, without the numbers of their lines
 abbrev pub calls_of : List CallAt → List Call

@@ -1,16 +1,16 @@
 -- How a run of the program may end.
 use Rattle.std.specs.Prelude.{◌≡◌, ℕ, List, [], ◌∷◌, ◌++◌, Contains, Option}
-use Rattle.mg_io.specs.Outside.{Files}
-use Rattle.mg_top.specs.declared.status.Status.{Status}
-use Rattle.mg_top.specs.declared.status.Status.TheVariants as statuses
-use Rattle.mg_top.specs.declared.delivery.Action.{Action}
-use Rattle.mg_top.specs.declared.delivery.Action.TheVariants.{Say}
+use Rattle.mg_delivery.specs.declared.status.Status.{Status}
+use Rattle.mg_delivery.specs.declared.status.Status.TheVariants as statuses
+use Rattle.mg_delivery.specs.declared.delivery.Action.{Action}
+use Rattle.mg_delivery.specs.declared.delivery.Action.TheVariants.{Say}
 use Rattle.mg_words.specs.Words.{Word, Command, Translate, Conform, Check, Compile, Run, Exec, Refine, Project, Load, Verify, files_of}
 use Rattle.mg_words.specs.Words.{IsCommand}
 use Rattle.mg_words.specs.Words.{AreWrong}
-use Rattle.mg_top.specs.Lines.{words_line, read_line, memory_line}
-use Rattle.mg_top.specs.Outside.{Outside, IsRead}
-use Rattle.mg_top.specs.Delivery.{Delivers}
+use Rattle.mg_delivery.specs.Lines.{words_line, read_line, memory_line}
+use Rattle.mg_delivery.specs.Outside.{Outside}
+use Rattle.mg_delivery.specs.Contents.{AreRead, after_read}
+use Rattle.mg_delivery.specs.Delivery.{Delivers}
 use Rattle.mg_top.specs.Commands.{Yields}
 
 -- How many bytes of a file a command reads: one more than such a file may have.
@@ -25,17 +25,6 @@ read_limit (Project folder files) = 1048577
 read_limit (Load branches seed) = 1048577
 read_limit (Exec asked files) = 16777217
 read_limit (Verify files) = 16777217
-
--- these contents were read of the files, in their order, of each at most so many bytes
-abbrev pub AreRead : (limit : ℕ) → Option Files → List Word → List (List ℕ) → Type 0
-AreRead limit files [] [] = Unit {0}
-AreRead limit files [] (bytes ∷ more) = ⊥
-AreRead limit files (name ∷ names) [] = ⊥
-AreRead limit files (name ∷ names) (bytes ∷ more) = IsRead limit files name bytes × AreRead limit files names more
-
--- the outside after a read that failed
-abbrev pub after_read : Outside → Word → Outside
-after_read before name = record before { failed_reads = before.failed_reads ++ name ∷ [] }
 
 -- the command reads a file of this name
 abbrev pub MayRead : List Word → Word → Type 0

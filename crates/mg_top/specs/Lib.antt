@@ -1,11 +1,6 @@
-pub mod Numbers
-pub mod Lines
-pub mod Files
 pub mod Writing
 pub mod Translation
 pub mod Conformance
-pub mod Outside
-pub mod Delivery
 pub mod Commands
 pub mod Ending
 pub mod Once

@@ -1,25 +1,21 @@
 -- What the program promises of each answer.
-use Rattle.std.specs.Prelude.{◌≡◌, ◌≢◌, ◌<◌, Contains, ℕ, ◌⊎◌, List, [], ◌∷◌, ◌++◌, Option, Some, option_map}
-use Rattle.std.specs.FinMap as map
+use Rattle.std.specs.Prelude.{◌≡◌, ◌≢◌, ◌<◌, Contains, ℕ, ◌⊎◌, List, [], ◌∷◌, ◌++◌, Option, Some}
 use Rattle.mg_io.specs.Outside.{Files, Rose}
 use Rattle.mg_text.specs.Call.{Call}
 use Rattle.ts_refine.specs.declared.verdict.Reason.{Reason}
 use Rattle.mg_refined.specs.Refined.{no_text}
-use Rattle.mg_top.specs.declared.status.Status.{Status}
-use Rattle.mg_top.specs.declared.status.Status.TheVariants as statuses
-use Rattle.mg_top.specs.declared.delivery.Action.{Action}
-use Rattle.mg_top.specs.declared.delivery.Action.TheVariants.{Write, Print, Say}
+use Rattle.mg_delivery.specs.declared.status.Status.{Status}
+use Rattle.mg_delivery.specs.declared.status.Status.TheVariants as statuses
+use Rattle.mg_delivery.specs.declared.delivery.Action.{Action}
+use Rattle.mg_delivery.specs.declared.delivery.Action.TheVariants.{Write, Print, Say}
 use Rattle.mg_words.specs.Words.{Word, Asked, Command, Exec, files_of, IsCommand, AreWrong}
-use Rattle.mg_top.specs.Files.{Output}
-use Rattle.mg_top.specs.Lines.{words_line, read_line, not_offered_line}
-use Rattle.mg_top.specs.Outside.{Outside}
-use Rattle.mg_top.specs.Delivery.{AreDone}
+use Rattle.mg_delivery.specs.Files.{Output}
+use Rattle.mg_delivery.specs.Lines.{words_line, read_line, not_offered_line}
+use Rattle.mg_delivery.specs.Outside.{Outside, held}
+use Rattle.mg_delivery.specs.Delivery.{AreDone, IsUnlessStopped}
 use Rattle.mg_top.specs.Commands.{Yields}
-use Rattle.mg_top.specs.Ending.{read_limit, AreRead, after_read, MayRead, IsUnread, Ends}
-
--- the status is this one, unless an action failed or memory ran out
-abbrev pub IsUnlessStopped : Status → Status → Type 0
-IsUnlessStopped meant status = (status ≡ meant) ⊎ (status ≡ statuses.WriteFault) ⊎ (status ≡ statuses.Memory)
+use Rattle.mg_delivery.specs.Contents.{AreRead, after_read}
+use Rattle.mg_top.specs.Ending.{read_limit, MayRead, IsUnread, Ends}
 
 -- the statuses that say what a command yielded
 abbrev pub IsYielded : Status → Type 0
@@ -48,10 +44,6 @@ pub record IsSmooth (before after : Outside) : Type 0 where
   pub writes : after.failed_writes ≡ before.failed_writes
   pub out : Rose before.out.faults after.out.faults → ⊥
   pub err : Rose before.err.faults after.err.faults → ⊥
-
--- what a file holds, where the folder tells its files
-abbrev pub held : Outside → Word → Option (Option (List ℕ))
-held at name = option_map (λ m. map.get m name) at.files
 
 pub record Promises (words : List Word) (before : Outside) (status : Status) (after : Outside) : Type 0 where
   -- how the run went, and what stands after it

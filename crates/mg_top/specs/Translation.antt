@@ -9,13 +9,13 @@ use Rattle.stm_gen.specs.Laid.{IsLaid}
 use Rattle.stm_gen.specs.Numbered.{typestate_of}
 use Rattle.stm_gen.specs.Agreement.{Agrees}
 use Rattle.stm_api.specs.Api.{ApiText, IsApi}
-use Rattle.mg_top.specs.declared.delivery.Action.{Action}
-use Rattle.mg_top.specs.declared.delivery.Action.TheVariants.{Write}
+use Rattle.mg_delivery.specs.declared.delivery.Action.{Action}
+use Rattle.mg_delivery.specs.declared.delivery.Action.TheVariants.{Write}
 use Rattle.mg_words.specs.Words.{Word}
 use Rattle.mg_sources.specs.Files.{Source}
 use Rattle.mg_sources.specs.Reading.{Protocol, Reads}
 use Rattle.mg_sources.specs.Sources.{SharesRole}
-use Rattle.mg_top.specs.Files.{Output}
+use Rattle.mg_delivery.specs.Files.{Output}
 use Rattle.mg_top.specs.Writing.{in_folder}
 
 -- The file of a protocol's typestate: the typestate is the one that the numbers of the text give, and it allows exactly the protocol's

@@ -2,8 +2,8 @@
 use Rattle.std.specs.Prelude.{List, map, ◌++◌, codes, Option, Some, None}
 use Rattle.mg_compile.specs.declared.files.ClassFile.{ClassFile}
 use Rattle.mg_projected.specs.declared.files.RoleFile.{RoleFile}
-use Rattle.mg_top.specs.declared.delivery.Action.{Action}
-use Rattle.mg_top.specs.declared.delivery.Action.TheVariants.{Write}
+use Rattle.mg_delivery.specs.declared.delivery.Action.{Action}
+use Rattle.mg_delivery.specs.declared.delivery.Action.TheVariants.{Write}
 use Rattle.mg_words.specs.Words.{Word}
 
 -- a name of a file, in a folder where there is one

@@ -7,9 +7,8 @@ ghost use Rattle.mg_words.specs.Words.{Check};
 ghost use Rattle.mg_top.specs.Commands.{prints};
 ghost use Rattle.mg_top.specs.inner.Preparing.{IsCarried, IsReported};
 
-use crate::Status;
-use crate::delivery::{Action, Delivery};
 use mg_accepted::{AcceptedProgram, accept};
+use mg_delivery::{Action, Delivery, Status};
 use mg_refusal::Stop;
 use mg_text::{Bytes, List, Memory, Text};
 use std::alloc::Global;

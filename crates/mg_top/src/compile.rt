@@ -6,10 +6,9 @@ ghost use Rattle.mg_words.specs.Words.{Compile};
 ghost use Rattle.mg_top.specs.Writing.{classes_written};
 ghost use Rattle.mg_top.specs.inner.Preparing.{IsCarried};
 
-use crate::Status;
-use crate::delivery::{Action, Delivery};
 use crate::translate::file_in;
 use mg_compile::ClassFile;
+use mg_delivery::{Action, Delivery, Status};
 use mg_refusal::Stop;
 use mg_text::{Bytes, List, Memory, Text};
 use mg_typed_law::written_classes_are_typable;

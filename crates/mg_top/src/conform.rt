@@ -9,9 +9,8 @@ ghost use Rattle.mg_refusal.specs.Order.{IsStopOf};
 ghost use Rattle.mg_words.specs.Words.{Word, Conform};
 ghost use Rattle.mg_top.specs.inner.Preparing.{IsAnswered, IsCarried, calls_refusal};
 
-use crate::delivery::Delivery;
-use crate::{Status, lines};
 use mg_calls::{CallLine, CallsFault, read_calls};
+use mg_delivery::{Delivery, Status, lines};
 use mg_refusal::Stop;
 use mg_sources::read_protocol;
 use mg_text::{Memory, Text};

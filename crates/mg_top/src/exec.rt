@@ -9,9 +9,8 @@ ghost use Rattle.mg_top.specs.Commands.{prints, status_of};
 ghost use Rattle.mg_top.specs.inner.Preparing.{IsCarried};
 ghost use Rattle.mg_words.specs.inner.Judging.{asked_of, IsAsked};
 
-use crate::Status;
-use crate::delivery::{Action, Delivery};
 use crate::run::{limit_of, mains_of, said_of, status_of};
+use mg_delivery::{Action, Delivery, Status};
 use mg_exec::{Ran, exec_roles};
 use mg_refusal::Stop;
 use mg_text::{Bytes, List, Memory};

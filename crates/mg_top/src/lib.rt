@@ -7,21 +7,17 @@ ghost use Rattle.mg_top.specs.Once.{YieldsOnce};
 mod check;
 mod compile;
 mod conform;
-mod delivery;
 mod exec;
-mod lines;
 mod load;
 mod project;
-mod reading;
 mod refine;
 mod run;
-mod status;
 mod top;
 mod translate;
 mod verify;
 
-pub use lines::refused;
-pub use status::Status;
+pub use mg_delivery::Status;
+pub use mg_delivery::lines::refused;
 pub use top::mungo;
 
 /// Of the same contents a command gives one status, and the same actions, but for the place of Syntax

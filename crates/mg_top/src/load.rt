@@ -9,8 +9,8 @@ ghost use Rattle.mg_words.specs.Words.{Load};
 ghost use Rattle.mg_top.specs.Commands.{load_asked, role_mains_of, status_of};
 ghost use Rattle.mg_top.specs.inner.Preparing.{IsCarried};
 
-use crate::delivery::{Action, Delivery};
 use crate::run::{said_of, status_of};
+use mg_delivery::{Action, Delivery};
 use mg_load::{load_files, loaded_line};
 use mg_refusal::Stop;
 use mg_runs::{Ran, run_roles};

@@ -5,9 +5,8 @@ ghost use Rattle.mg_words.specs.Words.{Word, Project};
 ghost use Rattle.mg_top.specs.Writing.{roles_written};
 ghost use Rattle.mg_top.specs.inner.Preparing.{IsCarried};
 
-use crate::Status;
-use crate::delivery::{Action, Delivery};
 use crate::translate::file_in;
+use mg_delivery::{Action, Delivery, Status};
 use mg_projected::RoleFile;
 use mg_refusal::Stop;
 use mg_text::{Bytes, List, Memory, Text};

@@ -6,8 +6,7 @@ ghost use Rattle.mg_words.specs.Words.{Refine};
 ghost use Rattle.mg_top.specs.Commands.{refined_status};
 ghost use Rattle.mg_top.specs.inner.Preparing.{IsCarried};
 
-use crate::Status;
-use crate::delivery::Delivery;
+use mg_delivery::{Delivery, Status};
 use mg_refusal::Stop;
 use mg_text::{Bytes, Text};
 use std::alloc::Global;

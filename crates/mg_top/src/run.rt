@@ -13,10 +13,9 @@ ghost use Rattle.mg_top.specs.Commands.{kept_in, role_mains_of, prints, status_o
 ghost use Rattle.mg_top.specs.inner.Preparing.{IsCarried};
 ghost use Rattle.mg_words.specs.inner.Judging.{asked_of, IsAsked};
 
-use crate::Status;
 use crate::compile::add_classes;
-use crate::delivery::{Action, Delivery};
 use mg_compile::ClassFile;
+use mg_delivery::{Action, Delivery, Status};
 use mg_refusal::Stop;
 use mg_runs::{Ran, run_roles};
 use mg_text::{BadKind, Bytes, Ending, List, Memory, Text};

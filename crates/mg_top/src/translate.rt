@@ -10,8 +10,7 @@ ghost use Rattle.mg_top.specs.Translation.{IsTypestateFile, api_written};
 ghost use Rattle.mg_top.specs.inner.Preparing.{IsCarried, AddsPart, AddsTranslation, EachIsWritten, locals_in};
 ghost use Rattle.stm_api.specs.View.{written_of};
 
-use crate::Status;
-use crate::delivery::{Action, Delivery, Output};
+use mg_delivery::{Action, Delivery, Output, Status};
 use mg_refusal::Stop;
 use mg_sources::{Part, check_roles, read_parts};
 use mg_text::{Bytes, List, Memory, Text};

@@ -4,8 +4,7 @@ ghost use Rattle.std.specs.Prelude.{◌≡◌, ◌<◌, ◌^◌, List as Seq, le
 ghost use Rattle.mg_words.specs.Words.{Word, Verify};
 ghost use Rattle.mg_top.specs.inner.Preparing.{IsCarried};
 
-use crate::Status;
-use crate::delivery::Delivery;
+use mg_delivery::{Delivery, Status};
 use mg_refusal::Stop;
 use mg_text::Bytes;
 use mg_verified::verify_files;

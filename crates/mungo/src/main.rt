@@ -6,10 +6,10 @@ ghost use Rattle.std.specs.Prelude.{◌≡◌, ◌≢◌, [], None, map, drop, I
 ghost use Rattle.std.specs.IoError.{error_kind};
 ghost use Rattle.std.specs.Process.{exit_status};
 ghost use Rattle.std.specs.Vec.Iter.{into_iter_items};
-ghost use Rattle.mg_top.specs.Numbers.{number_of};
-ghost use Rattle.mg_top.specs.Outside.{Outside, outside, stream};
+ghost use Rattle.mg_delivery.specs.Numbers.{number_of};
+ghost use Rattle.mg_delivery.specs.Outside.{Outside, outside, stream};
 ghost use Rattle.mg_top.specs.Promises.{Promises};
-ghost use Rattle.mg_top.specs.declared.status.Status.{Status as Kept};
+ghost use Rattle.mg_delivery.specs.declared.status.Status.{Status as Kept};
 
 use mg_io::{Folder, HostFolder, HostSink, Sink};
 use mg_text::{List, Memory, Text};
@@ -109,30 +109,4 @@ fn exit_code(status: Status) -> ExitCode
     ensures { exit_status result ≡ number_of status }
 {
     ExitCode::from(status.number())
-}
-
-#[cfg(test)]
-mod tests {
-    use super::*;
-    use std::test::Fail;
-
-    #[test]
-    fn each_status_ends_with_its_number(rt: HostRuntime) -> Result<(), Fail> {
-        for (status, number) in [
-            (Status::Done, 0),
-            (Status::Refused, 1),
-            (Status::Words, 2),
-            (Status::ReadFault, 3),
-            (Status::WriteFault, 4),
-            (Status::Memory, 5),
-            (Status::Zero, 6),
-            (Status::Mismatch, 7),
-            (Status::Waits, 8),
-            (Status::Bound, 9),
-            (Status::Broken, 10),
-        ] {
-            assert_eq!(rt; exit_code(status), ExitCode::from(number), "{number}");
-        }
-        Ok(())
-    }
 }

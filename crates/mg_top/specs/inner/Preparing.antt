@@ -1,10 +1,9 @@
 -- What the functions that prepare a delivery may answer.
 use Rattle.std.specs.Prelude.{◌≡◌, ℕ, ◌⊎◌, List, [], ◌∷◌, ◌++◌, codes, Option, Some, None, Result, Ok, Err}
-use Rattle.mg_text.specs.Row.{Row}
 use Rattle.mg_text.specs.declared.memory.Memory.{Memory}
 use Rattle.scr_tree.specs.Tree.{LocalTree}
-use Rattle.mg_top.specs.declared.delivery.Action.{Action}
-use Rattle.mg_top.specs.declared.delivery.Delivery.{Delivery}
+use Rattle.mg_delivery.specs.declared.delivery.Action.{Action}
+use Rattle.mg_delivery.specs.declared.delivery.Delivery.{Delivery}
 use Rattle.mg_calls.specs.Calls.{CallAt}
 use Rattle.mg_calls.specs.declared.CallsFault.{CallsFault}
 use Rattle.mg_calls.specs.declared.CallsFault.TheVariants as calls_faults
@@ -12,19 +11,18 @@ use Rattle.mg_top.specs.Commands.{prints, Gives, IsRefused}
 use Rattle.mg_top.specs.Conformance.{Conforms}
 use Rattle.jv_core.specs.Tree as Core
 use Rattle.use_check.specs.Report.{IsReport}
-use Rattle.mg_top.specs.declared.status.Status.{Status}
-use Rattle.mg_top.specs.declared.status.Status.TheVariants as statuses
-use Rattle.mg_top.specs.declared.reading.Unread.{Unread}
-use Rattle.mg_top.specs.declared.reading.Unread.TheVariants as unread
+use Rattle.mg_delivery.specs.declared.status.Status.{Status}
+use Rattle.mg_delivery.specs.declared.status.Status.TheVariants as statuses
 use Rattle.mg_words.specs.Words.{Word, Command}
-use Rattle.mg_top.specs.declared.delivery.Action.TheVariants as acts
+use Rattle.mg_delivery.specs.declared.delivery.Action.TheVariants as acts
 use Rattle.mg_sources.specs.Reading.{Part, Protocol, States, Classes}
 use Rattle.mg_refusal.specs.Refusals.{Refusal, refusal_at}
 use Rattle.mg_refusal.specs.Order.{Answers}
 use Rattle.mg_refusal.specs.declared.stop.Stop.{Stop}
 use Rattle.mg_top.specs.Translation.{IsTranslation}
-use Rattle.mg_top.specs.Outside.{Outside}
-use Rattle.mg_top.specs.Ending.{AreRead, after_read, IsUnread, IsDue}
+use Rattle.mg_delivery.specs.Outside.{Outside}
+use Rattle.mg_delivery.specs.Contents.{after_read}
+use Rattle.mg_top.specs.Ending.{IsUnread, IsDue}
 
 -- the protocols among what files spell
 abbrev pub locals_in : List Part → List LocalTree
@@ -73,14 +71,6 @@ pub record IsReported (core : Core.Program) (actions : List Action) (status : St
   pub says : actions ≡ prints text
   pub done : status ≡ statuses.Done
   pub report : IsReport core text
-
--- what was read of the files, of each at most so many bytes, or which of them is the first that can't be read
-abbrev pub AreContents : (limit : ℕ) → List Word → Outside → Result (Row (List ℕ)) Unread → Outside → Type 0
-AreContents limit names before (Ok contents) after = AreRead limit before.files names contents.items × (after ≡ before)
-AreContents limit names before (Err (unread.Failed name)) after =
-    (front rest : List Word) × (contents : List (List ℕ)) × (names ≡ front ++ name.now ∷ rest) × AreRead limit before.files front contents
-    × (after ≡ after_read before name.now)
-AreContents limit names before (Err unread.Memory) after = after ≡ before
 
 -- nothing was done, but a read may have failed
 abbrev pub IsLeft : List Word → Outside → Outside → Type 0

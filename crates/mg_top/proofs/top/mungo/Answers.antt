@@ -1,5 +1,5 @@
 use Rattle.std.proofs.Common.{refl}
-use Rattle.mg_top.specs.Outside.{stream}
+use Rattle.mg_delivery.specs.Outside.{stream}
 use Rattle.mg_top.proofs.CommandLemmas.{starved_due}
 use Rattle.mg_top.proofs.Promised.{promised}
 use Rattle.mg_top.proofs.top.mungo.Goals as goal

@@ -1,11 +1,11 @@
 use Rattle.std.proofs.Common.{inl, inr, refl, sym, ap, ◌∙◌, None, length}
-use Rattle.mg_top.specs.Outside.{stream}
+use Rattle.mg_delivery.specs.Outside.{stream}
 use Rattle.mg_top.specs.Ending.{wrong}
-use Rattle.mg_top.specs.Lines.{read_line}
-use Rattle.mg_top.specs.declared.status.Status.TheVariants as statuses
+use Rattle.mg_delivery.specs.Lines.{read_line}
+use Rattle.mg_delivery.specs.declared.status.Status.TheVariants as statuses
 use Rattle.mg_words.specs.inner.Judging.{command_of}
 use Rattle.std.proofs.lemmas.Result.{err_from_is_err_and}
-use Rattle.mg_top.proofs.ReadingLemmas.{same_length}
+use Rattle.mg_delivery.proofs.ReadingLemmas.{same_length}
 use Rattle.mg_top.proofs.CommandLemmas.{said_due, given_due, unread_due, left_due, unread_of}
 use Rattle.mg_top.proofs.top.prepare.Goals as goal
 

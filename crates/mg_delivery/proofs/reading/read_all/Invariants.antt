@@ -1,6 +1,6 @@
 use Rattle.std.proofs.Common.{◌≡◌, take}
-use Rattle.mg_top.specs.Ending.{AreRead}
-use Rattle.mg_top.proofs.reading.read_all.Given as goal
+use Rattle.mg_delivery.specs.Contents.{AreRead}
+use Rattle.mg_delivery.proofs.reading.read_all.Given as goal
 
 abbrev pub invariant-loop-name : goal.invariant-loop-name
 invariant-loop-name g l = record {

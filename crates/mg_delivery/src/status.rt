@@ -1,7 +1,7 @@
 //! How a run of the program ended, and the number of it.
 
 ghost use Rattle.std.specs.Prelude.{◌≡◌};
-ghost use Rattle.mg_top.specs.Numbers.{number_of};
+ghost use Rattle.mg_delivery.specs.Numbers.{number_of};
 
 /// How a run of the program ended. The five from `Zero` on come where a program was run: the first
 /// that applies of `Bound`, `Broken`, `Zero`, `Mismatch`, `Waits` and `Done`.

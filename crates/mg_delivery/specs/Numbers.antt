@@ -1,8 +1,8 @@
 -- The number of each status, with which the program ends.
 use Rattle.std.specs.Prelude.{ℕ}
-use Rattle.mg_top.specs.declared.status.Status.{Status}
-use Rattle.mg_top.specs.declared.status.Status.TheVariants.{Done, Refused, Words, ReadFault, WriteFault, Memory, Zero, Mismatch, Waits}
-use Rattle.mg_top.specs.declared.status.Status.TheVariants.{Bound, Broken}
+use Rattle.mg_delivery.specs.declared.status.Status.{Status}
+use Rattle.mg_delivery.specs.declared.status.Status.TheVariants.{Done, Refused, Words, ReadFault, WriteFault, Memory, Zero, Mismatch, Waits}
+use Rattle.mg_delivery.specs.declared.status.Status.TheVariants.{Bound, Broken}
 
 abbrev pub number_of : Status → ℕ
 number_of Done = 0

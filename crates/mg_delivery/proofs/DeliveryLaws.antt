@@ -14,16 +14,16 @@ use Rattle.std.proofs.lemmas.List.Elements.{Contains-append_right, Contains-appe
 use Rattle.mg_io.specs.Outside.{Files, Rose, with_file, Puts, Counts}
 use Rattle.mg_io.specs.declared.fault.IoFault.{IoFault}
 use Rattle.mg_io.specs.declared.fault.IoFault.TheVariants as io
-use Rattle.mg_top.specs.declared.status.Status.{Status}
-use Rattle.mg_top.specs.declared.status.Status.TheVariants as statuses
-use Rattle.mg_top.specs.declared.delivery.Action.{Action}
-use Rattle.mg_top.specs.declared.delivery.Action.TheVariants.{Write, Print, Say}
-use Rattle.mg_words.specs.Words.{Word}
-use Rattle.mg_top.specs.Files.{Output}
-use Rattle.mg_top.specs.Lines.{write_line}
-use Rattle.mg_top.specs.Outside.{Outside, Stream}
-use Rattle.mg_top.specs.Delivery.{Acts, AreDone, nothing, first, after_line, SaysFault, Tells, Stops, fails, lacks, Delivers, whole, cut}
-use Rattle.mg_top.specs.Promises.{IsUnlessStopped, held}
+use Rattle.mg_delivery.specs.declared.status.Status.{Status}
+use Rattle.mg_delivery.specs.declared.status.Status.TheVariants as statuses
+use Rattle.mg_delivery.specs.declared.delivery.Action.{Action}
+use Rattle.mg_delivery.specs.declared.delivery.Action.TheVariants.{Write, Print, Say}
+use Rattle.mg_text.specs.Call.{Name}
+use Rattle.mg_delivery.specs.Files.{Output}
+use Rattle.mg_delivery.specs.Lines.{write_line}
+use Rattle.mg_delivery.specs.Outside.{Outside, Stream, held}
+use Rattle.mg_delivery.specs.Delivery.{Acts, AreDone, nothing, first, after_line, SaysFault, Tells, Stops, fails, lacks, Delivers, whole, cut}
+use Rattle.mg_delivery.specs.Delivery.{IsUnlessStopped}
 
 -- ---- one action
 
@@ -207,7 +207,7 @@ reads_kept (cut front a rest at split done stop) = stop_reads a stop ∙ done_re
 earlier : {a b c : ℕ} → b ≡ a → Rose b c → Rose a c
 earlier {c = c} e h = subst (λ (n : ℕ). Rose n c) e h
 
-longer : (xs : List Word) (x : Word) → xs ++ x ∷ [] ≡ xs → ⊥
+longer : (xs : List Name) (x : Name) → xs ++ x ∷ [] ≡ xs → ⊥
 longer xs x e = omega (arith, ap length e, length-append xs (x ∷ []))
 
 stop_put : (a : Action) {status : Status} {from to : Outside} → Stops a from status to → (from.out.faults < to.out.faults)
@@ -259,7 +259,7 @@ stop_faulted (Say line) actions {from = from} has (fails at act told) e =
 stop_faulted a actions has (lacks act) e = absurd cc
 
 later : {actions : List Action} {from at to : Outside} → Same from at → Faulted actions at to → Faulted actions from to
-later s (wrote file has grown) = wrote file has (grown ∙ ap (λ (z : List Word). z ++ file.name ∷ []) s.writes)
+later s (wrote file has grown) = wrote file has (grown ∙ ap (λ (z : List Name). z ++ file.name ∷ []) s.writes)
 later s (put_out r) = put_out (earlier s.out r)
 later s (put_err r) = put_err (earlier s.err r)
 
@@ -296,7 +296,7 @@ stop_grown actions from at (Write file) has w (fails mid act told) =
       file,
       has,
       told_writes (Write file) _ _ _ told ∙ ap (λ (o : Outside). o.failed_writes) act.1 ∙
-          ap (λ (z : List Word). z ++ file.name ∷ []) w,
+          ap (λ (z : List Name). z ++ file.name ∷ []) w,
     )
 stop_grown actions from at (Print text) has w (fails mid act told) =
     inl (told_writes (Print text) _ _ _ told ∙ ap (λ (o : Outside). o.failed_writes) act.2 ∙ w)
@@ -325,7 +325,7 @@ other_file name other content (Some m) isnt =
     ap (λ (b : Bool). cond b (Some content) (map.get m other)) (is_eq-slice_cmp other name ∙ differ (bytes_eq other name)
     (bytes_eq-Decides other name) (λ e. isnt (sym e))))
 
-held_written : (file : Output) (answer : Result Unit IoFault) (name : Word) (old new : Outside) → (file.name ≡ name → ⊥) →
+held_written : (file : Output) (answer : Result Unit IoFault) (name : Name) (old new : Outside) → (file.name ≡ name → ⊥) →
     Acts (Write file) answer old new → held new name ≡ held old name
 held_written file (Ok _) name old new isnt act = ap (λ (f : Option Files). option_map (λ m. map.get m name) f) act.0 ∙ other_file file.name
     name file.text old.files isnt
@@ -335,30 +335,30 @@ held_written file (Err io.Failed) name old new isnt (inr (k, torn), rest) = ap (
 held_written file (Err io.Memory) name old new isnt act = ap (λ (f : Option Files). option_map (λ m. map.get m name) f) act.0
 
 -- none of these writes a file of this name
-abbrev pub Avoids : List Action → Word → Type 0
+abbrev pub Avoids : List Action → Name → Type 0
 Avoids actions name = (file : Output) → Contains actions (Write file) → file.name ≡ name → ⊥
 
-held_acted : (a : Action) (answer : Result Unit IoFault) (name : Word) (old new : Outside) → Avoids (a ∷ []) name → Acts a answer old new →
+held_acted : (a : Action) (answer : Result Unit IoFault) (name : Name) (old new : Outside) → Avoids (a ∷ []) name → Acts a answer old new →
     held new name ≡ held old name
 held_acted (Write file) answer name old new avoids act = held_written file answer name old new (avoids file (zero, omega arith, refl)) act
 held_acted (Print text) answer name old new avoids act = ap (λ (o : Outside). held o name) act.2
 held_acted (Say line) answer name old new avoids act = ap (λ (o : Outside). held o name) act.2
 
-held_done : {actions : List Action} {from to : Outside} (name : Word) → Avoids actions name → AreDone actions from to →
+held_done : {actions : List Action} {from to : Outside} (name : Name) → Avoids actions name → AreDone actions from to →
     held to name ≡ held from name
 held_done name avoids nothing = refl
 held_done name avoids (first {more = more} a to' act rest) =
     held_done name (λ file has. avoids file (Contains-append_right (a ∷ []) more (Write file) has)) rest
     ∙ held_acted a _ name _ _ (λ file has. avoids file (Contains-append_left (a ∷ []) more (Write file) has)) act
 
-held_stopped : (a : Action) {status : Status} {from to : Outside} (name : Word) → Avoids (a ∷ []) name → Stops a from status to →
+held_stopped : (a : Action) {status : Status} {from to : Outside} (name : Name) → Avoids (a ∷ []) name → Stops a from status to →
     held to name ≡ held from name
 held_stopped a name avoids (fails at act told) = ap (λ (f : Option Files). option_map (λ m. map.get m name) f) (told_files a _ _ _ told) ∙
     held_acted a _ name _ _ avoids act
 held_stopped a name avoids (lacks act) = held_acted a _ name _ _ avoids act
 
 -- a file that isn't written is as before
-pub kept : {actions : List Action} {meant status : Status} {from to : Outside} (name : Word) → Avoids actions name →
+pub kept : {actions : List Action} {meant status : Status} {from to : Outside} (name : Name) → Avoids actions name →
     Delivers actions meant from status to → held to name ≡ held from name
 kept name avoids (whole done) = held_done name avoids done
 kept name avoids (cut front a rest at split done stop) =

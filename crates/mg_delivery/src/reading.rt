@@ -1,8 +1,8 @@
 //! Reads the files of a command.
 
 ghost use Rattle.std.specs.Prelude.{};
-ghost use Rattle.mg_top.specs.Outside.{Stream, outside};
-ghost use Rattle.mg_top.specs.inner.Preparing.{AreContents};
+ghost use Rattle.mg_delivery.specs.Outside.{Stream, outside};
+ghost use Rattle.mg_delivery.specs.Contents.{AreContents};
 
 use mg_io::{Folder, IoFault};
 use mg_text::{Bytes, List, Memory, Text};
@@ -18,7 +18,7 @@ pub enum Unread<'a> {
 
 impl From<Memory> for Unread<'_> {
     ghost use Rattle.std.specs.Prelude.{◌≡◌};
-    ghost use Rattle.mg_top.specs.declared.reading.Unread.TheVariants as E;
+    ghost use Rattle.mg_delivery.specs.declared.reading.Unread.TheVariants as E;
 
     ghost from_gives = { λ _ e. e ≡ E.Memory };
 

@@ -1,7 +1,7 @@
 use Rattle.std.proofs.Common.{take}
-use Rattle.mg_top.specs.Outside.{outside, stream}
-use Rattle.mg_top.specs.Delivery.{AreDone}
-use Rattle.mg_top.proofs.delivery.deliver.Given as goal
+use Rattle.mg_delivery.specs.Outside.{outside, stream}
+use Rattle.mg_delivery.specs.Delivery.{AreDone}
+use Rattle.mg_delivery.proofs.delivery.deliver.Given as goal
 
 abbrev pub invariant-loop-action : goal.invariant-loop-action
 invariant-loop-action g l =

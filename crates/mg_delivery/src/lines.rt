@@ -1,7 +1,7 @@
 //! The lines that are said of words, refusals, files and memory.
 
 ghost use Rattle.std.specs.Prelude.{◌≡◌, ◌++◌, IfOk, OnOk, option_map, string_bytes};
-ghost use Rattle.mg_top.specs.Lines.{words_line, name_at, spot_text, named_text, refusal_line, read_line, write_line, not_offered_line};
+ghost use Rattle.mg_delivery.specs.Lines.{words_line, name_at, spot_text, named_text, refusal_line, read_line, write_line, not_offered_line};
 
 use mg_refusal::{Refusal, Spot};
 use mg_text::{Memory, Text};

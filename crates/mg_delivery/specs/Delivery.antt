@@ -1,14 +1,14 @@
 -- How a command is delivered: what is done outside, and what stands there after it.
-use Rattle.std.specs.Prelude.{◌≡◌, ℕ, List, [], ◌∷◌, ◌++◌, Result, Ok, Err}
+use Rattle.std.specs.Prelude.{◌≡◌, ◌⊎◌, ℕ, List, [], ◌∷◌, ◌++◌, Result, Ok, Err}
 use Rattle.mg_io.specs.declared.fault.IoFault.{IoFault}
 use Rattle.mg_io.specs.declared.fault.IoFault.TheVariants as io
 use Rattle.mg_io.specs.Outside.{Writes, Puts, Counts, name_if_failed}
-use Rattle.mg_top.specs.declared.status.Status.{Status}
-use Rattle.mg_top.specs.declared.status.Status.TheVariants as statuses
-use Rattle.mg_top.specs.declared.delivery.Action.{Action}
-use Rattle.mg_top.specs.declared.delivery.Action.TheVariants.{Write, Print, Say}
-use Rattle.mg_top.specs.Lines.{write_line}
-use Rattle.mg_top.specs.Outside.{Outside}
+use Rattle.mg_delivery.specs.declared.status.Status.{Status}
+use Rattle.mg_delivery.specs.declared.status.Status.TheVariants as statuses
+use Rattle.mg_delivery.specs.declared.delivery.Action.{Action}
+use Rattle.mg_delivery.specs.declared.delivery.Action.TheVariants.{Write, Print, Say}
+use Rattle.mg_delivery.specs.Lines.{write_line}
+use Rattle.mg_delivery.specs.Outside.{Outside}
 
 -- what an action leaves, by the answer of the folder or the sink: a file is written, or a text is put on standard output or standard error
 abbrev pub Acts : Action → Result Unit IoFault → Outside → Outside → Type 0
@@ -55,3 +55,7 @@ pub data Delivers (actions : List Action) (meant : Status) (from : Outside) : St
   cut : {status : Status} {to : Outside} (front : List Action) (action : Action) (rest : List Action) (at : Outside) →
       actions ≡ front ++ action ∷ rest →
       AreDone front from at → Stops action at status to → Delivers actions meant from status to
+
+-- the status is this one, unless an action failed or memory ran out
+abbrev pub IsUnlessStopped : Status → Status → Type 0
+IsUnlessStopped meant status = (status ≡ meant) ⊎ (status ≡ statuses.WriteFault) ⊎ (status ≡ statuses.Memory)

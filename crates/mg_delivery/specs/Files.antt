@@ -1,8 +1,8 @@
 -- Files that are written.
 use Rattle.std.specs.Prelude.{ℕ, List}
-use Rattle.mg_words.specs.Words.{Word}
+use Rattle.mg_text.specs.Call.{Name}
 
 -- a file that is written
 pub record Output : Type 0 where
-  pub name : Word
+  pub name : Name
   pub text : List ℕ

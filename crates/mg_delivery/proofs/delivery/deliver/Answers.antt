@@ -1,7 +1,7 @@
 use Rattle.std.proofs.Common.{refl, arith}
-use Rattle.mg_top.specs.Delivery.{fails, lacks, nothing}
-use Rattle.mg_top.proofs.DeliveryLaws.{done_more, done_whole, of_slice, stopped_at}
-use Rattle.mg_top.proofs.delivery.deliver.Goals as goal
+use Rattle.mg_delivery.specs.Delivery.{fails, lacks, nothing}
+use Rattle.mg_delivery.proofs.DeliveryLaws.{done_more, done_whole, of_slice, stopped_at}
+use Rattle.mg_delivery.proofs.delivery.deliver.Goals as goal
 
 pub loop-action-init : goal.loop-action-init
 loop-action-init g c = nothing

@@ -2,9 +2,9 @@
 //! Its delivery does them one after another, up to the first that fails.
 
 ghost use Rattle.std.specs.Prelude.{◌≡◌, [], ◌∷◌, IfOk};
-ghost use Rattle.mg_top.specs.Lines.{write_line, memory_line};
-ghost use Rattle.mg_top.specs.Outside.{Outside, outside, stream};
-ghost use Rattle.mg_top.specs.Delivery.{Acts, SaysFault, Tells, Delivers};
+ghost use Rattle.mg_delivery.specs.Lines.{write_line, memory_line};
+ghost use Rattle.mg_delivery.specs.Outside.{Outside, outside, stream};
+ghost use Rattle.mg_delivery.specs.Delivery.{Acts, SaysFault, Tells, Delivers};
 
 use crate::{Status, lines};
 use mg_io::{Folder, IoFault, Sink};
@@ -22,8 +22,8 @@ pub struct Output {
 
 impl Model for Output {
     ghost use Rattle.std.specs.Prelude.{◌≡◌};
-    ghost use Rattle.mg_top.specs.Files.{Output as Written};
-    ghost use Rattle.mg_top.specs.Lines.{write_line};
+    ghost use Rattle.mg_delivery.specs.Files.{Output as Written};
+    ghost use Rattle.mg_delivery.specs.Lines.{write_line};
 
     ghost Value = { Written };
 

@@ -1,9 +1,9 @@
 use Rattle.std.proofs.Common.{ℕ, ◌+◌, ◌∷◌, ◌++◌, [], take, drop, refl, ap, ◌∙◌, append-nil, arith, List, Err, Result}
 use Rattle.std.proofs.lemmas.Result.{err_from_is_err_and}
 use Rattle.mg_text.specs.Row.{Row}
-use Rattle.mg_top.specs.declared.reading.Unread.{Unread}
-use Rattle.mg_top.proofs.ReadingLemmas.{read_more, read_all, split_at, unchanged, no_memory, none_read}
-use Rattle.mg_top.proofs.reading.read_all.Goals as goal
+use Rattle.mg_delivery.specs.declared.reading.Unread.{Unread}
+use Rattle.mg_delivery.proofs.ReadingLemmas.{read_more, read_all, split_at, unchanged, no_memory, none_read}
+use Rattle.mg_delivery.proofs.reading.read_all.Goals as goal
 
 abbrev failed : Unread → Result (Row (List ℕ)) Unread
 failed f = Err f

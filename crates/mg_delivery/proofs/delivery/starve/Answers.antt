@@ -1,11 +1,11 @@
 use Rattle.std.proofs.Common.{[], refl, Ok, Err}
 use Rattle.mg_io.specs.declared.fault.IoFault.TheVariants as io
-use Rattle.mg_top.specs.Delivery.{first, nothing, whole, cut, fails, lacks}
-use Rattle.mg_top.specs.declared.delivery.Action.TheVariants.{Say}
-use Rattle.mg_top.specs.Lines.{memory_line}
-use Rattle.mg_top.specs.Outside.{stream}
-use Rattle.mg_top.proofs.DeliveryLaws.{said}
-use Rattle.mg_top.proofs.delivery.starve.Goals as goal
+use Rattle.mg_delivery.specs.Delivery.{first, nothing, whole, cut, fails, lacks}
+use Rattle.mg_delivery.specs.declared.delivery.Action.TheVariants.{Say}
+use Rattle.mg_delivery.specs.Lines.{memory_line}
+use Rattle.mg_delivery.specs.Outside.{stream}
+use Rattle.mg_delivery.proofs.DeliveryLaws.{said}
+use Rattle.mg_delivery.proofs.delivery.starve.Goals as goal
 
 pub returns-in-Ok : goal.returns-in-Ok
 returns-in-Ok g c = λ at e.
