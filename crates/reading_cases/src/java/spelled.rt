@@ -1,7 +1,8 @@
 //! What the parser reads of tokens that are written with a blank between any two.
 //! A token stands at the column of its number.
 
-use crate::{faults, trees};
+use crate::java::{faults, trees};
+use cases::plain;
 use jv_parse::parse_file;
 use jv_read::JavaFault;
 use jv_tree::{Sign, Token, TokenKind};
@@ -21,7 +22,7 @@ pub(crate) fn tree(alloc: Global, words: &[u8]) -> Result<String, Memory> {
 pub(crate) fn verdict(alloc: Global, words: &[u8]) -> Result<String, Memory> {
     let tokens = tokens_of(alloc, words)?;
     match parse_file(alloc, 0, tokens.as_slice()) {
-        Ok(_) => Ok(String::from_str(alloc, "read")?),
+        Ok(_) => plain(alloc, "read"),
         Err(fault) => faults::line(alloc, &JavaFault::from(fault)),
     }
 }

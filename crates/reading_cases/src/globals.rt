@@ -1,25 +1,25 @@
 //! Cases of global protocols: that each is read, or its first fault; and what its roles do, or why
 //! one of them has no local protocol.
-//! Each file of cases has its kind of answer, and those that are not the wanted ones are printed.
-#![tactic(auto)]
 
-use cases::{Answer, Answers, CasesFault, fault_text, plain, tell};
-use mg_projected::{ProjectedFault, projected};
+use cases::{Answer, Answers, fault_text, plain};
+use mg_projected::{ProjectedFault, RoleFile, projected};
 use mg_text::Memory;
 use scr_global_read::read_global;
 use scr_project::ProjectFault;
 use scr_read::ScrFault;
 use std::alloc::Global;
-use std::env;
 
-struct Projecting;
+/// The files of cases, in the order in which they are answered.
+pub const FILES: [&str; 2] = ["globals.txt", "projections.txt"];
+
+/// Answers cases by `read_global` and `projected`.
+pub struct Projecting;
 
 impl Answers for Projecting {
     fn answer(&self, alloc: Global, file: &str, given: &[u8]) -> Result<String, Memory> {
         match file {
             "globals.txt" => judged(alloc, given),
-            "projections.txt" => files(alloc, given),
-            _ => plain(alloc, "a file of no kind"),
+            _ => files(alloc, given),
         }
     }
 }
@@ -35,21 +35,26 @@ fn judged(alloc: Global, given: &[u8]) -> Result<String, Memory> {
 // The files of the roles, or the fault.
 fn files(alloc: Global, given: &[u8]) -> Result<String, Memory> {
     match projected(alloc, 0, given) {
-        Ok(files) => {
-            let mut answer = Answer::new(alloc);
-            let mut between = "";
-            for file in files.as_slice() {
-                answer.add(between)?;
-                answer.pair(file.name.as_str(), "\n")?;
-                answer.add(without_last_feed(file.text.as_str()))?;
-                between = "\n";
-            }
-            Ok(answer.into_text())
-        }
+        Ok(files) => shown(alloc, files.as_slice()),
         Err(ProjectedFault::Unread(fault)) => fault_text(alloc, &fault),
         Err(ProjectedFault::Unprojected(fault)) => unprojected(alloc, &fault),
         Err(ProjectedFault::Memory) => Err(Memory),
     }
+}
+
+// The name and text of each file.
+fn shown(alloc: Global, files: &[RoleFile]) -> Result<String, Memory> {
+    let mut answer = Answer::new(alloc);
+    for file in files {
+        add_file(&mut answer, file)?;
+    }
+    Ok(answer.into_text())
+}
+
+fn add_file(answer: &mut Answer, file: &RoleFile) -> Result<(), Memory> {
+    answer.line()?;
+    answer.pair(file.name.as_str(), "\n")?;
+    answer.add(without_last_feed(file.text.as_str()))
 }
 
 // A text without its last line feed.
@@ -90,11 +95,4 @@ fn kind(fault: &ScrFault) -> &'static str {
         ScrFault::TooManyStates { .. } => "TooManyStates",
         _ => "another",
     }
-}
-
-fn main(rt: HostRuntime) -> Result<(), CasesFault> {
-    for file in env::args(&rt)?.skip(1) {
-        tell(&rt, &Projecting, file.as_str())?;
-    }
-    Ok(())
 }

@@ -1,37 +1,44 @@
 //! Trees as text.
 
+use cases::{Answer, told};
 use jv_tree::File;
 use mg_text::Memory;
-use std::alloc::{AllocError, Global};
+use std::alloc::Global;
 
 /// The tree of a file, in which each place is written `FILE:LINE:COLUMN`.
 pub(crate) fn shown(alloc: Global, file: &File) -> Result<String, Memory> {
-    let whole = format!(in alloc; "{file:?}")?;
-    let mut text = String::new(alloc);
+    let whole = told(alloc, file)?;
+    let mut answer = Answer::new(alloc);
+    add_tree(&mut answer, whole.as_str())?;
+    Ok(answer.into_text())
+}
+
+// Adds a tree that is told whole.
+fn add_tree(answer: &mut Answer, whole: &str) -> Result<(), Memory> {
     let mut is_first = true;
     for part in whole.split("Place { ") {
         match part.split_once(" }") {
             Some((place, behind)) if !is_first => {
-                put_place(&mut text, place)?;
-                text.push_str(behind)?;
+                add_numbers(answer, place)?;
+                answer.add(behind)?;
             }
-            _ => text.push_str(part)?,
+            _ => answer.add(part)?,
         }
         is_first = false;
     }
-    Ok(text)
+    Ok(())
 }
 
-// Appends the numbers of a place, whose fields these are.
-fn put_place(text: &mut String, fields: &str) -> Result<(), AllocError> {
+// Adds the numbers of a place, whose fields these are.
+fn add_numbers(answer: &mut Answer, fields: &str) -> Result<(), Memory> {
     let mut is_first = true;
     for field in fields.split(", ") {
         if !is_first {
-            text.push(':')?;
+            answer.add(":")?;
         }
         is_first = false;
         let (_, number) = field.split_once(": ").unwrap_or(("", field));
-        text.push_str(number)?;
+        answer.add(number)?;
     }
     Ok(())
 }

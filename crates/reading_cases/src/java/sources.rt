@@ -1,6 +1,7 @@
 //! What is read of the bytes of a source.
 
-use crate::{faults, trees};
+use crate::java::{faults, trees};
+use cases::plain;
 use jv_read::read_java;
 use mg_text::Memory;
 use std::alloc::Global;
@@ -19,7 +20,7 @@ pub(crate) fn tree(alloc: Global, source: &[u8]) -> Result<String, Memory> {
 /// That a source is read, or its fault.
 pub(crate) fn verdict(alloc: Global, source: &[u8]) -> Result<String, Memory> {
     match read_java(alloc, FILE, source) {
-        Ok(_) => Ok(String::from_str(alloc, "read")?),
+        Ok(_) => plain(alloc, "read"),
         Err(fault) => faults::line(alloc, &fault),
     }
 }
