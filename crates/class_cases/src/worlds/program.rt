@@ -3,15 +3,15 @@
 ghost use Rattle.std.specs.Prelude.{IsTrue};
 ghost use Rattle.mg_sources.specs.Files.{EndsWith, Kind, suffix_of};
 
-use crate::given::Given;
 use crate::unanswered::Unanswered;
-use cases::{File, files_of};
+use crate::worlds::given::Given;
+use cases::{Answer, File, files_of};
 use cls_bytes::{ClassFault, read_class};
 use cls_tree::Class;
 use mg_compile::{ClassFile, compile};
 use mg_refusal::Stop;
 use mg_text::{Bytes, List, Text};
-use std::alloc::{AllocError, Global};
+use std::alloc::Global;
 use std::fs;
 use std::rt::Files;
 
@@ -33,27 +33,30 @@ fn text_of<R: Files + AllocGlobal>(
     rt: &R,
     given: &Given<'_>,
 ) -> Result<String, Unanswered> {
-    let mut text = String::new(alloc);
+    let mut text = Answer::new(alloc);
     for name in given.here.split_ascii_whitespace() {
-        let Ok(file) = fs::read_to_string(rt, name) else {
-            return Err(Unanswered::Form);
-        };
-        begin(&mut text)?;
-        write!(text, "{name}\n{}", file.as_str())?;
+        add_file_here(&mut text, rt, name)?;
     }
     if !given.files.is_empty() {
-        begin(&mut text)?;
-        text.push_str(given.files)?;
+        text.line()?;
+        text.pair(">>> ", given.files)?;
     }
-    Ok(text)
+    Ok(text.into_text())
 }
 
-// Begins the line of a file's name.
-fn begin(text: &mut String) -> Result<(), AllocError> {
-    if !text.is_empty() {
-        text.push('\n')?;
-    }
-    text.push_str(">>> ")
+// Adds the file of this name that lies here.
+fn add_file_here<R: Files + AllocGlobal>(
+    text: &mut Answer,
+    rt: &R,
+    name: &str,
+) -> Result<(), Unanswered> {
+    let Ok(file) = fs::read_to_string(rt, name) else {
+        return Err(Unanswered::Form);
+    };
+    text.line()?;
+    text.pair(">>> ", name)?;
+    text.pair("\n", file.as_str())?;
+    Ok(())
 }
 
 // The class files of the program that these files are.

@@ -2,8 +2,8 @@ use Rattle.std.proofs.Common.{List, map, sym, subst}
 use Rattle.std.specs.List.{IsDistinct}
 use Rattle.std.specs.Str.{bytes_eq}
 use Rattle.vm_world_law.specs.declared.role.RoleMain.{RoleMain}
-use Rattle.world_cases.proofs.Beginning.{two_roles}
-use Rattle.world_cases.proofs.world.begun.Goals as goal
+use Rattle.class_cases.proofs.Beginning.{two_roles}
+use Rattle.class_cases.proofs.worlds.world.begun.Goals as goal
 
 pub new-requires-clause-distinct : goal.new-requires-clause-distinct
 new-requires-clause-distinct c =

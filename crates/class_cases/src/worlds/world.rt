@@ -2,10 +2,11 @@
 
 ghost use Rattle.std.specs.Prelude.{◌≡◌, ◌<◌, length, IfOk};
 
-use crate::given::Given;
-use crate::seen::{Seen, seen_of};
-use crate::turns::Turns;
 use crate::unanswered::Unanswered;
+use crate::worlds::given::Given;
+use crate::worlds::seen::{Seen, seen_of};
+use crate::worlds::turns::Turns;
+use cases::Answer;
 use cls_tree::Class;
 use mg_text::{Memory, Text};
 use std::alloc::Global;
@@ -24,17 +25,21 @@ struct BothSeen {
 /// What the roles of a case come to in the plain order, and whether they do under each of its lists.
 pub fn told(alloc: Global, classes: &[Class], given: &Given<'_>) -> Result<String, Unanswered> {
     let plain = played(alloc, classes, given, Turns::Plain)?;
-    let mut text = String::new(alloc);
-    plain.client.tell(&mut text, "C")?;
-    plain.server.tell(&mut text, "S")?;
-    tell_lists(alloc, &mut text, classes, given, &plain)?;
-    Ok(text)
+    let mut answer = Answer::new(alloc);
+    tell_both(&mut answer, &plain)?;
+    tell_lists(alloc, &mut answer, classes, given, &plain)?;
+    Ok(answer.into_text())
+}
+
+fn tell_both(answer: &mut Answer, seen: &BothSeen) -> Result<(), Memory> {
+    seen.client.tell(answer, "C")?;
+    seen.server.tell(answer, "S")
 }
 
 // Tells how many lists come to what the plain order comes to, or the first that doesn't.
 fn tell_lists(
     alloc: Global,
-    text: &mut String,
+    answer: &mut Answer,
     classes: &[Class],
     given: &Given<'_>,
     plain: &BothSeen,
@@ -43,12 +48,15 @@ fn tell_lists(
     let mut lists = 0u64;
     for seed in first..=last {
         if !comes_to(alloc, classes, given, seed, plain)? {
-            write!(text, "the list of {seed} comes to something else")?;
+            answer.add("the list of ")?;
+            answer.show(&seed)?;
+            answer.add(" comes to something else")?;
             return Ok(());
         }
         lists = lists.saturating_add(1);
     }
-    write!(text, "{lists} lists of turns come to the same")?;
+    answer.show(&lists)?;
+    answer.add(" lists of turns come to the same")?;
     Ok(())
 }
 

@@ -2,6 +2,7 @@
 
 ghost use Rattle.std.specs.Prelude.{◌<◌, length};
 
+use cases::Answer;
 use mg_text::Memory;
 use std::alloc::{AllocError, Global};
 use vm_world::World;
@@ -50,11 +51,12 @@ fn stand_of(alloc: Global, world: &World, role: u32) -> Result<String, AllocErro
 
 impl Seen {
     /// Adds a line that tells of the role of this name.
-    pub fn tell(&self, text: &mut String, role: &str) -> Result<(), AllocError> {
-        let (steps, stand, count) = (self.steps, self.stand.as_str(), self.count);
-        writeln!(
-            text,
-            "{role}: {steps} instructions, {stand}, {count} events"
-        )
+    pub fn tell(&self, answer: &mut Answer, role: &str) -> Result<(), Memory> {
+        answer.pair(role, ": ")?;
+        answer.show(&self.steps)?;
+        answer.pair(" instructions, ", self.stand.as_str())?;
+        answer.add(", ")?;
+        answer.show(&self.count)?;
+        answer.add(" events\n")
     }
 }
