@@ -3,7 +3,7 @@
 ghost use Rattle.std.specs.Prelude.{IsTrue};
 ghost use Rattle.mg_sources.specs.Files.{EndsWith, Kind, suffix_of};
 
-use crate::{codes, cores, flows, forms, judged, keys, used};
+use crate::programs::{codes, cores, flows, forms, judged, keys, used};
 use cases::{File, files_of};
 use jv_core::Core;
 use mg_accepted::resolve_program;

@@ -1,7 +1,7 @@
 use Rattle.std.proofs.Common.{List, ℕ, [], ◌∷◌, length, arith, ap, length-append, sym, subst}
 use Rattle.std.proofs.lemmas.List.Elements.{All-push}
 use Rattle.mg_sources.specs.Files.{Kind, EndsWith, suffix_of, HaveKinds}
-use Rattle.core_cases.proofs.program.core_of.Goals as goal
+use Rattle.command_cases.proofs.programs.program.core_of.Goals as goal
 
 abbrev HasKind : List ℕ → Type 0
 HasKind name = (kind : Kind) × EndsWith (suffix_of kind) name

@@ -1,6 +1,6 @@
 //! The enums, classes and methods of a core, a line for each.
 
-use crate::program::without_end;
+use crate::programs::program::without_end;
 use jv_core::{Core, CoreClass, CoreEnum, CoreField, CoreLoop, CoreMethod};
 use mg_text::{Memory, Name, Names, Place};
 use std::alloc::{AllocError, Global};

@@ -1,6 +1,6 @@
 //! The usages of a program: the report, or the first demand that fails.
 
-use crate::program::without_end;
+use crate::programs::program::without_end;
 use cases::File;
 use jv_core::Core;
 use mg_text::{Memory, Place};

@@ -1,6 +1,6 @@
 //! The contexts of a program, and what flows out of them.
 
-use crate::keys::{put_key, put_set};
+use crate::programs::keys::{put_key, put_set};
 use cases::File;
 use jv_core::Core;
 use mg_text::Memory;

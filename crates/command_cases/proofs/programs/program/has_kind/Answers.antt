@@ -1,7 +1,7 @@
 use Rattle.std.proofs.Common.{codes}
 use Rattle.mg_sources.specs.Files.{Scribble, Typestates, Java}
 use Rattle.mg_sources.proofs.Endings.{ends_told}
-use Rattle.core_cases.proofs.program.has_kind.Goals as goal
+use Rattle.command_cases.proofs.programs.program.has_kind.Goals as goal
 
 pub returns-then-ends_with : goal.returns-then-ends_with
 returns-then-ends_with c = λ t. (

@@ -1,7 +1,7 @@
 //! Cases that stand in a frame: what a case gives stands at the mark in the text that is called
 //! `frame` and comes before it.
 
-use crate::program::answer;
+use crate::programs::program::answer;
 use cases::{Case, CasesFault, cases_of};
 use mg_text::Memory;
 use std::alloc::Global;
