@@ -24,6 +24,7 @@
 //! ```
 #![tactic(auto)]
 
+mod asked;
 mod calling;
 mod classes;
 mod given;
@@ -31,7 +32,7 @@ mod programs;
 mod torn;
 mod world;
 
-use crate::world::answer;
+use crate::asked::answer;
 use cases::{Answers, CasesFault, tell};
 use mg_text::Memory;
 use std::alloc::Global;
