@@ -1,6 +1,6 @@
-//! Class files, linking and the machine. Each case of the files in `data/` is answered, and told
-//! where its answer isn't what is wanted. What a case gives and what it wants is said at the head
-//! of its file.
+//! Class files, linking, the machine, and worlds of roles. Each case of the files in `data/` is
+//! answered, and told where its answer isn't what is wanted. What a case gives and what it wants is
+//! said at the head of its file.
 #![tactic(auto)]
 
 mod classes;
@@ -14,16 +14,18 @@ mod spelling;
 mod texts;
 mod unanswered;
 mod walks;
+mod worlds;
 
 use crate::spelling::bytes_of;
 use crate::unanswered::Unanswered;
+use crate::worlds::Worlds;
 use cases::{Answer, Answers, CasesFault, tell};
 use mg_text::Memory;
 use std::alloc::Global;
 use std::fs;
 use std::rt::Files;
 
-/// The files of cases, in the order in which they are answered.
+/// The files of cases of one role, in the order in which they are answered.
 const FILES: [&str; 7] = [
     "texts.txt",
     "codes.txt",
@@ -46,10 +48,8 @@ struct Machines {
 impl Answers for Machines {
     fn answer(&self, alloc: Global, file: &str, given: &[u8]) -> Result<String, Memory> {
         let mut answer = Answer::new(alloc);
-        match self.tell(alloc, &mut answer, file, given) {
-            Ok(()) => {}
-            Err(Unanswered::Form) => answer.add("out of form")?,
-            Err(Unanswered::Memory) => return Err(Memory),
+        if let Err(why) = self.tell(alloc, &mut answer, file, given) {
+            answer.add(why.told()?)?;
         }
         Ok(answer.into_text())
     }
@@ -111,5 +111,5 @@ fn main(rt: HostRuntime) -> Result<(), CasesFault> {
     for file in FILES {
         tell(&rt, &machines, file)?;
     }
-    Ok(())
+    tell(&rt, &Worlds { rt: &rt }, "worlds.txt")
 }

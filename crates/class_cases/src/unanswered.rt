@@ -1,20 +1,46 @@
 //! Why a case has no answer.
 
+use mg_refusal::Stop;
 use mg_text::Memory;
 use std::alloc::{AllocError, AllocFailed};
 
 /// Why a case has no answer.
-#[derive(Clone, Copy, Debug, PartialEq, Eq)]
+#[derive(Clone, Copy)]
 pub enum Unanswered {
-    /// What it gives is out of form.
+    /// What it gives is out of form, or its class files aren't what they are to be.
     Form,
+    /// A list of turns is at an end before its world rests.
+    Restless,
+    /// The files are refused, by a refusal of this kind.
+    Refused(&'static str),
     /// Want of memory.
     Memory,
+}
+
+impl Unanswered {
+    /// What is told in the place of an answer. Want of memory has nothing to tell.
+    pub fn told(self) -> Result<&'static str, Memory> {
+        match self {
+            Unanswered::Form => Ok("out of form"),
+            Unanswered::Restless => Ok("no rest"),
+            Unanswered::Refused(kind) => Ok(kind),
+            Unanswered::Memory => Err(Memory),
+        }
+    }
 }
 
 impl From<Memory> for Unanswered {
     fn from(_memory: Memory) -> Unanswered {
         Unanswered::Memory
+    }
+}
+
+impl From<Stop> for Unanswered {
+    fn from(stop: Stop) -> Unanswered {
+        match stop {
+            Stop::Refused(refusal) => Unanswered::Refused(refusal.kind()),
+            Stop::Memory => Unanswered::Memory,
+        }
     }
 }
 

@@ -1,9 +1,9 @@
 //! The class files that a case is about: those that an earlier command wrote, and changes of their
 //! bytes.
 
-use crate::calling::status_of;
-use crate::given::{line_of, words_of};
-use mg_io::{FileList, MemFolder, MemSink, NumberList};
+use crate::given::line_of;
+use crate::world::World;
+use mg_io::{FileList, MemFolder};
 use mg_text::Memory;
 use std::alloc::Global;
 
@@ -20,18 +20,20 @@ pub fn files_for(alloc: Global, head: &str, kept: FileList) -> Result<FileList, 
 
 // The files of the words of a case's command that an earlier command left.
 fn left_by(alloc: Global, first: &str, head: &str, kept: FileList) -> Result<FileList, Memory> {
-    let mut folder = MemFolder::new(alloc, kept, NumberList::new(alloc))?;
-    let mut out = MemSink::new(alloc, NumberList::new(alloc));
-    let mut err = MemSink::new(alloc, NumberList::new(alloc));
-    let words = words_of(alloc, first)?;
-    let _status = status_of(alloc, words.as_slice(), &mut folder, &mut out, &mut err);
-    let mut left = FileList::new(alloc);
-    for name in line_of(head, "mungo ").split(' ') {
+    let mut world = World::of(alloc, kept)?;
+    let _status = world.run(alloc, first)?;
+    files_in(alloc, &world.folder, line_of(head, "mungo "))
+}
+
+/// The files of these names that a folder has.
+pub fn files_in(alloc: Global, folder: &MemFolder, names: &str) -> Result<FileList, Memory> {
+    let mut files = FileList::new(alloc);
+    for name in names.split(' ') {
         if let Some(bytes) = folder.content(name) {
-            left.add(alloc, name, bytes)?;
+            files.add(alloc, name, bytes)?;
         }
     }
-    Ok(left)
+    Ok(files)
 }
 
 // The files with the changes that a case asks for.

@@ -1,7 +1,8 @@
-//! The commands of mungo, over a folder and sinks in memory. Each case of the files in `data/` is
-//! run, and what it leaves is told where it isn't what is wanted.
+//! The commands of mungo, over a folder and sinks in memory, and before them the cores and usages of
+//! programs. Each case of the files in `data/` is run, and what it leaves is told where it isn't
+//! what is wanted.
 //!
-//! A case gives lines, and then files, each begun by a line `>>> NAME`:
+//! A case of commands gives lines, and then files, each begun by a line `>>> NAME`:
 //!
 //! ```text
 //! mungo check A.java B.java     the words of the command
@@ -23,19 +24,21 @@
 //! ```
 #![tactic(auto)]
 
+mod asked;
 mod calling;
 mod classes;
 mod given;
+mod programs;
 mod torn;
 mod world;
 
-use crate::world::answer;
+use crate::asked::answer;
 use cases::{Answers, CasesFault, tell};
 use mg_text::Memory;
 use std::alloc::Global;
 use std::rt::Files;
 
-/// The files of cases, in the order in which they are answered.
+/// The files of cases of commands, in the order in which they are answered.
 const FILES: [&str; 15] = [
     "translate.txt",
     "conform.txt",
@@ -70,6 +73,7 @@ impl<'a, R: Files> Answers for Commands<'a, R> {
 }
 
 fn main(rt: HostRuntime) -> Result<(), CasesFault> {
+    programs::tell(&rt)?;
     let commands = Commands { rt: &rt };
     for file in FILES {
         tell(&rt, &commands, file)?;

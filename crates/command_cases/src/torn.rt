@@ -1,53 +1,24 @@
 //! Class files that are cut and changed everywhere: `exec` refuses each front of one as cut, and ends
 //! on each change with a status that it may have.
 
-use crate::calling::status_of;
-use mg_io::{FileList, MemFolder, MemSink, NumberList};
-use mg_text::{Memory, Text};
+use crate::classes::files_in;
+use crate::world::World;
+use mg_io::MemFolder;
+use mg_text::Memory;
 use mg_top::Status;
 use std::alloc::Global;
-
-/// How a command ended, and what it put on standard error.
-#[derive(Drop)]
-struct Ended {
-    status: Status,
-    err: MemSink,
-}
-
-impl Ended {
-    // Whether the file was refused as cut.
-    fn is_cut(&self) -> bool {
-        let line = str::from_utf8(self.err.bytes()).unwrap_or("");
-        self.status == Status::Refused && line.ends_with(": Short\n")
-    }
-
-    // Whether `exec` may end so where nothing outside fails.
-    fn is_proper(&self) -> bool {
-        match self.status {
-            Status::Done
-            | Status::Refused
-            | Status::Zero
-            | Status::Mismatch
-            | Status::Waits
-            | Status::Bound
-            | Status::Broken => true,
-            Status::Words | Status::ReadFault | Status::WriteFault | Status::Memory => false,
-        }
-    }
-}
 
 /// Whether the command refuses each front of a file of the folder as cut.
 pub fn each_front(
     alloc: Global,
-    words: &[Text],
+    line: &str,
     folder: &MemFolder,
     name: &str,
 ) -> Result<String, Memory> {
     let bytes = folder.content(name).unwrap_or(b"");
     let mut others: u64 = 0;
     for count in 0..bytes.len() {
-        let ended = run_with(alloc, words, folder, name, &bytes[..count])?;
-        if !ended.is_cut() {
+        if !is_cut(alloc, line, folder, name, &bytes[..count])? {
             others = others.saturating_add(1);
         }
     }
@@ -58,7 +29,7 @@ pub fn each_front(
 /// Whether the command ends as it may where a bit of a file of the folder is another, for each bit.
 pub fn each_bit(
     alloc: Global,
-    words: &[Text],
+    line: &str,
     folder: &MemFolder,
     name: &str,
 ) -> Result<String, Memory> {
@@ -68,9 +39,9 @@ pub fn each_bit(
     for place in 0..changed.len() {
         for mask in [1_u8, 2, 4, 8, 16, 32, 64, 128] {
             flip(&mut changed, place, mask);
-            let ended = run_with(alloc, words, folder, name, changed.as_slice())?;
+            let proper = is_proper(alloc, line, folder, name, changed.as_slice())?;
             flip(&mut changed, place, mask);
-            if !ended.is_proper() {
+            if !proper {
                 others = others.saturating_add(1);
             }
         }
@@ -85,26 +56,56 @@ fn flip(bytes: &mut Vec<u8>, place: usize, mask: u8) {
     }
 }
 
-// Runs the command over the files of its words, of which one has these bytes.
-fn run_with(
+// Whether the command refuses as cut the file of this name where it has these bytes.
+fn is_cut(
     alloc: Global,
-    words: &[Text],
+    line: &str,
     folder: &MemFolder,
     name: &str,
     bytes: &[u8],
-) -> Result<Ended, Memory> {
-    let mut files = FileList::new(alloc);
-    for word in words {
-        let word = word.as_str();
-        if word == name {
-            files.add(alloc, word, bytes)?;
-        } else if let Some(other) = folder.content(word) {
-            files.add(alloc, word, other)?;
-        }
+) -> Result<bool, Memory> {
+    let mut world = world_with(alloc, line, folder, name, bytes)?;
+    let status = world.run(alloc, line)?;
+    let said = str::from_utf8(world.err.bytes()).unwrap_or("");
+    Ok(status == Status::Refused && said.ends_with(": Short\n"))
+}
+
+// Whether the command ends as it may where the file of this name has these bytes.
+fn is_proper(
+    alloc: Global,
+    line: &str,
+    folder: &MemFolder,
+    name: &str,
+    bytes: &[u8],
+) -> Result<bool, Memory> {
+    let mut world = world_with(alloc, line, folder, name, bytes)?;
+    let status = world.run(alloc, line)?;
+    Ok(may_end(status))
+}
+
+// Whether `exec` may end so where nothing outside fails.
+fn may_end(status: Status) -> bool {
+    match status {
+        Status::Done
+        | Status::Refused
+        | Status::Zero
+        | Status::Mismatch
+        | Status::Waits
+        | Status::Bound
+        | Status::Broken => true,
+        Status::Words | Status::ReadFault | Status::WriteFault | Status::Memory => false,
     }
-    let mut folder = MemFolder::new(alloc, files, NumberList::new(alloc))?;
-    let mut out = MemSink::new(alloc, NumberList::new(alloc));
-    let mut err = MemSink::new(alloc, NumberList::new(alloc));
-    let status = status_of(alloc, words, &mut folder, &mut out, &mut err);
-    Ok(Ended { status, err })
+}
+
+// A world with the files of the command's words, of which one has these bytes.
+fn world_with(
+    alloc: Global,
+    line: &str,
+    folder: &MemFolder,
+    name: &str,
+    bytes: &[u8],
+) -> Result<World, Memory> {
+    let mut files = files_in(alloc, folder, line)?;
+    files.add(alloc, name, bytes)?;
+    World::of(alloc, files)
 }

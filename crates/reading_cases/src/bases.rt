@@ -6,6 +6,18 @@ use mg_sets::StateSet;
 use mg_text::{Bytes, List, Memory, Name, Names, Place, Text, is_java_word, place_of};
 use std::alloc::Global;
 
+/// Bytes as text.
+pub fn as_text(bytes: &[u8]) -> &str {
+    std::str::from_utf8(bytes).unwrap_or("no text")
+}
+
+/// Adds a place with the number of its file.
+pub fn add_place(answer: &mut Answer, place: Place) -> Result<(), Memory> {
+    answer.show(&place.file)?;
+    answer.add(":")?;
+    answer.place(place)
+}
+
 // The two parts of a text around a sign.
 fn parts(text: &str, sign: char) -> (&str, &str) {
     text.split_once(sign).unwrap_or((text, ""))

@@ -1,23 +1,63 @@
-//! Cases of all that is read below the Java side: texts, protocols, typestates, walks and APIs.
+//! Cases of all that reads, prints, walks, projects and refines the languages: texts, local and
+//! global protocols, typestates, walks and APIs, and Java sources.
 //! Each file of cases has its kind of answer, and those that are not the wanted ones are printed.
 #![tactic(auto)]
 
 mod bases;
+mod globals;
+mod java;
 mod protocols;
+mod refining;
 mod typestates;
 mod walks;
 mod written;
 
+use crate::bases::as_text;
+use crate::globals::Projecting;
+use crate::java::Java;
+use crate::refining::Refining;
 use cases::{Answers, CasesFault, plain, tell};
 use mg_text::Memory;
 use std::alloc::Global;
-use std::env;
+use std::rt::Files;
 
+/// The files of cases of texts, local protocols, typestates, walks and APIs, in the order in which
+/// they are answered.
+const FILES: [&str; 26] = [
+    "escapes.txt",
+    "texts.txt",
+    "lists.txt",
+    "places.txt",
+    "names.txt",
+    "java_words.txt",
+    "sets.txt",
+    "words.txt",
+    "tokens.txt",
+    "protocols.txt",
+    "bodies.txt",
+    "parts.txt",
+    "whole.txt",
+    "printed.txt",
+    "written.txt",
+    "typestates.txt",
+    "states.txt",
+    "numbered.txt",
+    "trees.txt",
+    "layouts.txt",
+    "reached.txt",
+    "calls.txt",
+    "generated.txt",
+    "walks.txt",
+    "label_calls.txt",
+    "apis.txt",
+];
+
+/// Answers cases of these files.
 struct Reading;
 
 impl Answers for Reading {
     fn answer(&self, alloc: Global, file: &str, given: &[u8]) -> Result<String, Memory> {
-        let text = std::str::from_utf8(given).unwrap_or("no text");
+        let text = as_text(given);
         match file {
             "escapes.txt" => plain(alloc, text),
             "texts.txt" => bases::kept(alloc, text),
@@ -54,9 +94,21 @@ fn read(alloc: Global, file: &str, given: &[u8]) -> Result<String, Memory> {
     }
 }
 
-fn main(rt: HostRuntime) -> Result<(), CasesFault> {
-    for file in env::args(&rt)?.skip(1) {
-        tell(&rt, &Reading, file.as_str())?;
+// Tells the files of an area in their order.
+fn tell_all<R: Files + Print + AllocGlobal>(
+    rt: &R,
+    answers: &impl Answers,
+    files: &[&str],
+) -> Result<(), CasesFault> {
+    for file in files {
+        tell(rt, answers, *file)?;
     }
     Ok(())
+}
+
+fn main(rt: HostRuntime) -> Result<(), CasesFault> {
+    tell_all(&rt, &Reading, &FILES)?;
+    tell_all(&rt, &Projecting, &globals::FILES)?;
+    tell_all(&rt, &Refining, &refining::FILES)?;
+    tell_all(&rt, &Java, &java::FILES)
 }

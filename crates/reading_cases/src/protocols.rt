@@ -1,5 +1,6 @@
 //! Answers on the text of local protocols: tokens, faults, what is read and how it is printed.
 
+use crate::bases::add_place;
 use cases::{Answer, fault_text, plain, told};
 use mg_text::{Memory, Place};
 use scr_lex::{reserved, tokens};
@@ -30,9 +31,7 @@ pub fn tokens_of(alloc: Global, given: &[u8]) -> Result<String, Memory> {
 
 // The place of a token, and what it is.
 fn add_token(answer: &mut Answer, token: &Token) -> Result<(), Memory> {
-    answer.show(&token.place.file)?;
-    answer.add(":")?;
-    answer.place(token.place)?;
+    add_place(answer, token.place)?;
     add_kind(answer, &token.kind)?;
     answer.add("\n")
 }
