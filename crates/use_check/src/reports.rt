@@ -103,7 +103,7 @@ pub fn report(alloc: Global, core: &Core, accepted: &Accepted) -> Result<Text, M
 {
     let reporter = Reporter {
         core,
-        tables: accepted.tables(),
+        tables: &accepted.tables,
     };
     let all = contexts(alloc, core)?;
     let mut out = String::new(alloc);

@@ -16,17 +16,9 @@ use use_infer::infer;
 /// The usages of an accepted program: its least tables, under which no demand fails.
 #[derive(Drop)]
 pub struct Accepted {
-    tables: Tables,
-    ghost answer: { ∥ AnswerOf tables ∥₁ },
-}
-
-impl Accepted {
     /// The least tables.
-    pub fn tables(&self) -> &Tables
-        ensures { result.now ≡ self.now.tables }
-    {
-        &self.tables
-    }
+    pub tables: Tables,
+    ghost answer: { ∥ AnswerOf tables ∥₁ },
 }
 
 /// A demand that fails: a variable that was moved is read or called on; a call is made on one that may
