@@ -19,7 +19,7 @@ impl Answers for Projecting {
     fn answer(&self, alloc: Global, file: &str, given: &[u8]) -> Result<String, Memory> {
         match file {
             "globals.txt" => judged(alloc, given),
-            _ => files(alloc, given),
+            _ => projections(alloc, given),
         }
     }
 }
@@ -33,7 +33,7 @@ fn judged(alloc: Global, given: &[u8]) -> Result<String, Memory> {
 }
 
 // The files of the roles, or the fault.
-fn files(alloc: Global, given: &[u8]) -> Result<String, Memory> {
+fn projections(alloc: Global, given: &[u8]) -> Result<String, Memory> {
     match projected(alloc, 0, given) {
         Ok(files) => shown(alloc, files.as_slice()),
         Err(ProjectedFault::Unread(fault)) => fault_text(alloc, &fault),
