@@ -2,10 +2,10 @@
 use Rattle.std.proofs.Common.{◌≡◌, ℕ, ◌+◌, ◌<◌, ◌≤◌, List, [], ◌∷◌, ◌++◌, length, map, take, get_or, sym, ap, ◌∙◌}
 use Rattle.std.proofs.lemmas.List.{take_more, take_all, map-append}
 use Rattle.jv_core.specs.Tree.{Program}
-use Rattle.gen_symbolic.specs.declared.symbolic.Operand.{Operand}
-use Rattle.gen_symbolic.specs.declared.symbolic.Symbolic.{Symbolic}
-use Rattle.gen_symbolic.specs.View.{instr_of, instrs_of, operand_of}
-use Rattle.gen_symbolic.specs.inner.Aimed.{place_of, aimed, aimed_operand}
+use Rattle.gen_expressions.specs.declared.symbolic.Operand.{Operand}
+use Rattle.gen_expressions.specs.declared.symbolic.Symbolic.{Symbolic}
+use Rattle.gen_expressions.specs.View.{instr_of, instrs_of, operand_of}
+use Rattle.gen_expressions.specs.Aimed.{place_of, aimed, aimed_operand}
 
 take_at : {X : Type 0} (xs : List X) (i : ℕ) (x : X) → i < length xs → x ≡ get_or xs i x → take (i + 1) xs ≡ take i xs ++ x ∷ []
 take_at xs i x within is = take_more xs i x within ∙ ap (λ y. take i xs ++ y ∷ []) (sym is)

@@ -14,12 +14,13 @@ use Rattle.jv_core.specs.Tree.{Expr, Null}
 use Rattle.jv_core.specs.Numbering.{numbers_from}
 use Rattle.gen_rules.specs.Locals.{first_local}
 use Rattle.gen_rules.specs.Templates.{compared, RightAlone}
-use Rattle.gen_symbolic.specs.inner.Held.{is_null}
+use Rattle.gen_expressions.specs.Held.{is_null}
 use Rattle.gen_rules.specs.Frames.{Depths, comparison_depths, depths_by_jumps, max_locals}
 use Rattle.gen_rules.specs.Frames.{depths, depth_of_arguments, depth_of, depth_of_all, depth_of_groups, locals_of, locals_of_all}
 use Rattle.gen_rules.specs.Frames.{locals_of_groups}
 use Rattle.gen_symbolic.specs.inner.Held.{taken_behind}
-use Rattle.gen_symbolic.proofs.Loops.{drop_at, drop_done, group_of-is}
+use Rattle.gen_expressions.proofs.Loops.{drop_at, drop_done}
+use Rattle.gen_symbolic.proofs.Loops.{group_of-is}
 
 max_parts : (a b c : ℕ) → max a (max b c) ≡ max (max b a) c
 max_parts a b c = omega arith

@@ -7,15 +7,16 @@ use Rattle.jv_core.specs.Tree.{Stmt, Block, Empty, Local, Assign, If, IfElse, Wh
 use Rattle.jv_core.specs.Tree.{Stmts, Groups, Program, Method}
 use Rattle.jv_core.specs.View.{stmt_of, stmts_of, group_of, groups_of, before}
 use Rattle.gen_rules.specs.Around.{Around}
-use Rattle.gen_symbolic.specs.inner.Drafting.{Draft, statement, statements, groups, placed, next_label, with_label, with_labels, value}
-use Rattle.gen_symbolic.specs.inner.Drafting.{table, switched, switch, count}
+use Rattle.gen_expressions.specs.Drafting.{Draft, placed, next_label, with_label, with_labels, value}
+use Rattle.gen_symbolic.specs.inner.Drafting.{statement, statements, groups, table, switched, switch, count}
 use Rattle.gen_rules.specs.Around as around
 use Rattle.gen_rules.specs.Cases.{constants_of, positions}
 use Rattle.gen_rules.specs.Typed.{type_of}
 use Rattle.jv_core.specs.Numbering.{numbers_from}
 use Rattle.jv_core.specs.Tree.{Expr}
 use Rattle.gen_symbolic.specs.inner.Held.{behind}
-use Rattle.gen_symbolic.proofs.Loops.{drop_at, drop_done, group_of-is}
+use Rattle.gen_expressions.proofs.Loops.{drop_at, drop_done}
+use Rattle.gen_symbolic.proofs.Loops.{group_of-is}
 
 -- more slots are in scope
 pub record Extends (old new : List ℕ) : Type 0 where

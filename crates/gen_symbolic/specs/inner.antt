@@ -1,3 +1,2 @@
-pub mod Aimed
 pub mod Drafting
 pub mod Held

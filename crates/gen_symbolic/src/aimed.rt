@@ -2,10 +2,10 @@
 
 ghost use Rattle.std.specs.Prelude.{◌≡◌, IfOk, map};
 ghost use Rattle.jv_core.specs.Tree.{Program};
-ghost use Rattle.gen_symbolic.specs.View.{instrs_of, operand_of};
-ghost use Rattle.gen_symbolic.specs.inner.Aimed.{aimed, aimed_operand, place_of};
+ghost use Rattle.gen_expressions.specs.View.{instrs_of, operand_of};
+ghost use Rattle.gen_expressions.specs.Aimed.{aimed, aimed_operand, place_of};
 
-use crate::symbolic::{Operand, Symbolic};
+use gen_expressions::{Operand, Symbolic};
 use mg_text::{List, Memory};
 use std::alloc::Global;
 

@@ -4,18 +4,11 @@
 
 mod aimed;
 mod around;
-mod coder;
-mod conditions;
-mod emitted;
-mod expressions;
 mod frames;
-mod locals;
 mod locals_of;
 mod method;
 mod statements;
 mod switches;
-mod symbolic;
-mod typed;
 
+pub use gen_expressions::{Operand, Symbolic};
 pub use method::{MethodCode, method_code};
-pub use symbolic::{Operand, Symbolic};

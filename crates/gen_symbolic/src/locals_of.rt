@@ -3,11 +3,11 @@
 ghost use Rattle.std.specs.Prelude.{◌≡◌, IfOk, map, suc};
 ghost use Rattle.jv_core.specs.View.{stmt_of, stmts_of, group_of, groups_of};
 ghost use Rattle.gen_rules.specs.Frames.{max_locals, locals_of, locals_of_all, locals_of_groups};
-ghost use Rattle.gen_symbolic.specs.inner.Held.{method_in, taken_behind};
+ghost use Rattle.gen_expressions.specs.Held.{method_in};
+ghost use Rattle.gen_symbolic.specs.inner.Held.{taken_behind};
 ghost use Rattle.gen_symbolic.specs.inner.Drafting.{groups};
 
-use crate::coder::Coder;
-use crate::locals::local_at;
+use gen_expressions::{Coder, local_at};
 use jv_core::{CoreGroup, CoreStmt, CoreStmtKind};
 use mg_text::Memory;
 
@@ -22,7 +22,7 @@ fn one_more(taken: u32) -> Result<u32, Memory>
 }
 
 // The locals that are taken behind a statement, where so many are taken at its beginning.
-#[tactic(auto, using(crate::proofs::Seen::seen))]
+#[tactic(auto, using(gen_expressions::proofs::Seen::seen))]
 fn taken_behind(taken: u32, stmt: &CoreStmt) -> Result<u32, Memory>
     ensures { IfOk result (λ n. n ≡ taken_behind taken (stmt_of stmt.now)) }
 {
@@ -46,7 +46,7 @@ fn taken_behind(taken: u32, stmt: &CoreStmt) -> Result<u32, Memory>
 }
 
 // How many locals there are at most, where so many are taken at the beginning.
-#[tactic(auto, using(crate::proofs::Seen::seen))]
+#[tactic(auto, using(gen_expressions::proofs::Seen::seen))]
 #[cycle(locals)]
 fn locals_of(taken: u32, stmt: &CoreStmt) -> Result<u32, Memory>
     ensures { IfOk result (λ n. n ≡ locals_of taken (stmt_of stmt.now)) }
@@ -103,13 +103,11 @@ fn locals_of_groups(taken: u32, groups: &[CoreGroup]) -> Result<u32, Memory>
     Ok(most)
 }
 
-impl<'a> Coder<'a> {
-    /// How many locals the method has.
-    #[tactic(auto, using(crate::proofs::Framing::frame))]
-    pub(crate) fn max_locals(&self) -> Result<u32, Memory>
-        ensures { IfOk result (λ n. n ≡ max_locals (method_in self.now)) }
-    {
-        let taken = local_at(self.method.kind, self.method.params as usize)?;
-        locals_of_all(taken, self.method.body.as_slice())
-    }
+/// How many locals the method has.
+#[tactic(auto, using(crate::proofs::Framing::frame))]
+pub(crate) fn max_locals(coder: &Coder<'_>) -> Result<u32, Memory>
+    ensures { IfOk result (λ n. n ≡ max_locals (method_in coder.now)) }
+{
+    let taken = local_at(coder.method.kind, coder.method.params as usize)?;
+    locals_of_all(taken, coder.method.body.as_slice())
 }

@@ -4,17 +4,17 @@ ghost use Rattle.std.specs.Prelude.{◌≡◌, IfOk, OnOk};
 ghost use Rattle.jv_core.specs.View.{method_of};
 ghost use Rattle.gen_rules.specs.Templates.{IsCode};
 ghost use Rattle.gen_rules.specs.Frames.{max_stack, max_locals};
-ghost use Rattle.gen_symbolic.specs.View.{instrs_of};
-ghost use Rattle.gen_symbolic.specs.inner.Held.{draft_in, method_in};
+ghost use Rattle.gen_expressions.specs.View.{instrs_of};
+ghost use Rattle.gen_expressions.specs.Held.{draft_in, method_in};
 ghost use Rattle.gen_symbolic.specs.inner.Drafting.{end_of_method, drafted};
 
 use crate::aimed::aim;
 use crate::around::Around;
-use crate::coder::{Coder, Draft};
-use crate::emitted::{is_reference, return_of};
-use crate::locals::params;
-use crate::symbolic::Symbolic;
+use crate::frames::max_stack;
+use crate::locals_of::max_locals;
+use crate::statements::statements;
 use cls_tree::opcodes::{ACONST_NULL, RETURN};
+use gen_expressions::{Coder, Draft, Symbolic, params, return_of};
 use jv_core::{Core, CoreMethod, CoreType};
 use mg_text::{List, Memory};
 use std::alloc::Global;
@@ -28,35 +28,33 @@ pub struct MethodCode<'a> {
     pub max_locals: u32,
 }
 
-impl<'a> Coder<'a> {
-    // The end of the method, whether it is reached or not.
-    fn put_end(&self, draft: &mut Draft<'a>) -> Result<(), Memory>
-        ensures { OnOk result (draft_in self.now draft.new ≡ end_of_method self.now.core.now (method_in self.now)
-            (method_in self.now).result (draft_in self.now draft.old)) }
-    {
-        let result = self.method.result;
-        match result {
-            CoreType::Void => return self.put_plain(draft, RETURN),
-            CoreType::Int | CoreType::Boolean | CoreType::Enum(_) => self.put_int(draft, 0)?,
-            CoreType::Text | CoreType::Object(_) => self.put_plain(draft, ACONST_NULL)?,
-        }
-        self.put_plain(draft, return_of(result))
+// The end of the method, whether it is reached or not.
+fn put_end<'a>(coder: &Coder<'a>, draft: &mut Draft<'a>) -> Result<(), Memory>
+    ensures { OnOk result (draft_in coder.now draft.new ≡ end_of_method coder.now.core.now (method_in coder.now)
+        (method_in coder.now).result (draft_in coder.now draft.old)) }
+{
+    let result = coder.method.result;
+    match result {
+        CoreType::Void => return coder.put_plain(draft, RETURN),
+        CoreType::Int | CoreType::Boolean | CoreType::Enum(_) => coder.put_int(draft, 0)?,
+        CoreType::Text | CoreType::Object(_) => coder.put_plain(draft, ACONST_NULL)?,
     }
+    coder.put_plain(draft, return_of(result))
+}
 
-    // The whole method.
-    #[tactic(auto, using(crate::proofs::Written::begins))]
-    fn draft(&self) -> Result<Draft<'a>, Memory>
-        ensures { IfOk result (λ d. draft_in self.now d ≡ drafted self.now.core.now (method_in self.now)) }
-    {
-        let mut draft = Draft::new(self.alloc);
-        // Label 0 is the beginning.
-        draft.labels.push(0)?;
-        let mut locals = params(self.alloc, self.method.params)?;
-        let body = self.method.body.as_slice();
-        self.statements(&mut draft, &mut locals, &Around::Method, body)?;
-        self.put_end(&mut draft)?;
-        Ok(draft)
-    }
+// The whole method.
+#[tactic(auto, using(crate::proofs::Whole::begins))]
+fn draft<'a>(coder: &Coder<'a>) -> Result<Draft<'a>, Memory>
+    ensures { IfOk result (λ d. draft_in coder.now d ≡ drafted coder.now.core.now (method_in coder.now)) }
+{
+    let mut draft = Draft::new(coder.alloc);
+    // Label 0 is the beginning.
+    draft.labels.push(0)?;
+    let mut locals = params(coder.alloc, coder.method.params)?;
+    let body = coder.method.body.as_slice();
+    statements(coder, &mut draft, &mut locals, &Around::Method, body)?;
+    put_end(coder, &mut draft)?;
+    Ok(draft)
 }
 
 /// The code of a method of a program, as the templates and the rules of frames have it.
@@ -77,10 +75,10 @@ pub fn method_code<'a>(
         core,
         method,
     };
-    let draft = coder.draft()?;
+    let draft = draft(&coder)?;
     let instrs = aim(alloc, draft.labels.as_slice(), draft.instrs.as_slice())?;
-    let max_stack = coder.max_stack()?;
-    let max_locals = coder.max_locals()?;
+    let max_stack = max_stack(&coder)?;
+    let max_locals = max_locals(&coder)?;
     Ok(MethodCode {
         instrs,
         max_stack,

@@ -5,12 +5,11 @@ ghost use Rattle.jv_values.specs.Statements.{any_label};
 ghost use Rattle.jv_core.specs.View.{group_of, groups_of};
 ghost use Rattle.jv_core.specs.Numbering.{numbers_from};
 ghost use Rattle.gen_rules.specs.Cases.{group_at};
-ghost use Rattle.gen_symbolic.specs.inner.Held.{draft_in, method_in};
+ghost use Rattle.gen_expressions.specs.Held.{draft_in, method_in};
 ghost use Rattle.gen_symbolic.specs.inner.Drafting.{groups, table, wanted, target_by};
 
-use crate::coder::{Coder, Draft};
-use crate::symbolic::Operand;
 use cls_tree::opcodes::TABLESWITCH;
+use gen_expressions::{Coder, Draft, Operand};
 use jv_core::CoreGroup;
 use mg_text::{List, Memory};
 
@@ -66,61 +65,58 @@ fn group_at(groups: &[CoreGroup], first: u32, position: Option<u32>) -> Result<O
     Ok(None)
 }
 
-impl<'a> Coder<'a> {
-    // The label at which a group begins, or another one where there is no such group.
-    fn label_at(
-        &self,
-        groups: &[CoreGroup],
-        first: u32,
-        position: Option<u32>,
-        otherwise: u32,
-    ) -> Result<u32, Memory>
-        ensures { IfOk result (λ n. n ≡ unwrap_or
-            (group_at (wanted position) (groups_of (map group_of groups.now)) (numbers_from first (length groups.now))) otherwise) }
-    {
-        let Some(label) = group_at(groups, first, position)? else {
-            return Ok(otherwise);
-        };
-        Ok(label)
-    }
+// The label at which a group begins, or another one where there is no such group.
+fn label_at(
+    groups: &[CoreGroup],
+    first: u32,
+    position: Option<u32>,
+    otherwise: u32,
+) -> Result<u32, Memory>
+    ensures { IfOk result (λ n. n ≡ unwrap_or
+        (group_at (wanted position) (groups_of (map group_of groups.now)) (numbers_from first (length groups.now))) otherwise) }
+{
+    let Some(label) = group_at(groups, first, position)? else {
+        return Ok(otherwise);
+    };
+    Ok(label)
+}
 
-    /// The table of a `switch` over so many constants, whose groups begin at labels from the first on.
-    pub(crate) fn put_table(
-        &self,
-        draft: &mut Draft<'a>,
-        groups: &[CoreGroup],
-        first: u32,
-        end: u32,
-        constants: usize,
-    ) -> Result<(), Memory>
-        ensures { OnOk result (draft_in self.now draft.new ≡ table self.now.core.now (method_in self.now)
-            (groups_of (map group_of groups.now)) first (length groups.now) end (numbers_from 0 constants) (draft_in self.now draft.old)) }
-    {
-        let default = self.label_at(groups, first, None, end)?;
-        let targets = self.targets(groups, first, default, constants)?;
-        self.put(draft, TABLESWITCH, Operand::Table { default, targets })
-    }
+/// The table of a `switch` over so many constants, whose groups begin at labels from the first on.
+pub(crate) fn put_table<'a>(
+    coder: &Coder<'a>,
+    draft: &mut Draft<'a>,
+    groups: &[CoreGroup],
+    first: u32,
+    end: u32,
+    constants: usize,
+) -> Result<(), Memory>
+    ensures { OnOk result (draft_in coder.now draft.new ≡ table coder.now.core.now (method_in coder.now)
+        (groups_of (map group_of groups.now)) first (length groups.now) end (numbers_from 0 constants) (draft_in coder.now draft.old)) }
+{
+    let default = label_at(groups, first, None, end)?;
+    let targets = targets(coder, groups, first, default, constants)?;
+    coder.put(draft, TABLESWITCH, Operand::Table { default, targets })
+}
 
-    // Where each constant leads.
-    fn targets(
-        &self,
-        groups: &[CoreGroup],
-        first: u32,
-        default: u32,
-        constants: usize,
-    ) -> Result<List<u32>, Memory>
-        ensures { IfOk result (λ l. l.items
-            ≡ map (target_by (groups_of (map group_of groups.now)) (numbers_from first (length groups.now)) default)
-            (numbers_from 0 constants)) }
-    {
-        let Ok(count) = u32::try_from(constants) else {
-            return Err(Memory);
-        };
-        let mut targets = List::new(self.alloc);
-        for position in 0..count {
-            let label = self.label_at(groups, first, Some(position), default)?;
-            targets.push(label)?;
-        }
-        Ok(targets)
+// Where each constant leads.
+fn targets(
+    coder: &Coder<'_>,
+    groups: &[CoreGroup],
+    first: u32,
+    default: u32,
+    constants: usize,
+) -> Result<List<u32>, Memory>
+    ensures { IfOk result (λ l. l.items
+        ≡ map (target_by (groups_of (map group_of groups.now)) (numbers_from first (length groups.now)) default)
+        (numbers_from 0 constants)) }
+{
+    let Ok(count) = u32::try_from(constants) else {
+        return Err(Memory);
+    };
+    let mut targets = List::new(coder.alloc);
+    for position in 0..count {
+        let label = label_at(groups, first, Some(position), default)?;
+        targets.push(label)?;
     }
+    Ok(targets)
 }

@@ -1,7 +1,7 @@
 use Rattle.std.proofs.Common.{◌≡◌, take, map}
 use Rattle.jv_core.specs.Tree.{Program}
-use Rattle.gen_symbolic.specs.View.{instrs_of}
-use Rattle.gen_symbolic.specs.inner.Aimed.{aimed}
+use Rattle.gen_expressions.specs.View.{instrs_of}
+use Rattle.gen_expressions.specs.Aimed.{aimed}
 use Rattle.gen_symbolic.proofs.aimed.aim.Given as goal
 
 abbrev pub invariant-loop-instr : goal.invariant-loop-instr

@@ -1,5 +1,5 @@
 use Rattle.std.proofs.Common.{◌≡◌, take, map}
-use Rattle.gen_symbolic.specs.inner.Aimed.{place_of}
+use Rattle.gen_expressions.specs.Aimed.{place_of}
 use Rattle.gen_symbolic.proofs.aimed.places_of.Given as goal
 
 abbrev pub invariant-loop-label : goal.invariant-loop-label

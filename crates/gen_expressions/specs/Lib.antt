@@ -1,0 +1,4 @@
+pub mod Aimed
+pub mod Drafting
+pub mod Held
+pub mod View
