@@ -59,12 +59,7 @@ impl<'a> Coder<'a> {
     /// # Errors
     /// `Memory` only.
     #[tactic(auto, using(crate::proofs::Written::writes))]
-    pub fn put(
-        &self,
-        draft: &mut Draft<'a>,
-        op: u8,
-        operand: Operand<'a>,
-    ) -> Result<(), Memory>
+    pub fn put(&self, draft: &mut Draft<'a>, op: u8, operand: Operand<'a>) -> Result<(), Memory>
         ensures { OnOk result (draft_in self.now draft.new
             ≡ emit (record { op = op; operand = operand_of self.now.core.now operand.entry }) (draft_in self.now draft.old)) }
     {

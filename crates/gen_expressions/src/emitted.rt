@@ -127,12 +127,7 @@ impl<'a> Coder<'a> {
     ///
     /// # Errors
     /// `Memory` only.
-    pub fn put_store(
-        &self,
-        draft: &mut Draft<'a>,
-        ty: CoreType,
-        local: u32,
-    ) -> Result<(), Memory>
+    pub fn put_store(&self, draft: &mut Draft<'a>, ty: CoreType, local: u32) -> Result<(), Memory>
         ensures { OnOk result (draft_in self.now draft.new ≡ emit (store ty local) (draft_in self.now draft.old)) }
     {
         if is_reference(ty) {
@@ -180,12 +175,7 @@ impl<'a> Coder<'a> {
     ///
     /// # Errors
     /// `Memory` only.
-    pub fn put_slot(
-        &self,
-        draft: &mut Draft<'a>,
-        locals: &Locals,
-        slot: u32,
-    ) -> Result<(), Memory>
+    pub fn put_slot(&self, draft: &mut Draft<'a>, locals: &Locals, slot: u32) -> Result<(), Memory>
         ensures { OnOk result (draft_in self.now draft.new ≡ store_in self.now.core.now (method_in self.now) locals.now slot
             (draft_in self.now draft.old)) }
     {
@@ -205,11 +195,7 @@ impl<'a> Coder<'a> {
     ///
     /// # Errors
     /// `Memory` only.
-    pub fn put_text_of(
-        &self,
-        draft: &mut Draft<'a>,
-        ty: Option<CoreType>,
-    ) -> Result<(), Memory>
+    pub fn put_text_of(&self, draft: &mut Draft<'a>, ty: Option<CoreType>) -> Result<(), Memory>
         ensures { OnOk result (draft_in self.now draft.new ≡ text self.now.core.now (method_in self.now) ty
             (draft_in self.now draft.old)) }
     {
@@ -232,11 +218,7 @@ impl<'a> Coder<'a> {
     ///
     /// # Errors
     /// `Memory` only.
-    pub fn put_discard(
-        &self,
-        draft: &mut Draft<'a>,
-        ty: Option<CoreType>,
-    ) -> Result<(), Memory>
+    pub fn put_discard(&self, draft: &mut Draft<'a>, ty: Option<CoreType>) -> Result<(), Memory>
         ensures { OnOk result (draft_in self.now draft.new ≡ discard self.now.core.now (method_in self.now) ty
             (draft_in self.now draft.old)) }
     {

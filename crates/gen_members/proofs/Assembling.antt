@@ -12,8 +12,8 @@ use Rattle.gen_rules.specs.Assembled.{file_instr, numbered_by, numbered, all_num
 use Rattle.gen_links.proofs.Starts.{jump_size, table_size}
 use Rattle.gen_members.specs.Constants.{constant_of}
 use Rattle.jv_core.specs.Tree.{Program}
-use Rattle.gen_symbolic.specs.declared.symbolic.Symbolic.{Symbolic}
-use Rattle.gen_symbolic.specs.View.{operand_of, instr_of, instrs_of}
+use Rattle.gen_expressions.specs.declared.symbolic.Symbolic.{Symbolic}
+use Rattle.gen_expressions.specs.View.{operand_of, instr_of, instrs_of}
 use Rattle.gen_pool.specs.Made.{IsMade}
 use Rattle.gen_members.specs.declared.laying.Laid.{Laid as KeptLaid}
 use Rattle.gen_members.specs.Kept.{IsOneMore}

@@ -7,7 +7,7 @@ use Rattle.cls_tree.specs.Pool.{Reference}
 use Rattle.vm_model.specs.declared.linked.Built.{Built}
 use Rattle.vm_model.specs.BuiltIns.{BuiltMember, built_member}
 use Rattle.gen_rules.specs.Symbolic.{Field, Method}
-use Rattle.gen_symbolic.specs.View.{built_in_of}
+use Rattle.gen_expressions.specs.View.{built_in_of}
 use Rattle.gen_members.specs.Constants.{constant_of}
 
 abbrev named : BuiltMember → Reference

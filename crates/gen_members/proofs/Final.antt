@@ -2,8 +2,8 @@
 use Rattle.std.proofs.Common.{◌≡◌, ℕ, List, refl}
 use Rattle.cls_tree.specs.Tree as file
 use Rattle.vm_model.specs.declared.linked.Built.{Built}
-use Rattle.gen_symbolic.specs.View.{built_in_of}
-use Rattle.gen_symbolic.proofs.BuiltIns.{of_members}
+use Rattle.gen_expressions.specs.View.{built_in_of}
+use Rattle.gen_expressions.proofs.BuiltIns.{of_members}
 use Rattle.gen_members.specs.Laid.{final_op, final_args}
 
 pub built_in_op : (b : Built) (op k : ℕ) → final_op op (built_in_of b) k ≡ op

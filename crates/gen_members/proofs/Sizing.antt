@@ -13,8 +13,8 @@ use Rattle.cls_tree.specs.Tree as file
 use Rattle.cls_tree.specs.Layout.{pad, s4, highest, args_bytes, instr_bytes}
 use Rattle.vm_model.specs.declared.linked.Built.{Built}
 use Rattle.gen_rules.specs.Symbolic.{Operand, Nothing, Number, Constant, Local, Jump, Table, Class, Field, Method}
-use Rattle.gen_symbolic.specs.View.{built_in_of}
-use Rattle.gen_symbolic.proofs.BuiltIns.{of_members}
+use Rattle.gen_expressions.specs.View.{built_in_of}
+use Rattle.gen_expressions.proofs.BuiltIns.{of_members}
 use Rattle.gen_members.specs.Laid.{size_at}
 use Rattle.gen_members.specs.Sizes.{number_size, local_size, jump_size, table_size, pool_size, sized}
 

@@ -8,7 +8,7 @@ use Rattle.gen_rules.specs.Classes.{Compiled}
 use Rattle.gen_rules.specs.Limits.{Limit, Excess, Part, told, exceeded_by, first_in_parts}
 use Rattle.gen_members.specs.declared.faults.GenFault.{GenFault}
 use Rattle.gen_members.specs.Told.{Tells}
-use Rattle.gen_symbolic.specs.View.{instrs_of}
+use Rattle.gen_expressions.specs.View.{instrs_of}
 use Rattle.gen_members.specs.declared.members.Making.{Making}
 
 -- a method whose code is made

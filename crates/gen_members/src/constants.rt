@@ -3,15 +3,15 @@
 ghost use Rattle.std.specs.Prelude.{◌≡◌, IfOk, map, slice_get, option_map, option_and_then};
 ghost use Rattle.jv_core.specs.View.{field_of};
 ghost use Rattle.gen_rules.specs.Members.{field_reference, method_reference};
-ghost use Rattle.gen_symbolic.specs.View.{operand_of, built_in_of};
+ghost use Rattle.gen_expressions.specs.View.{operand_of, built_in_of};
 ghost use Rattle.gen_pool.specs.Made.{IsMade, IsFrontOf};
 ghost use Rattle.gen_members.specs.Constants.{constant_of, field_of_reference, method_of_reference};
 
 use crate::descriptors::{field_descriptor, method_descriptor};
 use crate::names::class_name;
 use cls_tree::opcodes::GETSTATIC;
+use gen_expressions::Operand;
 use gen_pool::{Pool, class_const, field_const, int_const, method_const, text_const};
-use gen_symbolic::Operand;
 use jv_core::{Core, CoreField, name_text};
 use mg_text::Memory;
 use std::alloc::Global;

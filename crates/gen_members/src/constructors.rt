@@ -4,11 +4,11 @@ ghost use Rattle.std.specs.Prelude.{◌≡◌, ◌++◌, IfOk, OnOk, map};
 ghost use Rattle.jv_core.specs.Tree.{Program};
 ghost use Rattle.jv_core.specs.View.{class_of, field_of};
 ghost use Rattle.gen_rules.specs.Classes.{initialised, all_initialised, constructor_code};
-ghost use Rattle.gen_symbolic.specs.View.{instrs_of};
+ghost use Rattle.gen_expressions.specs.View.{instrs_of};
 
 use crate::pushed::{plain, push_constant};
 use cls_tree::opcodes::{ALOAD_0, INVOKESPECIAL, PUTFIELD, RETURN};
-use gen_symbolic::{Operand, Symbolic};
+use gen_expressions::{Operand, Symbolic};
 use jv_core::{CoreClass, CoreField};
 use mg_text::{List, Memory};
 use std::alloc::Global;

@@ -3,15 +3,15 @@
 ghost use Rattle.std.specs.Prelude.{◌≡◌, IfOk, length, map};
 ghost use Rattle.cls_tree.specs.View.{args_of, instr_of, instrs_of};
 ghost use Rattle.jv_core.specs.Tree.{Program};
-ghost use Rattle.gen_symbolic.specs.View.{operand_of, instr_of as symbolic_of, instrs_of as symbolics_of};
+ghost use Rattle.gen_expressions.specs.View.{operand_of, instr_of as symbolic_of, instrs_of as symbolics_of};
 ghost use Rattle.gen_rules.specs.Assembled.{distance};
 ghost use Rattle.gen_members.specs.Laid.{final_op, final_args, finals};
 
 use crate::laying::Laid;
 use cls_tree::opcodes::{LDC, LDC_W};
 use cls_tree::{Args, Instr};
+use gen_expressions::{Operand, Symbolic};
 use gen_pool::short;
-use gen_symbolic::{Operand, Symbolic};
 use mg_text::{List, Memory};
 use std::alloc::Global;
 

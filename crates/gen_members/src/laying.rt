@@ -1,15 +1,15 @@
 //! The numbers of a code's constants, and the places of its instructions.
 
 ghost use Rattle.std.specs.Prelude.{◌≡◌, IfOk, OnOk};
-ghost use Rattle.gen_symbolic.specs.View.{instrs_of};
+ghost use Rattle.gen_expressions.specs.View.{instrs_of};
 ghost use Rattle.gen_pool.specs.Made.{IsMade, IsFrontOf};
 ghost use Rattle.gen_members.specs.Laid.{laid};
 ghost use Rattle.gen_members.specs.Kept.{laid_of, IsOneMore};
 
 use crate::constants::constant;
 use crate::sizes::size_at;
+use gen_expressions::Symbolic;
 use gen_pool::Pool;
-use gen_symbolic::Symbolic;
 use jv_core::Core;
 use mg_text::Memory;
 use std::alloc::Global;

@@ -4,7 +4,7 @@ ghost use Rattle.std.specs.Prelude.{◌≡◌, None, [], ◌∷◌, IfOk, OnOk, 
 ghost use Rattle.cls_tree.specs.View.{code_of, member_of};
 ghost use Rattle.cls_tree.specs.Tree as file;
 ghost use Rattle.jv_core.specs.Tree.{Program, Class as CoreClass};
-ghost use Rattle.gen_symbolic.specs.View.{instrs_of};
+ghost use Rattle.gen_expressions.specs.View.{instrs_of};
 ghost use Rattle.gen_rules.specs.Classes.{code_in_file, method_in_file};
 ghost use Rattle.gen_rules.specs.Limits.{OfMethod, exceeded_by, exceeded_by_code};
 ghost use Rattle.gen_pool.specs.Made.{IsMade, IsFrontOf};
@@ -16,8 +16,8 @@ use crate::faults::{GenFault, Telling, judge};
 use crate::finals::final_code;
 use crate::laying::{Laid, lay_out};
 use cls_tree::{Attr, Code, Member};
+use gen_expressions::Symbolic;
 use gen_pool::{Pool, short};
-use gen_symbolic::Symbolic;
 use jv_core::Core;
 use mg_text::{List, Memory, Place};
 use std::alloc::Global;

@@ -5,10 +5,10 @@ ghost use Rattle.jv_core.specs.Tree.{Program};
 ghost use Rattle.jv_core.specs.View.{expr_of};
 ghost use Rattle.gen_rules.specs.Symbolic.{plain, push, push_truth};
 ghost use Rattle.gen_rules.specs.Classes.{push_constant};
-ghost use Rattle.gen_symbolic.specs.View.{instr_of};
+ghost use Rattle.gen_expressions.specs.View.{instr_of};
 
 use cls_tree::opcodes::{ACONST_NULL, BIPUSH, ICONST_0, LDC, SIPUSH};
-use gen_symbolic::{Operand, Symbolic};
+use gen_expressions::{Operand, Symbolic};
 use jv_core::{CoreExpr, CoreExprKind};
 use mg_text::Memory;
 

@@ -2,12 +2,12 @@
 
 ghost use Rattle.std.specs.Prelude.{◌≡◌, ◌≤◌, ◌<◌, ◌^◌};
 ghost use Rattle.jv_core.specs.Tree.{Program};
-ghost use Rattle.gen_symbolic.specs.View.{operand_of};
+ghost use Rattle.gen_expressions.specs.View.{operand_of};
 ghost use Rattle.gen_members.specs.Laid.{size_at};
 ghost use Rattle.gen_members.specs.Sizes.{number_size, local_size, jump_size, table_size, pool_size, sized};
 
 use cls_tree::{Form, form_of};
-use gen_symbolic::{Operand, Symbolic};
+use gen_expressions::{Operand, Symbolic};
 
 /// How many bytes a number takes behind an opcode of a form.
 fn number_size(form: Option<Form>) -> usize

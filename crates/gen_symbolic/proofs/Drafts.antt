@@ -28,10 +28,9 @@ use Rattle.gen_expressions.specs.Drafting.{Draft, Step, skip, ◌then◌, emit, 
 use Rattle.gen_expressions.specs.Drafting as forms
 use Rattle.gen_symbolic.specs.inner.Drafting.{count}
 use Rattle.gen_symbolic.specs.inner.Drafting as drafts
-use Rattle.gen_expressions.proofs.Follows.{Grows, grows_none, grows_more, grows_label, Final, Follows, follows_as, follows_skip, follows_emit}
-use Rattle.gen_expressions.proofs.Follows.{follows_then, follows_ahead, follows_behind}
+use Rattle.gen_expressions.proofs.Follows.{Grows, grows_none, grows_more, grows_label, Final, Follows, follows_as, follows_skip}
+use Rattle.gen_expressions.proofs.Follows.{follows_emit, follows_then, follows_ahead, follows_behind}
 use Rattle.gen_expressions.proofs.Forms.{stays_if, text_follows, expr_follows, value_follows, store_follows, discard_follows}
-
 
 module _ (p : Program) (m : Method) (final : List Instr) (ls : List ℕ) where
   abbrev F : Step → Span → Type 0
@@ -463,13 +462,15 @@ module _ (p : Program) (m : Method) (final : List Instr) (ls : List ℕ) where
           (λ t from to. (starts : List ℕ) × (templates.value p m final scope e
           before one final (tableswitch (default_at gs starts t) (targets gs starts t ns)) before S t starts) from to)
           (λ x. follows_as final ls _ _ _ (value_tabled gs ns (templates.value p m final scope e) S (at x))
-          (and_then (value_follows p m final ls scope e) (switched_follows gs x ns _ (S (at x)) (groups_follow scope (around.Switch x ∷ ts) gs))))
+          (and_then (value_follows p m final ls scope e)
+          (switched_follows gs x ns _ (S (at x)) (groups_follow scope (around.Switch x ∷ ts) gs))))
       statement_follows scope ts (Break q n) = goes _ _ (break_led ts n)
       statement_follows scope ts (Continue q n) = goes _ _ (continue_led ts n)
       statement_follows scope ts (Return q None) = emits _ refl
       statement_follows scope ts (Return q (Some e)) = and_then (value_follows p m final ls scope e) (emits _ (return_stays m.result))
       statement_follows scope ts (Print q e) =
-          and_then (and_then (and_then (emits _ refl) (value_follows p m final ls scope e)) (text_follows p m final ls (type_of p m e))) (emits _ refl)
+          and_then (and_then (and_then (emits _ refl) (value_follows p m final ls scope e)) (text_follows p m final ls (type_of p m e)))
+          (emits _ refl)
       statement_follows scope ts (Eval q e) = and_then (value_follows p m final ls scope e) (discard_follows p m final ls (type_of p m e))
 
       statements_follow : (scope : List ℕ) (ts : List Around) (s : Stmts) →
@@ -477,7 +478,8 @@ module _ (p : Program) (m : Method) (final : List Instr) (ls : List ℕ) where
       statements_follow scope ts NoStmt = skips
       statements_follow scope ts (Then s more) = and_then (statement_follows scope ts s) (statements_follow scope ts more)
       statements_follow scope ts (Declare q k e more) =
-          and_then (and_then (value_follows p m final ls scope e) (store_follows p m final ls (k ∷ scope) k)) (statements_follow (k ∷ scope) ts more)
+          and_then (and_then (value_follows p m final ls scope e) (store_follows p m final ls (k ∷ scope) k))
+          (statements_follow (k ∷ scope) ts more)
 
       groups_follow : (scope : List ℕ) (ts : List Around) (gs : Groups) →
           GroupsFollow gs (drafts.groups p m scope ts gs) (templates.groups p m final scope (led ts) gs)

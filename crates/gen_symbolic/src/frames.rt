@@ -151,7 +151,12 @@ fn depths_of_two(coder: &Coder<'_>, left: &CoreExpr, right: &CoreExpr) -> Result
 }
 
 #[cycle(depths)]
-fn binary_depths(coder: &Coder<'_>, op: CoreOp, left: &CoreExpr, right: &CoreExpr) -> Result<Depths, Memory>
+fn binary_depths(
+    coder: &Coder<'_>,
+    op: CoreOp,
+    left: &CoreExpr,
+    right: &CoreExpr,
+) -> Result<Depths, Memory>
     ensures { IfOk result (λ d. depths_of d ≡ binary_depths op (compared (expr_of left.now) (expr_of right.now))
         (depths coder.now.core.now (method_in coder.now) (expr_of left.now))
         (depths coder.now.core.now (method_in coder.now) (expr_of right.now))) }

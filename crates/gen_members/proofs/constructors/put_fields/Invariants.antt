@@ -2,7 +2,7 @@ use Rattle.std.proofs.Common.{◌≡◌, ◌++◌, map, drop}
 use Rattle.jv_core.specs.Tree.{Program}
 use Rattle.jv_core.specs.View.{field_of}
 use Rattle.gen_rules.specs.Classes.{all_initialised}
-use Rattle.gen_symbolic.specs.View.{instrs_of}
+use Rattle.gen_expressions.specs.View.{instrs_of}
 use Rattle.gen_members.proofs.constructors.put_fields.Given as goal
 
 abbrev pub invariant-loop-number : goal.invariant-loop-number

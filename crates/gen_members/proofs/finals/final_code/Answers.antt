@@ -1,6 +1,6 @@
 use Rattle.std.proofs.Common.{refl}
 use Rattle.cls_tree.specs.View.{instrs_of}
-use Rattle.gen_symbolic.specs.View.{instrs_of as symbolics_of}
+use Rattle.gen_expressions.specs.View.{instrs_of as symbolics_of}
 use Rattle.gen_members.specs.Laid.{finals}
 use Rattle.gen_members.proofs.Assembling.{all_made}
 use Rattle.gen_members.proofs.finals.final_code.Goals as goal

@@ -1,7 +1,7 @@
 use Rattle.std.proofs.Common.{drop}
 use Rattle.cls_tree.specs.View.{instrs_of}
 use Rattle.jv_core.specs.Tree.{Program}
-use Rattle.gen_symbolic.specs.View.{instrs_of as symbolics_of}
+use Rattle.gen_expressions.specs.View.{instrs_of as symbolics_of}
 use Rattle.gen_members.specs.Laid.{finals}
 use Rattle.gen_members.proofs.Assembling.{AreLeft}
 use Rattle.gen_members.proofs.finals.final_code.Given as goal

@@ -1,4 +1,4 @@
-use Rattle.gen_symbolic.specs.View.{instrs_of}
+use Rattle.gen_expressions.specs.View.{instrs_of}
 use Rattle.gen_members.proofs.Assembling.{begins, lay_more, laid_done}
 use Rattle.std.proofs.Common.{subst}
 use Rattle.gen_pool.proofs.Fronts.{front_none, front_twice}

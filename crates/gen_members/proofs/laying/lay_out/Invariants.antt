@@ -1,5 +1,5 @@
 use Rattle.std.proofs.Common.{drop}
-use Rattle.gen_symbolic.specs.View.{instrs_of}
+use Rattle.gen_expressions.specs.View.{instrs_of}
 use Rattle.gen_pool.specs.Made.{IsFrontOf}
 use Rattle.gen_members.specs.Laid.{laid}
 use Rattle.gen_members.proofs.Assembling.{IsLeft}

@@ -1,7 +1,7 @@
 use Rattle.std.proofs.Common.{ap, ◌∙◌, sym, subst}
 use Rattle.std.proofs.lemmas.List.{length-map}
 use Rattle.std.proofs.lemmas.Result.{err_from_is_err_and}
-use Rattle.gen_symbolic.specs.View.{instr_of, instrs_of}
+use Rattle.gen_expressions.specs.View.{instr_of, instrs_of}
 use Rattle.gen_pool.specs.Made.{IsMade}
 use Rattle.gen_members.specs.Kept.{laid_of}
 use Rattle.gen_members.specs.Laid.{laid}

@@ -3,7 +3,7 @@ use Rattle.std.proofs.lemmas.List.{length-map}
 use Rattle.std.proofs.lemmas.Result.{err_from_is_err_and}
 use Rattle.cls_tree.specs.Emitted.{utf8}
 use Rattle.cls_tree.specs.Tree as file
-use Rattle.gen_symbolic.specs.View.{instr_of, instrs_of}
+use Rattle.gen_expressions.specs.View.{instr_of, instrs_of}
 use Rattle.gen_pool.specs.Made.{IsMade}
 use Rattle.gen_members.specs.Kept.{laid_of}
 use Rattle.gen_members.specs.Laid.{laid}

@@ -1,5 +1,5 @@
 use Rattle.std.proofs.Common.{suc, sym, ap, ◌∙◌, one-add}
-use Rattle.gen_symbolic.specs.View.{operand_of}
+use Rattle.gen_expressions.specs.View.{operand_of}
 use Rattle.gen_members.specs.Sizes.{sized}
 use Rattle.gen_members.proofs.Sizing.{takes}
 use Rattle.gen_members.proofs.sizes.size_at.Goals as goal
