@@ -85,17 +85,17 @@ fn assigned(coder: &Coder<'_>, target: Var, value: u32) -> Result<u32, Memory>
 
 #[tactic(auto, using(gen_expressions::proofs::Seen::seen))]
 #[cycle(depths)]
-fn depths(coder: &Coder<'_>, expr: &CoreExpr) -> Result<Depths, Memory>
+fn expression_depths(coder: &Coder<'_>, expr: &CoreExpr) -> Result<Depths, Memory>
     ensures { IfOk result (λ d. depths_of d ≡ depths coder.now.core.now (method_in coder.now) (expr_of expr.now)) }
 {
     match &expr.kind {
         CoreExprKind::Truth(_) => Ok(Depths { value: 1, jump: 0 }),
         CoreExprKind::Neg(inner) => {
-            let inner = depths(coder, inner)?;
+            let inner = expression_depths(coder, inner)?;
             Ok(Depths::by_value(inner.value))
         }
         CoreExprKind::Not(inner) => {
-            let inner = depths(coder, inner)?;
+            let inner = expression_depths(coder, inner)?;
             Ok(Depths::by_jumps(inner.jump))
         }
         CoreExprKind::Binary(op, left, right) => binary_depths(coder, *op, left, right),
@@ -144,8 +144,8 @@ fn depths_of_two(coder: &Coder<'_>, left: &CoreExpr, right: &CoreExpr) -> Result
         (two_depths (depths coder.now.core.now (method_in coder.now) (expr_of left.now))
         (depths coder.now.core.now (method_in coder.now) (expr_of right.now)))) }
 {
-    let left = depths(coder, left)?;
-    let right = depths(coder, right)?;
+    let left = expression_depths(coder, left)?;
+    let right = expression_depths(coder, right)?;
     let depth = left.two(right)?;
     Ok(Depths::by_value(depth))
 }
@@ -163,8 +163,8 @@ fn binary_depths(
 {
     match op {
         CoreOp::Or | CoreOp::And => {
-            let left = depths(coder, left)?;
-            let right = depths(coder, right)?;
+            let left = expression_depths(coder, left)?;
+            let right = expression_depths(coder, right)?;
             Ok(Depths::by_jumps(left.jump.max(right.jump)))
         }
         CoreOp::Add | CoreOp::Sub | CoreOp::Mul | CoreOp::Div | CoreOp::Rem => {
@@ -184,15 +184,15 @@ fn comparison_depths(coder: &Coder<'_>, left: &CoreExpr, right: &CoreExpr) -> Re
         (depths coder.now.core.now (method_in coder.now) (expr_of right.now))) }
 {
     if is_null(right) {
-        let left = depths(coder, left)?;
+        let left = expression_depths(coder, left)?;
         return Ok(Depths::by_jumps(left.value));
     }
     if is_null(left) {
-        let right = depths(coder, right)?;
+        let right = expression_depths(coder, right)?;
         return Ok(Depths::by_jumps(right.value));
     }
-    let left = depths(coder, left)?;
-    let right = depths(coder, right)?;
+    let left = expression_depths(coder, left)?;
+    let right = expression_depths(coder, right)?;
     let depth = left.two(right)?;
     Ok(Depths::by_jumps(depth))
 }
@@ -207,7 +207,7 @@ fn arguments_depth(coder: &Coder<'_>, args: &[CoreExpr]) -> Result<u32, Memory>
     let mut left = args.len();
     while left > 0 {
         left -= 1;
-        let first = depths(coder, &args[left])?;
+        let first = expression_depths(coder, &args[left])?;
         depth = first.value.max(deeper(depth)?);
     }
     Ok(depth)
@@ -260,7 +260,7 @@ fn depth_of(coder: &Coder<'_>, stmt: &CoreStmt) -> Result<u32, Memory>
 fn value_depth(coder: &Coder<'_>, expr: &CoreExpr) -> Result<u32, Memory>
     ensures { IfOk result (λ n. n ≡ (depths coder.now.core.now (method_in coder.now) (expr_of expr.now)).value) }
 {
-    let depths = depths(coder, expr)?;
+    let depths = expression_depths(coder, expr)?;
     Ok(depths.value)
 }
 
@@ -270,7 +270,7 @@ fn guarded_depth(coder: &Coder<'_>, condition: &CoreExpr, inner: &CoreStmt) -> R
     ensures { IfOk result (λ n. n ≡ max (depths coder.now.core.now (method_in coder.now) (expr_of condition.now)).jump
         (depth_of coder.now.core.now (method_in coder.now) (stmt_of inner.now))) }
 {
-    let condition = depths(coder, condition)?;
+    let condition = expression_depths(coder, condition)?;
     let inner = depth_of(coder, inner)?;
     Ok(condition.jump.max(inner))
 }

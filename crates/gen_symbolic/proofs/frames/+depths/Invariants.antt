@@ -14,8 +14,8 @@ invariant-arguments_depth-loop-left l = record {
 abbrev pub decreases-arguments_depth-loop-left : goal.decreases-arguments_depth-loop-left
 decreases-arguments_depth-loop-left l = l.left
 
-abbrev pub decreases-depths : goal.decreases-depths
-decreases-depths l = 4 * goal.size-depths l + 0
+abbrev pub decreases-expression_depths : goal.decreases-expression_depths
+decreases-expression_depths l = 4 * goal.size-expression_depths l + 0
 
 abbrev pub decreases-arguments_depth : goal.decreases-arguments_depth
 decreases-arguments_depth l = 4 * goal.size-arguments_depth l + 1
