@@ -10,7 +10,7 @@ pub const MAGIC: u32 = 0xcafe_babe;
 pub const VERSION: u16 = 49;
 
 /// What a field is.
-#[derive(Clone, Copy, Debug, PartialEq, Eq)]
+#[derive(Clone, Copy)]
 pub enum Part {
     Magic,
     Minor,
@@ -57,7 +57,7 @@ pub enum Part {
 }
 
 /// A field, and where it begins.
-#[derive(Clone, Copy, Debug, PartialEq, Eq)]
+#[derive(Clone, Copy)]
 pub struct Field {
     pub at: u32,
     pub part: Part,
@@ -65,7 +65,7 @@ pub struct Field {
 
 /// The fields laid out so far, where the next begins, where the pool's constants begin,
 /// and the parts that are due, of which the last is next.
-#[derive(Debug, Drop)]
+#[derive(Drop)]
 pub struct Layout {
     pub row: List<Field>,
     pub at: u32,
