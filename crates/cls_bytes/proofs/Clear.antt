@@ -6,16 +6,16 @@ use Rattle.std.proofs.lemmas.List.{drop-drop}
 use Rattle.std.specs.List.{AllByRecursion}
 use Rattle.byteorder.specs.Endian.{big_number}
 use Rattle.mg_read.specs.Reader.{Reader}
-use Rattle.cls_bytes.specs.declared.format.Part.{Part}
-use Rattle.cls_bytes.specs.declared.format.Part.TheVariants as parts
-use Rattle.cls_bytes.specs.declared.format.Field.{Field}
-use Rattle.cls_bytes.specs.declared.ClassFault.{ClassFault}
-use Rattle.cls_bytes.specs.Parts.{size, brings, ends_row, is_tag}
-use Rattle.cls_bytes.specs.Row.{number, is_cut, is_code, entered, stops, due_behind, Lays, stopped, next}
-use Rattle.cls_bytes.specs.Faults.{unless, judged_name, ends_here, ends_well, Judges, whole, First, behind}
-use Rattle.cls_bytes.specs.Laying.{field}
+use Rattle.cls_layout.specs.declared.format.Part.{Part}
+use Rattle.cls_layout.specs.declared.format.Part.TheVariants as parts
+use Rattle.cls_layout.specs.declared.format.Field.{Field}
+use Rattle.cls_layout.specs.declared.ClassFault.{ClassFault}
+use Rattle.cls_layout.specs.Parts.{size, brings, ends_row, is_tag}
+use Rattle.cls_layout.specs.Row.{number, is_cut, is_code, entered, stops, due_behind, Lays, stopped, next}
+use Rattle.cls_layout.specs.Faults.{unless, judged_name, ends_here, ends_well, Judges, whole, First, behind}
+use Rattle.cls_layout.specs.Laying.{field}
 use Rattle.cls_bytes.specs.Reading.{number_at, counted}
-use Rattle.cls_bytes.proofs.Laid.{end_within}
+use Rattle.cls_layout.proofs.Laid.{end_within}
 
 -- what is laid out from here on is all right
 pub record Clear (bytes last places : List ℕ) (at : ℕ) (due : List Part) : Type 0 where

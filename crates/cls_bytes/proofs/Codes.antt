@@ -19,7 +19,8 @@ use Rattle.cls_code.proofs.Stands.{stands, seen}
 use Rattle.cls_code.proofs.Once.{decodes_once}
 use Rattle.cls_bytes.specs.Reading.{number_at, behind, pair_at, in_front, instrs_from, is_none, is_sound, instrs_of, run_at, inner_at}
 use Rattle.cls_bytes.specs.Reading.{listed_at, body_at, inners_at, content_at, code_at, other_at, attr_at}
-use Rattle.cls_bytes.proofs.Steps.{IsBytes, IsBytes-drop, IsBytes-take, Takes, Takes-then, IsSound, IsComplete, read, held, passed}
+use Rattle.cls_layout.proofs.Held.{held, passed}
+use Rattle.cls_bytes.proofs.Steps.{IsBytes, IsBytes-drop, IsBytes-take, Takes, Takes-then, IsSound, IsComplete, read}
 use Rattle.cls_bytes.proofs.Numbers.{IsU4, u2_sound, u2_complete, u4_sound, u4_complete, behind_sound, behind_complete}
 use Rattle.cls_bytes.proofs.Consts.{pair_bytes, FitPair, pair_sound, pair_complete}
 use Rattle.cls_bytes.proofs.Lists.{listed_bytes, FitListed, listed_sound, listed_complete}

@@ -15,9 +15,10 @@ use Rattle.cls_tree.specs.Fits.{IsU2, FitsConst}
 use Rattle.cls_tree.specs.Modified.{modified}
 use Rattle.cls_code.proofs.Spelled.{ints_back, ints_told, ints_fit}
 use Rattle.cls_bytes.specs.Reading.{number_at, text_at, one_at, pair_at, two_at, int_at, tagged_at, const_at}
-use Rattle.cls_bytes.specs.Letters.{letters}
-use Rattle.cls_bytes.proofs.Modified.{letters_read, letters_given}
-use Rattle.cls_bytes.proofs.Steps.{IsBytes, IsBytes-drop, IsBytes-rest, Takes, Takes-then, IsSound, IsComplete, read, passed}
+use Rattle.cls_layout.specs.Letters.{letters}
+use Rattle.cls_layout.proofs.Modified.{letters_read, letters_given}
+use Rattle.cls_layout.proofs.Held.{passed}
+use Rattle.cls_bytes.proofs.Steps.{IsBytes, IsBytes-drop, IsBytes-rest, Takes, Takes-then, IsSound, IsComplete, read}
 use Rattle.cls_bytes.proofs.Numbers.{IsU4, u2_sound, u2_complete, u4_sound, u4_complete}
 
 abbrev IsText : List ℕ → Type 0

@@ -2,7 +2,6 @@ pub mod Codes
 pub mod Consts
 pub mod Counted
 pub mod Lists
-pub mod Modified
 pub mod Numbers
 pub mod Parts
 pub mod Refusals
@@ -10,9 +9,6 @@ pub mod Steps
 pub mod Whole
 pub mod Written
 pub mod Files
-pub mod Stacks
-pub mod Laid
-pub mod Judged
 pub mod Clear
 pub mod Productions
 pub mod Pools

@@ -10,7 +10,8 @@ use Rattle.mg_read.proofs.Steps.{some_is}
 use Rattle.cls_tree.specs.Layout.{u2, u4}
 use Rattle.cls_tree.specs.Fits.{IsU2}
 use Rattle.cls_bytes.specs.Reading.{number_at, behind}
-use Rattle.cls_bytes.proofs.Steps.{IsBytes, IsBytes-drop, IsBytes-take, Takes, IsSound, IsComplete, read, held, passed}
+use Rattle.cls_layout.proofs.Held.{held, passed}
+use Rattle.cls_bytes.proofs.Steps.{IsBytes, IsBytes-drop, IsBytes-take, Takes, IsSound, IsComplete, read}
 
 abbrev pub IsU4 : ℕ → Type 0
 IsU4 n = n < 2 ^ 32

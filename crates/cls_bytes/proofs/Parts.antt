@@ -12,7 +12,8 @@ use Rattle.cls_tree.specs.WellFormed.{is_code}
 use Rattle.cls_tree.specs.Fits.{IsU2, FitsConst}
 use Rattle.cls_tree.specs.ClassFile.{FileAttr, FileMember}
 use Rattle.cls_bytes.specs.Reading.{number_at, const_at, attr_at, counted, listed_at, three_at, member_at, Members, members_at, pool_at}
-use Rattle.cls_bytes.proofs.Steps.{Takes, Takes-then, IsSound, IsComplete, read, passed}
+use Rattle.cls_layout.proofs.Held.{passed}
+use Rattle.cls_bytes.proofs.Steps.{Takes, Takes-then, IsSound, IsComplete, read}
 use Rattle.cls_bytes.proofs.Numbers.{u2_sound, u2_complete}
 use Rattle.cls_bytes.proofs.Consts.{const_sound, const_complete}
 use Rattle.cls_bytes.proofs.Codes.{attr_sound, attr_complete}

@@ -18,15 +18,15 @@ use Rattle.cls_tree.specs.Modified.{modified}
 use Rattle.cls_tree.proofs.Plain.{modified_plain}
 use Rattle.cls_tree.specs.Pool.{tag_of, text_in}
 use Rattle.cls_tree.specs.ClassFile.{is_code_text as is_code_name}
-use Rattle.cls_bytes.specs.declared.format.Part.{Part}
-use Rattle.cls_bytes.specs.declared.format.Part.TheVariants as parts
-use Rattle.cls_bytes.specs.declared.format.Field.{Field}
-use Rattle.cls_bytes.specs.Parts.{is_tag, holds}
-use Rattle.cls_bytes.specs.Row.{number, is_bad_entry, is_code_text, entered, Lays, complete, stopped, next}
-use Rattle.cls_bytes.specs.Faults.{unless, JudgesText, spelled}
-use Rattle.cls_bytes.specs.Letters.{letters}
+use Rattle.cls_layout.specs.declared.format.Part.{Part}
+use Rattle.cls_layout.specs.declared.format.Part.TheVariants as parts
+use Rattle.cls_layout.specs.declared.format.Field.{Field}
+use Rattle.cls_layout.specs.Parts.{is_tag, holds}
+use Rattle.cls_layout.specs.Row.{number, is_bad_entry, is_code_text, entered, Lays, complete, stopped, next}
+use Rattle.cls_layout.specs.Faults.{unless, JudgesText, spelled}
+use Rattle.cls_layout.specs.Letters.{letters}
 use Rattle.cls_bytes.specs.Reading.{text_at, one_at, pair_at, two_at, int_at, tagged_at, const_at, counted}
-use Rattle.cls_bytes.proofs.Modified.{letters_given}
+use Rattle.cls_layout.proofs.Modified.{letters_given}
 use Rattle.cls_bytes.proofs.Clear.{Clear, num, step, Got}
 use Rattle.cls_bytes.proofs.Productions.{not_bad}
 

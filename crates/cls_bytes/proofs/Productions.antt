@@ -18,13 +18,13 @@ use Rattle.cls_tree.specs.Layout.{instr_bytes}
 use Rattle.cls_tree.specs.ClassFile.{is_code_text, names_code}
 use Rattle.cls_tree.specs.WellFormed.{IsText, IsClass, NamesCode, OpNames, ArgsName, InstrNames, InnerNames, PlainNames, MethodNames}
 use Rattle.cls_tree.specs.WellFormed.{is_code as is_coded, IsField_in, IsMethod_in}
-use Rattle.cls_bytes.specs.declared.format.Part.{Part}
-use Rattle.cls_bytes.specs.declared.format.Part.TheVariants as parts
-use Rattle.cls_bytes.specs.declared.format.Field.{Field}
-use Rattle.cls_bytes.specs.declared.ClassFault.{ClassFault}
-use Rattle.cls_bytes.specs.Parts.{attributes_left, attribute_holds}
-use Rattle.cls_bytes.specs.Row.{is_bad_entry, is_code}
-use Rattle.cls_bytes.specs.Faults.{unless, judged_name, ends_well, is_misnamed, args_misnamed, first_misnamed, JudgesCode, right}
+use Rattle.cls_layout.specs.declared.format.Part.{Part}
+use Rattle.cls_layout.specs.declared.format.Part.TheVariants as parts
+use Rattle.cls_layout.specs.declared.format.Field.{Field}
+use Rattle.cls_layout.specs.declared.ClassFault.{ClassFault}
+use Rattle.cls_layout.specs.Parts.{attributes_left, attribute_holds}
+use Rattle.cls_layout.specs.Row.{is_bad_entry, is_code}
+use Rattle.cls_layout.specs.Faults.{unless, judged_name, ends_well, is_misnamed, args_misnamed, first_misnamed, JudgesCode, right}
 use Rattle.cls_bytes.specs.Reading.{number_at, behind, pair_at, three_at, run_at, instrs_of, inner_at, counted, listed_at, body_at}
 use Rattle.cls_bytes.specs.Reading.{inners_at, content_at, code_at, other_at, attr_at, member_at, members_at}
 use Rattle.cls_bytes.proofs.Codes.{decoded_some}

@@ -1,7 +1,8 @@
 -- What the first code that can't be encoded is refused by, part by part.
 use Rattle.std.specs.List.{flat_map, AllByRecursion}
 use Rattle.std.proofs.lemmas.List.{drop_all}
-use Rattle.cls_bytes.proofs.Written.{map_drop_is, more, first_fits, others_fit, all_mapped}
+use Rattle.cls_layout.proofs.Drops.{map_drop_is}
+use Rattle.cls_bytes.proofs.Written.{more, first_fits, others_fit, all_mapped}
 use Rattle.std.proofs.Common.{◌≡◌, ◌<◌, ◌≤◌, ◌+◌, ℕ, Bool, true, false, cond, arith, List, [], ◌∷◌, ◌++◌, length, get_or, drop, map, subst}
 use Rattle.std.proofs.Common.{Option, Some, None, refl, sym, ap, ◌∙◌, append_assoc}
 use Rattle.std.specs.Prelude.{Result, Ok, Err}

@@ -10,11 +10,11 @@ use Rattle.cls_tree.specs.Pool.{tag_at, text_in}
 use Rattle.cls_tree.specs.Tree.{Class}
 use Rattle.cls_tree.specs.ClassFile.{is_code_text as is_code_name, names_code}
 use Rattle.cls_tree.specs.WellFormed.{ConstNames, IsWellFormed}
-use Rattle.cls_bytes.specs.declared.format.Part.TheVariants as parts
-use Rattle.cls_bytes.specs.declared.format.Field.{Field}
-use Rattle.cls_bytes.specs.Parts.{whole}
-use Rattle.cls_bytes.specs.Row.{number, is_bad_entry, is_code, is_code_text, pool_count, LaysAll}
-use Rattle.cls_bytes.specs.Faults.{First}
+use Rattle.cls_layout.specs.declared.format.Part.TheVariants as parts
+use Rattle.cls_layout.specs.declared.format.Field.{Field}
+use Rattle.cls_layout.specs.Parts.{whole}
+use Rattle.cls_layout.specs.Row.{number, is_bad_entry, is_code, is_code_text, pool_count, LaysAll}
+use Rattle.cls_layout.specs.Faults.{First}
 use Rattle.cls_bytes.specs.Reading.{behind, behind_head, pool_at, class_at}
 use Rattle.cls_bytes.specs.Spelling.{ClassSpells}
 use Rattle.cls_bytes.proofs.Whole.{class_sound}

@@ -4,16 +4,15 @@ use Rattle.cls_tree.specs.Tree.{Instr}
 use Rattle.cls_code.specs.declared.CodeFault.{CodeFault}
 use Rattle.cls_code.specs.Code.{Decodes, Decoding, Instrs, Fault}
 use Rattle.cls_code.proofs.Once.{decodes_once}
-use Rattle.cls_bytes.specs.declared.format.Part.{Part}
-use Rattle.cls_bytes.specs.declared.format.Part.TheVariants as parts
-use Rattle.cls_bytes.specs.declared.format.Field.{Field}
-use Rattle.cls_bytes.specs.declared.ClassFault.{ClassFault}
-use Rattle.cls_bytes.specs.declared.ClassFault.TheVariants as faults
-use Rattle.cls_bytes.specs.Parts.{size}
-use Rattle.cls_bytes.specs.Row.{Lays, complete, stopped, next, stops, entered, due_behind}
-use Rattle.cls_bytes.specs.Faults.{first_misnamed, JudgesText, spelled, unspelled, JudgesCode, faulty, misnamed, right, Judges, JudgesField}
-use Rattle.cls_bytes.specs.Faults.{cut, whole, First, clean, here, behind, moved, Fails}
-use Rattle.cls_bytes.specs.Spelling.{IsRight}
+use Rattle.cls_layout.specs.declared.format.Part.{Part}
+use Rattle.cls_layout.specs.declared.format.Part.TheVariants as parts
+use Rattle.cls_layout.specs.declared.format.Field.{Field}
+use Rattle.cls_layout.specs.declared.ClassFault.{ClassFault}
+use Rattle.cls_layout.specs.declared.ClassFault.TheVariants as faults
+use Rattle.cls_layout.specs.Parts.{size}
+use Rattle.cls_layout.specs.Row.{Lays, complete, stopped, next, stops, entered, due_behind}
+use Rattle.cls_layout.specs.Faults.{first_misnamed, JudgesText, spelled, unspelled, JudgesCode, faulty, misnamed, right, Judges, JudgesField}
+use Rattle.cls_layout.specs.Faults.{cut, whole, First, clean, here, behind, moved, Fails, IsRight}
 
 pub record SameRow (a b : List Field) (p q : List ℕ) : Type 0 where
   pub row : a ≡ b

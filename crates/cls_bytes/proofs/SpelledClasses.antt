@@ -11,15 +11,15 @@ use Rattle.cls_tree.specs.declared.class.Const.TheVariants as consts
 use Rattle.cls_tree.specs.Pool.{tag_of, tag_at}
 use Rattle.cls_tree.specs.Tree.{Class, Member, Attr}
 use Rattle.cls_tree.specs.WellFormed.{IsClass, ConstNames, IsField_in, IsMethod_in, PlainNames, IsWellFormed}
-use Rattle.cls_bytes.specs.declared.format.Part.{Part}
-use Rattle.cls_bytes.specs.declared.format.Part.TheVariants as parts
-use Rattle.cls_bytes.specs.Parts.{size}
-use Rattle.cls_bytes.specs.Row.{number, is_bad_entry, pool_count, complete}
-use Rattle.cls_bytes.specs.Faults.{clean}
+use Rattle.cls_layout.specs.declared.format.Part.{Part}
+use Rattle.cls_layout.specs.declared.format.Part.TheVariants as parts
+use Rattle.cls_layout.specs.Parts.{size}
+use Rattle.cls_layout.specs.Row.{number, is_bad_entry, pool_count, complete}
+use Rattle.cls_layout.specs.Faults.{clean, IsRight}
 use Rattle.cls_bytes.specs.Reading.{number_at, three_at, listed_at, attr_at, member_at, members_at, behind_head, pool_at, class_at}
 use Rattle.cls_bytes.specs.Reading as reading
-use Rattle.cls_bytes.specs.Spelling.{ClassSpells, IsRight}
-use Rattle.cls_bytes.proofs.Steps.{passed, held}
+use Rattle.cls_bytes.specs.Spelling.{ClassSpells}
+use Rattle.cls_layout.proofs.Held.{passed, held}
 use Rattle.cls_bytes.proofs.Whole.{class_complete}
 use Rattle.cls_bytes.proofs.Clear.{Clear, num}
 use Rattle.cls_bytes.proofs.Pools.{IsBytes, Named, Grown}

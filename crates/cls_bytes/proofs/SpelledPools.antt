@@ -11,15 +11,15 @@ use Rattle.cls_tree.specs.declared.class.Const.{Const}
 use Rattle.cls_tree.specs.declared.class.Const.TheVariants as consts
 use Rattle.cls_tree.specs.Pool.{tag_of, text_in}
 use Rattle.cls_tree.specs.ClassFile.{is_code_text as is_code_name}
-use Rattle.cls_bytes.specs.declared.format.Part.{Part}
-use Rattle.cls_bytes.specs.declared.format.Part.TheVariants as parts
-use Rattle.cls_bytes.specs.Parts.{is_tag, holds}
-use Rattle.cls_bytes.specs.Row.{number, is_code_text, is_bad_entry}
-use Rattle.cls_bytes.specs.Faults.{spelled}
-use Rattle.cls_bytes.specs.Letters.{letters}
+use Rattle.cls_layout.specs.declared.format.Part.{Part}
+use Rattle.cls_layout.specs.declared.format.Part.TheVariants as parts
+use Rattle.cls_layout.specs.Parts.{is_tag, holds}
+use Rattle.cls_layout.specs.Row.{number, is_code_text, is_bad_entry}
+use Rattle.cls_layout.specs.Faults.{spelled}
+use Rattle.cls_layout.specs.Letters.{letters}
 use Rattle.cls_bytes.specs.Reading.{text_at, one_at, pair_at, two_at, int_at, tagged_at, const_at, counted}
-use Rattle.cls_bytes.proofs.Steps.{passed}
-use Rattle.cls_bytes.proofs.Modified.{letters_read}
+use Rattle.cls_layout.proofs.Held.{passed}
+use Rattle.cls_layout.proofs.Modified.{letters_read}
 use Rattle.cls_bytes.proofs.Clear.{Clear, num}
 use Rattle.cls_bytes.proofs.Pools.{IsBytes, Named, front, byte_of, no_code, code_so, code_utf8, two_front}
 use Rattle.cls_bytes.proofs.SpelledRows.{back, tell, past, unless_right, unless_named}

@@ -23,18 +23,19 @@ use Rattle.cls_tree.specs.WellFormed.{IsText, NamesCode, OpNames, ArgsName, Inst
 use Rattle.cls_tree.specs.WellFormed.{is_code as is_coded, IsField_in, IsMethod_in}
 use Rattle.cls_code.specs.Code.{Decodes, Instrs}
 use Rattle.cls_code.specs.Code as decoded
-use Rattle.cls_bytes.specs.declared.format.Part.{Part}
-use Rattle.cls_bytes.specs.declared.format.Part.TheVariants as parts
-use Rattle.cls_bytes.specs.declared.format.Field.{Field}
-use Rattle.cls_bytes.specs.Parts.{size, brings, ends_row, attributes_left, content}
-use Rattle.cls_bytes.specs.Row.{number, is_cut, is_bad_entry, is_code, entered, stops, due_behind, next}
-use Rattle.cls_bytes.specs.Faults.{unless, judged_name, ends_here, ends_well, is_misnamed, args_misnamed, first_misnamed, Judges, right}
-use Rattle.cls_bytes.specs.Faults.{whole, behind}
-use Rattle.cls_bytes.specs.Laying.{field}
+use Rattle.cls_layout.specs.declared.format.Part.{Part}
+use Rattle.cls_layout.specs.declared.format.Part.TheVariants as parts
+use Rattle.cls_layout.specs.declared.format.Field.{Field}
+use Rattle.cls_layout.specs.Parts.{size, brings, ends_row, attributes_left, content}
+use Rattle.cls_layout.specs.Row.{number, is_cut, is_bad_entry, is_code, entered, stops, due_behind, next}
+use Rattle.cls_layout.specs.Faults.{unless, judged_name, ends_here, ends_well, is_misnamed, args_misnamed, first_misnamed, Judges, right}
+use Rattle.cls_layout.specs.Faults.{whole, behind}
+use Rattle.cls_layout.specs.Laying.{field}
 use Rattle.cls_bytes.specs.Reading.{number_at, pair_at, three_at, run_at, instrs_of, inner_at, counted, listed_at, body_at, inners_at}
 use Rattle.cls_bytes.specs.Reading.{content_at, code_at, other_at, attr_at, member_at, members_at}
 use Rattle.cls_bytes.specs.Reading as reading
-use Rattle.cls_bytes.proofs.Steps.{held, passed, IsBytes-take, IsBytes-drop}
+use Rattle.cls_layout.proofs.Held.{held, passed}
+use Rattle.cls_bytes.proofs.Steps.{IsBytes-take, IsBytes-drop}
 use Rattle.cls_bytes.proofs.Codes.{code_sound}
 use Rattle.cls_bytes.proofs.Clear.{Clear, num}
 use Rattle.cls_bytes.proofs.Productions.{Same, Any, code_named, count_more}

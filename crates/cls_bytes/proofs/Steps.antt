@@ -1,6 +1,6 @@
 -- What a reader takes from the front of bytes, step by step.
-use Rattle.std.proofs.Common.{◌≡◌, ℕ, suc, ◌+◌, ◌<◌, List, [], ◌∷◌, ◌++◌, get_or, take, drop, Bool, true, false, cond, Option, Some, None}
-use Rattle.std.proofs.Common.{refl, sym, ap, ◌∙◌, append_assoc, append-nil, length-take, arith, inl, inr}
+use Rattle.std.proofs.Common.{◌≡◌, ℕ, suc, ◌+◌, ◌<◌, List, [], ◌∷◌, ◌++◌, get_or, take, drop, Option, Some}
+use Rattle.std.proofs.Common.{sym, ap, ◌∙◌, append_assoc, append-nil, length-take, arith, inl, inr}
 use Rattle.std.proofs.lemmas.Bool.{cases_lt}
 use Rattle.std.proofs.lemmas.List.{get_or-drop, get_or-take, get_or_past}
 use Rattle.mg_read.specs.Reader.{Reader, ◌>>=◌}
@@ -59,13 +59,3 @@ read f spell ok next bytes y sound fits e =
     let x = bind_some (f bytes) next y e in
     let t = sound bytes x.0 fits x.1 in
     record { value = x.0.0; rest = x.0.1; takes = t.0; fits = t.1; goes_on = x.2 }
-
--- a test that held
-pub held : {A : Type 0} (b : Bool) (x : Option A) (y : A) → cond b x None ≡ Some y → (b ≡ true) × (x ≡ Some y)
-held true x y e = (refl, e)
-held false x y e = absurd cc
-
--- a test that failed
-pub passed : {A : Type 0} (b : Bool) (x : Option A) (y : A) → cond b None x ≡ Some y → (b ≡ false) × (x ≡ Some y)
-passed true x y e = absurd cc
-passed false x y e = (refl, e)

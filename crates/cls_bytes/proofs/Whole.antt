@@ -11,7 +11,8 @@ use Rattle.cls_tree.specs.Fits.{IsU2}
 use Rattle.cls_bytes.specs.File.{IsFile}
 use Rattle.std.specs.List.{flat_map}
 use Rattle.cls_bytes.specs.Reading.{behind, behind_head, three_at, pool_at, Members, members_at, class_at}
-use Rattle.cls_bytes.proofs.Steps.{IsBytes, Takes, Takes-then, Takes-all, read, held}
+use Rattle.cls_layout.proofs.Held.{held}
+use Rattle.cls_bytes.proofs.Steps.{IsBytes, Takes, Takes-then, Takes-all, read}
 use Rattle.cls_bytes.proofs.Numbers.{IsU4, u2_sound, u2_complete, u4_sound, u4_complete, behind_sound, behind_complete}
 use Rattle.cls_bytes.proofs.Parts.{three_bytes, FitThree, three_sound, three_complete, all_members_bytes, FitMembers, all_members_sound}
 use Rattle.cls_bytes.proofs.Parts.{all_members_complete, pool_bytes, FitPool, pool_sound, pool_complete}

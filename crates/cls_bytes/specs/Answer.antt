@@ -6,8 +6,8 @@ use Rattle.cls_tree.specs.Layout.{class_bytes}
 use Rattle.cls_tree.specs.declared.class.Class.{Class}
 use Rattle.cls_code.specs.declared.CodeFault.{CodeFault}
 use Rattle.cls_code.specs.Code.{Encoding, Code, Refused, encoding}
-use Rattle.cls_bytes.specs.declared.ClassFault.{ClassFault}
-use Rattle.cls_bytes.specs.declared.ClassFault.TheVariants as faults
+use Rattle.cls_layout.specs.declared.ClassFault.{ClassFault}
+use Rattle.cls_layout.specs.declared.ClassFault.TheVariants as faults
 use Rattle.cls_bytes.specs.declared.WriteFault.{WriteFault}
 use Rattle.cls_bytes.specs.declared.WriteFault.TheVariants as refused
 

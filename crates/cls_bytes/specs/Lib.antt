@@ -1,11 +1,5 @@
 pub mod Answer
-pub mod Faults
 pub mod File
-pub mod Judging
-pub mod Laying
-pub mod Letters
-pub mod Parts
 pub mod Puts
 pub mod Reading
-pub mod Row
 pub mod Spelling

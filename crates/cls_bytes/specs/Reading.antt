@@ -14,7 +14,7 @@ use Rattle.cls_tree.specs.Jumps.{first_outside}
 use Rattle.cls_code.specs.declared.CodeFault.{CodeFault}
 use Rattle.cls_code.specs.Code.{unfit}
 use Rattle.cls_code.specs.Inner.{instr_in, size_in}
-use Rattle.cls_bytes.specs.Letters.{letters}
+use Rattle.cls_layout.specs.Letters.{letters}
 
 -- a number of n bytes
 unfoldable pub number_at : ℕ → Reader ℕ ℕ

@@ -1,14 +1,12 @@
 -- Which bytes spell which class: the class is well formed and can be laid out, its codes are sound, and the bytes are its layout.
-use Rattle.std.specs.Prelude.{◌≡◌, ℕ, List, Option, Some, None, Result, Ok, Err}
+use Rattle.std.specs.Prelude.{◌≡◌, ℕ, List, Result, Ok, Err}
 use Rattle.cls_tree.specs.Tree.{Class}
 use Rattle.cls_tree.specs.Layout.{class_bytes}
 use Rattle.cls_tree.specs.WellFormed.{IsWellFormed}
 use Rattle.cls_bytes.specs.File.{IsFile}
-use Rattle.cls_bytes.specs.declared.ClassFault.{ClassFault}
-use Rattle.cls_bytes.specs.declared.ClassFault.TheVariants as faults
-use Rattle.cls_bytes.specs.declared.format.Field.{Field}
-use Rattle.cls_bytes.specs.Row.{LaysAll}
-use Rattle.cls_bytes.specs.Faults.{First, Fails}
+use Rattle.cls_layout.specs.declared.ClassFault.{ClassFault}
+use Rattle.cls_layout.specs.declared.ClassFault.TheVariants as faults
+use Rattle.cls_layout.specs.Faults.{Fails}
 
 -- the bytes spell the class
 pub record ClassSpells (bytes : List ℕ) (class : Class) : Type 0 where
@@ -27,15 +25,3 @@ abbrev pub IsFaultOrMemory : {A : Type 0} → Result A ClassFault → ClassFault
 IsFaultOrMemory (Ok c) fault = ⊥
 IsFaultOrMemory (Err faults.Memory) fault = Unit {0}
 IsFaultOrMemory (Err found) fault = found ≡ fault
-
--- no field of the bytes is wrong
-pub record IsRight (bytes : List ℕ) : Type 0 where
-  pub row : List Field
-  pub places : List ℕ
-  pub lays : LaysAll bytes row places
-  pub first : First bytes places row None
-
--- the fault of the bytes, or none
-abbrev pub Found : List ℕ → Option ClassFault → Type 0
-Found bytes None = IsRight bytes
-Found bytes (Some fault) = Fails bytes fault

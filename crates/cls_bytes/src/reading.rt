@@ -10,10 +10,9 @@ ghost use Rattle.cls_bytes.specs.Reading.{number_at, behind, text_at, tagged_at,
 ghost use Rattle.cls_bytes.specs.Reading.{inners_at, content_at, code_at, other_at, attr_at, listed_at, pair_at, three_at, member_at};
 ghost use Rattle.cls_bytes.specs.Reading.{members_at, behind_head, pool_at, class_at};
 
-use crate::format::{MAGIC, VERSION};
-use crate::letters::text_in;
 use byteorder::{BigEndian, ByteOrder};
 use cls_code::{CodeFault, decode};
+use cls_layout::{MAGIC, VERSION, text_in};
 use cls_tree::{Attr, Class, Code, Const, Instr, Member};
 use mg_read::ReadError;
 use mg_text::{Bytes, List, Text};

@@ -14,9 +14,9 @@ ghost use Rattle.cls_bytes.specs.Answer.{attr_refusal, attrs_refusal, members_re
 ghost use Rattle.cls_bytes.specs.Puts.{Puts, Encodes};
 
 use crate::WriteFault;
-use crate::format::{MAGIC, VERSION};
 use crate::texts::modified_of;
 use cls_code::{CodeFault, encode, put_s4, put_u1, put_u2, put_u4};
+use cls_layout::{MAGIC, VERSION};
 use cls_tree::{Attr, Class, Code, Const, Instr, Member};
 use mg_text::{Bytes, Memory};
 use std::alloc::Global;

@@ -6,7 +6,8 @@ use Rattle.std.proofs.lemmas.List.{at_drop_all}
 use Rattle.cls_tree.specs.Tree as file
 use Rattle.cls_tree.specs.View.{class_of as file_of}
 use Rattle.cls_tree.specs.declared.class.Class.{Class as KeptFile}
-use Rattle.cls_bytes.proofs.Written.{map_drop_is, first_fits, others_fit}
+use Rattle.cls_layout.proofs.Drops.{map_drop_is}
+use Rattle.cls_bytes.proofs.Written.{first_fits, others_fit}
 use Rattle.jv_core.specs.Tree.{Class, Program}
 use Rattle.jv_core.specs.View.{class_of}
 use Rattle.jv_core.specs.declared.program.CoreClass.{CoreClass}

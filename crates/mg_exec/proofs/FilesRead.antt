@@ -8,7 +8,7 @@ use Rattle.cls_tree.specs.Tree.{Class as File}
 use Rattle.cls_tree.specs.Fits.{IsU1}
 use Rattle.cls_tree.specs.View.{class_of as file_of}
 use Rattle.cls_tree.specs.declared.class.Class.{Class}
-use Rattle.cls_bytes.specs.declared.ClassFault.{ClassFault}
+use Rattle.cls_layout.specs.declared.ClassFault.{ClassFault}
 use Rattle.cls_bytes.specs.Spelling.{ClassSpells, IsTheirFault}
 use Rattle.cls_bytes.proofs.Single.{no_fault}
 use Rattle.cls_bytes.proofs.SpelledClasses.{spelled_right}

@@ -2,9 +2,9 @@
 use Rattle.std.proofs.Common.{◌≡◌, ℕ, List, Option, Some, None, Err, ◌∙◌}
 use Rattle.cls_tree.specs.Tree.{Class as File}
 use Rattle.cls_tree.specs.declared.class.Class.{Class}
-use Rattle.cls_bytes.specs.declared.ClassFault.{ClassFault}
-use Rattle.cls_bytes.specs.declared.ClassFault.TheVariants as faults
-use Rattle.cls_bytes.specs.Faults.{Fails}
+use Rattle.cls_layout.specs.declared.ClassFault.{ClassFault}
+use Rattle.cls_layout.specs.declared.ClassFault.TheVariants as faults
+use Rattle.cls_layout.specs.Faults.{Fails}
 use Rattle.cls_bytes.specs.Spelling.{IsTheirFault}
 use Rattle.vm_model.specs.Links.{Flaw, IsUnlinked}
 use Rattle.vm_load.specs.Faults.{flaw_of, IsRefused}

@@ -5,9 +5,9 @@ use Rattle.cls_tree.specs.Fits.{IsU1}
 use Rattle.cls_code.specs.declared.CodeFault.{CodeFault}
 use Rattle.cls_code.specs.declared.CodeFault.TheVariants as codes_of
 use Rattle.cls_bytes.specs.Spelling.{ClassSpells}
-use Rattle.cls_bytes.specs.Faults.{Fails}
-use Rattle.cls_bytes.specs.declared.ClassFault.{ClassFault}
-use Rattle.cls_bytes.specs.declared.ClassFault.TheVariants as faults
+use Rattle.cls_layout.specs.Faults.{Fails}
+use Rattle.cls_layout.specs.declared.ClassFault.{ClassFault}
+use Rattle.cls_layout.specs.declared.ClassFault.TheVariants as faults
 use Rattle.mg_refusal.specs.Refusals.{Refusal, refusal_in_bytes}
 use Rattle.mg_sources.specs.Files.{Source}
 

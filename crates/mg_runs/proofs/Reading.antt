@@ -6,7 +6,7 @@ use Rattle.cls_tree.specs.Tree.{Class as File}
 use Rattle.cls_tree.specs.View.{class_of as file_of}
 use Rattle.cls_tree.specs.declared.class.Class.{Class as KeptFile}
 use Rattle.cls_bytes.specs.Spelling.{ClassSpells}
-use Rattle.cls_bytes.proofs.Written.{map_drop_is}
+use Rattle.cls_layout.proofs.Drops.{map_drop_is}
 use Rattle.mg_compile.specs.declared.files.ClassFile.{ClassFile}
 use Rattle.mg_runs.specs.Runs.{AreSpelled}
 use Rattle.mg_runs.specs.inner.Loading.{HaveFiles}

@@ -1,10 +1,10 @@
 use Rattle.std.proofs.Common.{◌≡◌, ℕ, sym, ◌∙◌, subst, arith}
 use Rattle.std.specs.Prelude.{Err}
 use Rattle.cls_tree.specs.View.{class_of}
-use Rattle.cls_bytes.specs.declared.ClassFault.{ClassFault}
-use Rattle.cls_bytes.specs.declared.ClassFault.TheVariants as faults
-use Rattle.cls_bytes.specs.Faults.{Fails}
-use Rattle.cls_bytes.specs.Spelling.{ClassSpells, IsRight, IsFaultOrMemory}
+use Rattle.cls_layout.specs.declared.ClassFault.{ClassFault}
+use Rattle.cls_layout.specs.declared.ClassFault.TheVariants as faults
+use Rattle.cls_layout.specs.Faults.{Fails, IsRight}
+use Rattle.cls_bytes.specs.Spelling.{ClassSpells, IsFaultOrMemory}
 use Rattle.mg_read.proofs.Steps.{some_is, none_is_not}
 use Rattle.cls_bytes.proofs.Whole.{only_one}
 use Rattle.cls_bytes.proofs.RightRows.{right_spells}

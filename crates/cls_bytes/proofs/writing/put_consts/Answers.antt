@@ -1,7 +1,8 @@
 use Rattle.std.proofs.Common.{◌+◌, drop}
 use Rattle.cls_tree.specs.Layout.{const_bytes}
 use Rattle.cls_tree.specs.Fits.{FitsConst}
-use Rattle.cls_bytes.proofs.Written.{drop_is, more, first_fits, others_fit, all_written}
+use Rattle.cls_layout.proofs.Drops.{drop_is}
+use Rattle.cls_bytes.proofs.Written.{more, first_fits, others_fit, all_written}
 use Rattle.cls_bytes.proofs.writing.put_consts.Goals as goal
 
 pub put_const-requires : goal.put_const-requires

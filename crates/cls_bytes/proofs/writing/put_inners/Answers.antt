@@ -2,7 +2,8 @@ use Rattle.std.proofs.Common.{◌+◌, drop, map}
 use Rattle.cls_tree.specs.View.{inner_of}
 use Rattle.cls_tree.specs.Layout.{inner_bytes}
 use Rattle.cls_tree.specs.Fits.{FitsInner}
-use Rattle.cls_bytes.proofs.Written.{map_drop_is, more, first_fits, others_fit, all_mapped}
+use Rattle.cls_layout.proofs.Drops.{map_drop_is}
+use Rattle.cls_bytes.proofs.Written.{more, first_fits, others_fit, all_mapped}
 use Rattle.cls_bytes.proofs.writing.put_inners.Goals as goal
 
 pub put_inner-requires : goal.put_inner-requires

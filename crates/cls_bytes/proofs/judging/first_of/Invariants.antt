@@ -1,7 +1,0 @@
-use Rattle.std.proofs.Common.{drop, Option}
-use Rattle.cls_bytes.specs.declared.ClassFault.{ClassFault}
-use Rattle.cls_bytes.specs.Faults.{First}
-use Rattle.cls_bytes.proofs.judging.first_of.Given as goal
-
-abbrev pub invariant-loop-index : goal.invariant-loop-index
-invariant-loop-index l = (r : Option ClassFault) → First l.bytes l.places (drop l.index l.row) r → First l.bytes l.places l.row r

@@ -1,0 +1,6 @@
+pub mod Drops
+pub mod Held
+pub mod Modified
+pub mod Laid
+mod Stacks
+mod Judged
