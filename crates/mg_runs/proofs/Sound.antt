@@ -40,8 +40,8 @@ use Rattle.mg_compile.proofs.Ready.{is_core, is_held, well_typed}
 use Rattle.mg_compile.specs.declared.files.ClassFile.{ClassFile}
 use Rattle.mg_compile.specs.Files.{HoldClasses, AreClassFiles}
 use Rattle.vm_world_law.specs.declared.role.RoleMain.{RoleMain}
-use Rattle.world_meant_law.specs.Meant.{Holds, RunsAsMeant}
-use Rattle.world_meant_law.specs.Worlds.{DoesAsMeant}
+use Rattle.vm_world_law.specs.Meant.{Holds, RunsAsMeant}
+use Rattle.vm_world_law.specs.Worlds.{DoesAsMeant}
 use Rattle.mg_runs.specs.Runs.{AreSpelled, IsLoaded, HaveMains}
 use Rattle.mg_runs.specs.Laws.{WrittenClassesLink, RunsAreMeant}
 use Rattle.mg_runs.specs.inner.Loading.{HaveFiles}

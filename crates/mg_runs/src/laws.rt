@@ -11,8 +11,7 @@ use jv_shaped::spelled_is_shaped;
 use jv_whole::types_are_enough;
 use mg_acts_law::accepted_objects_play;
 use mg_kept_law::accepted_keep_typestates;
-use vm_world_law::{begun_is_fresh, turns_deliver};
-use world_meant_law::worlds_are_meant;
+use vm_world_law::{begun_is_fresh, turns_deliver, worlds_are_meant};
 
 /// The bytes of the class files that are written of the core of some files are read back, and what
 /// is read links to the program that is expected of the core.

@@ -15,7 +15,7 @@ use Rattle.vm_world_law.specs.World.{Runs, Over, Role, World, turns, IsFresh, ev
 use Rattle.vm_world_law.specs.declared.stand.Stand.{Stand}
 use Rattle.vm_world_law.specs.declared.stand.Stand.TheVariants as stands
 use Rattle.vm_world_law.specs.Turns.{stand_of}
-use Rattle.world_meant_law.specs.Meant.{finish_of, Holds, Means, RunsAsMeant}
+use Rattle.vm_world_law.specs.Meant.{finish_of, Holds, Means, RunsAsMeant}
 
 -- what the others sent to a role, by their names; `k` is the number of the first of these roles
 abbrev pub inputs_from : World → (r k : ℕ) → List Name → Inputs

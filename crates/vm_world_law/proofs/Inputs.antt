@@ -13,8 +13,8 @@ use Rattle.vm_world_law.specs.World.{World, sent}
 use Rattle.vm_world_law.proofs.Lists.{same_name, names_differ, one_place, stands_at}
 use Rattle.vm_world_law.proofs.Ways.{named_within}
 use Rattle.vm_world_law.proofs.Order.{held, on_held}
-use Rattle.world_meant_law.specs.Meant.{PeerHolds, unknown, known, Holds}
-use Rattle.world_meant_law.specs.Worlds.{inputs_from, inputs_of}
+use Rattle.vm_world_law.specs.Meant.{PeerHolds, unknown, known, Holds}
+use Rattle.vm_world_law.specs.Worlds.{inputs_from, inputs_of}
 
 both_false : (a b : Bool) → (a || b) ≡ false → (a ≡ false) × (b ≡ false)
 both_false true b h = absurd (cc h)

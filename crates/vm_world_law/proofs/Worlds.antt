@@ -17,9 +17,9 @@ use Rattle.vm_world_law.proofs.Lists.{some_is, got_within, stands_at}
 use Rattle.vm_world_law.proofs.Moves.{GoesAlike, step_alike}
 use Rattle.vm_world_law.proofs.Alone.{Kept, kept_by}
 use Rattle.vm_world_law.proofs.Order.{held, held_all, none_later}
-use Rattle.world_meant_law.specs.Meant.{finish_of, Means, RunsAsMeant}
-use Rattle.world_meant_law.specs.Worlds.{inputs_of, DoesAsMeant, Shows, IsMeant, WorldsAreMeant}
-use Rattle.world_meant_law.proofs.Inputs.{held_holds}
+use Rattle.vm_world_law.specs.Meant.{finish_of, Means, RunsAsMeant}
+use Rattle.vm_world_law.specs.Worlds.{inputs_of, DoesAsMeant, Shows, IsMeant, WorldsAreMeant}
+use Rattle.vm_world_law.proofs.Inputs.{held_holds}
 
 module _ (p : Program) (first : World) (w : World) (kept : Kept p first w) (r : ℕ) (start : Machine) (role : Role)
     (begins : slice_get first.roles r ≡ Some (record { state = Runs start; count = 0 })) (stands : slice_get w.roles r ≡ Some role)
