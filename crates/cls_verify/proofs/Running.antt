@@ -7,8 +7,8 @@ use Rattle.vm_model.specs.Actions.{Switch, Return, Read, Write, Make, Call, Use}
 use Rattle.cls_verify.specs.Rows.{leads}
 use Rattle.cls_verify.specs.Typing.{Kinds}
 use Rattle.cls_verify.proofs.Searching.{Keeps}
-use Rattle.cls_blocks.specs.Blocks.{falls, jumps, Jumps, Runs, runs, Came, begins, goes}
-use Rattle.cls_blocks.specs.Blocks as blocks
+use Rattle.cls_verify.specs.Blocks.{falls, jumps, Jumps, Runs, runs, Came, begins, goes}
+use Rattle.cls_verify.specs.Blocks as blocks
 
 abbrev pub behind : Action → ℕ → List ℕ
 behind a place = if falls a then (place + 1) ∷ [] else []

@@ -3,7 +3,7 @@ use Rattle.std.specs.Prelude.{◌≡◌, ℕ, ◌+◌, ◌≤◌, Bool, true, fa
 use Rattle.vm_model.specs.Program.{Program, MethodOf}
 use Rattle.vm_model.specs.Actions.{Action, IfZero, IfBoth, IfNull, Go, Switch, Return}
 use Rattle.cls_verify.specs.Typing.{Kinds, LeadsTo, arguments, first_locals}
-use Rattle.cls_blocks.specs.Rows.{RowAt}
+use Rattle.cls_verify.specs.BlockRows.{RowAt}
 
 -- whether an instruction may go on behind itself
 abbrev pub falls : Action → Bool

@@ -3,8 +3,8 @@ use Rattle.std.specs.Prelude.{ℕ, Bool, Option, Contains}
 use Rattle.vm_model.specs.Program.{Program, MethodOf}
 use Rattle.cls_verify.specs.Rows.{leads}
 use Rattle.cls_verify.specs.Typing.{Kinds, LeadsTo, Typing}
-use Rattle.cls_blocks.specs.Rows.{RowAt}
-use Rattle.cls_blocks.specs.Blocks.{AreBlocks}
+use Rattle.cls_verify.specs.BlockRows.{RowAt}
+use Rattle.cls_verify.specs.Blocks.{AreBlocks}
 
 abbrev pub BlocksAreTyped : Type 0
 BlocksAreTyped = (p : Program) (class method : ℕ) (m : MethodOf) (joins : ℕ → Bool) (at : ℕ → Option Kinds) →

@@ -1,5 +1,5 @@
-use Rattle.cls_blocks.proofs.Fitting.{rows_are_met, ways_fit}
-use Rattle.cls_blocks.proofs.ways_fit.Goals as goal
+use Rattle.cls_verify.proofs.Fitting.{rows_are_met, ways_fit}
+use Rattle.cls_verify.proofs.ways_fit.Goals as goal
 
 pub returns-clause-met : goal.returns-clause-met
 returns-clause-met c = rows_are_met

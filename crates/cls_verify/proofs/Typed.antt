@@ -10,13 +10,13 @@ use Rattle.cls_verify.specs.Rows.{leads, locals_after, stored}
 use Rattle.cls_verify.specs.Typing.{Kinds, asks, LeadsTo, IsTyped, Typing}
 use Rattle.cls_verify.specs.Search.{left_by}
 use Rattle.cls_verify.proofs.OfKinds.{all_fit_same}
-use Rattle.cls_blocks.specs.Rows.{Row, RowAt}
-use Rattle.cls_blocks.specs.Blocks.{falls, jumps, Jumps, Runs, AreBlocks}
-use Rattle.cls_blocks.specs.Blocks as blocks
-use Rattle.cls_blocks.specs.Laws.{BlocksAreTyped}
+use Rattle.cls_verify.specs.BlockRows.{Row, RowAt}
+use Rattle.cls_verify.specs.Blocks.{falls, jumps, Jumps, Runs, AreBlocks}
+use Rattle.cls_verify.specs.Blocks as blocks
+use Rattle.cls_verify.specs.Laws.{BlocksAreTyped}
 use Rattle.cls_verify.proofs.Searching.{pass_many}
-use Rattle.cls_blocks.proofs.Splits.{all_each, front_of, back_of}
-use Rattle.cls_blocks.proofs.Running.{behind, leads_are}
+use Rattle.cls_verify.proofs.Splits.{all_each, front_of, back_of}
+use Rattle.cls_verify.proofs.Running.{behind, leads_are}
 
 set_length : (ks : List Kind) (i : ℕ) (k : Kind) → length (slice_set ks i k) ≡ length ks
 set_length [] i k = refl

@@ -11,10 +11,10 @@ use Rattle.cls_verify.specs.Typing.{Kinds, asks, LeadsTo, IsTyped, Typing}
 use Rattle.cls_verify.specs.Search.{left_by}
 use Rattle.cls_verify.proofs.OfKinds.{all_fit_many}
 use Rattle.cls_verify.proofs.Searching.{row_met}
-use Rattle.cls_blocks.specs.Rows.{RowAt}
-use Rattle.cls_blocks.specs.Laws.{RowsAreMet, WaysFit}
+use Rattle.cls_verify.specs.BlockRows.{RowAt}
+use Rattle.cls_verify.specs.Laws.{RowsAreMet, WaysFit}
 use Rattle.cls_verify.proofs.Searching.{pass_many, same_split}
-use Rattle.cls_blocks.proofs.Splits.{each_of}
+use Rattle.cls_verify.proofs.Splits.{each_of}
 
 -- an instruction goes on behind itself, or pushes nothing
 goes_or_gives_none : (p : Program) (a : Action) (place : ℕ) (locals taken : List Kind) →
