@@ -27,7 +27,7 @@ use Rattle.jv_resolve_law.specs.Expressions.{call_typed, own_found, call_own, ca
 use Rattle.jv_resolve_law.specs.Expressions.{named_receiver, receiver, resolved, resolved_all}
 use Rattle.jv_resolve_law.proofs.Steps.{bound, mapped}
 use Rattle.jv_back.proofs.Exprs.{IsWritten, AreWritten}
-use Rattle.gen_fits.specs.Held.{HoldsExpr, HoldsExprs}
+use Rattle.gen_links.specs.Held.{HoldsExpr, HoldsExprs}
 use Rattle.gen_held.proofs.Words.{int_fits}
 
 abbrev pub Holds : Resolved → Type 0

@@ -20,7 +20,7 @@ use Rattle.gen_rules.specs.Classes.{AreClasses, class_files}
 use Rattle.gen_rules.specs.inner.Files.{generated_classes}
 use Rattle.gen_rules.proofs.Files.{only_files}
 use Rattle.gen_rules.specs.Limits.{IsFirstExcess}
-use Rattle.gen_fits.specs.Spelled.{IsSpelled, CoresFit, CoresAreSmall}
+use Rattle.gen_links.specs.Spelled.{IsSpelled, CoresFit, CoresAreSmall}
 use Rattle.gen_held.specs.Laws.{CanBeHeld, WrittenCoresAreHeld}
 use Rattle.mg_sources.specs.Files.{Source}
 use Rattle.mg_accepted.specs.Program.{AreWellTyped, HaveCore}

@@ -10,7 +10,7 @@ use Rattle.cls_bytes.proofs.Written.{map_drop_is, first_fits, others_fit}
 use Rattle.jv_core.specs.Tree.{Class, Program}
 use Rattle.jv_core.specs.View.{class_of}
 use Rattle.jv_core.specs.declared.program.CoreClass.{CoreClass}
-use Rattle.gen_fits.specs.Spelled.{IsSpelled}
+use Rattle.gen_links.specs.Spelled.{IsSpelled}
 use Rattle.mg_compile.specs.declared.files.ClassFile.{ClassFile}
 use Rattle.mg_compile.specs.Files.{HoldsClass, HoldClasses}
 

@@ -11,8 +11,8 @@ use Rattle.jv_core.specs.Tree.{Class, Program}
 use Rattle.gen_rules.specs.Classes.{Compiled, AreClasses, class_file}
 use Rattle.gen_rules.specs.Limits.{parts_in, first_in_parts, IsFirstExcess}
 use Rattle.gen_links.specs.Files.{HasPlainNames, JumpsInside}
-use Rattle.gen_fits.specs.Encodable.{CanStand}
-use Rattle.gen_fits.specs.Held.{IsHeld}
+use Rattle.gen_links.specs.Encodable.{CanStand}
+use Rattle.gen_links.specs.Held.{IsHeld}
 
 -- what writing a class file asks, and what makes its bytes read back
 pub record IsSpelled (c : file.Class) : Type 0 where

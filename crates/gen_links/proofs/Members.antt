@@ -13,9 +13,9 @@ use Rattle.gen_rules.specs.Symbolic.{Instr}
 use Rattle.gen_rules.specs.Classes.{Compiled, field_in_file, method_in_file, each}
 use Rattle.gen_rules.proofs.Pool.{Grows, grows_twice, Gives, gives_then, gives_now, IsText, is-grown, utf8-gives}
 use Rattle.gen_links.proofs.Numbers.{AllNumbers, all_numbers-grown, all_numbered-gives}
-use Rattle.gen_fits.specs.Encodable.{CanStand}
-use Rattle.gen_fits.proofs.Words.{ascii_text, text_written, type_written}
-use Rattle.gen_fits.proofs.Pools.{Good, utf8_keeps, all_numbered_keep}
+use Rattle.gen_links.specs.Encodable.{CanStand}
+use Rattle.gen_links.proofs.Words.{ascii_text, text_written, type_written}
+use Rattle.gen_links.proofs.Pools.{Good, utf8_keeps, all_numbered_keep}
 
 pub record MethodMade (c : Compiled) (pool : List Const) (m : file.Member) : Type 0 where
   pub name : IsText pool m.name c.name

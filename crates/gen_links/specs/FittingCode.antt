@@ -3,8 +3,8 @@ use Rattle.std.specs.Prelude.{◌≤◌, length}
 use Rattle.jv_core.specs.Tree.{Method, Program}
 use Rattle.gen_rules.specs.Frames.{max_stack, max_locals}
 use Rattle.gen_rules.specs.inner.Generating.{generated}
-use Rattle.gen_fits.specs.Encodable.{AreEncodable}
-use Rattle.gen_fits.specs.Held.{IsHeld, HoldsStmts}
+use Rattle.gen_links.specs.Encodable.{AreEncodable}
+use Rattle.gen_links.specs.Held.{IsHeld, HoldsStmts}
 
 -- The code of a method can be encoded where its locals are at most 255, and no more operands stand on its stack than it has instructions.
 pub record CodeFits : Type 0 where

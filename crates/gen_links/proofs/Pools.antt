@@ -19,7 +19,7 @@ use Rattle.gen_rules.specs.Assembled.{file_instr, numbered_by, all_numbered}
 use Rattle.gen_rules.specs.Limits.{is_long}
 use Rattle.gen_rules.proofs.Pool.{Grows, Gives, Is, is-grown, IsText}
 use Rattle.gen_rules.proofs.Pool.{utf8-gives, class_const-gives, name_and_type-gives}
-use Rattle.gen_fits.specs.Encodable.{IsEncodableBy, AreEncodable}
+use Rattle.gen_links.specs.Encodable.{IsEncodableBy, AreEncodable}
 
 abbrev Names : List Const → ℕ → Type 0
 Names pool n = (text : List ℕ) × IsText pool n text

@@ -23,8 +23,8 @@ use Rattle.gen_rules.specs.Symbolic.{Operand, Nothing, Number, Constant, Local, 
 use Rattle.gen_rules.specs.Assembled.{file_instr, distance, aimed_by, all_aimed, aimed}
 use Rattle.gen_links.proofs.Numbers.{Numbers, AllNumbers}
 use Rattle.gen_links.proofs.Judging.{aimed_size, starts_aimed}
-use Rattle.gen_fits.specs.Encodable.{IsEncodableBy, AreEncodable}
-use Rattle.gen_fits.proofs.Pools.{is-small, is-tagged}
+use Rattle.gen_links.specs.Encodable.{IsEncodableBy, AreEncodable}
+use Rattle.gen_links.proofs.Pools.{is-small, is-tagged}
 
 -- Distances.
 

@@ -21,9 +21,9 @@ use Rattle.gen_rules.specs.Limits.{parts_in, first_in_parts, first_in_classes}
 use Rattle.gen_rules.proofs.Pool.{grows_twice, class_const-gives}
 use Rattle.gen_links.proofs.Apart.{some_is, in_first}
 use Rattle.gen_links.proofs.Called.{methods_filtered}
-use Rattle.gen_fits.specs.Spelled.{HasFewMembers, CoresAreSmall}
-use Rattle.gen_fits.proofs.Limits.{Limited, first_none, header_limited, fields_limited, methods_limited}
-use Rattle.gen_fits.proofs.Members.{MethodMade, method_made, method_grown, FieldMade, field_made, field_grown, AllMade, each_made}
+use Rattle.gen_links.specs.Spelled.{HasFewMembers, CoresAreSmall}
+use Rattle.gen_links.proofs.Limits.{Limited, first_none, header_limited, fields_limited, methods_limited}
+use Rattle.gen_links.proofs.Members.{MethodMade, method_made, method_grown, FieldMade, field_made, field_grown, AllMade, each_made}
 
 -- Names that are apart, and stand in a list each, are no more than its items.
 

@@ -26,14 +26,14 @@ use Rattle.gen_links.proofs.Starts.{length-starts}
 use Rattle.gen_links.proofs.Numbers.{as_many}
 use Rattle.gen_links.proofs.Judging.{starts_aimed}
 use Rattle.gen_links.proofs.Parts.{PartsStand, parts-gives}
-use Rattle.gen_fits.specs.Encodable.{CanStand}
-use Rattle.gen_fits.specs.Spelled.{FilesFit, IsSpelled}
-use Rattle.gen_fits.proofs.Words.{ascii_text, text_written}
-use Rattle.gen_fits.proofs.Pools.{Good, class_keeps, is-small, is-tagged, consts_fit, consts_name}
-use Rattle.gen_fits.proofs.Encoded.{Encoded, assembled_encoded, fit_all, name_all}
-use Rattle.gen_fits.proofs.Limits.{IsShort, MethodsLimited, header_limited, fields_limited, methods_limited}
-use Rattle.gen_fits.proofs.Members.{MethodMade, method_made, method_grown, method_keeps, FieldMade, field_made, field_grown, field_keeps}
-use Rattle.gen_fits.proofs.Members.{AllMade, all_made-grown, each_made, each_keeps}
+use Rattle.gen_links.specs.Encodable.{CanStand}
+use Rattle.gen_links.specs.Spelled.{FilesFit, IsSpelled}
+use Rattle.gen_links.proofs.Words.{ascii_text, text_written}
+use Rattle.gen_links.proofs.Pools.{Good, class_keeps, is-small, is-tagged, consts_fit, consts_name}
+use Rattle.gen_links.proofs.Encoded.{Encoded, assembled_encoded, fit_all, name_all}
+use Rattle.gen_links.proofs.Limits.{IsShort, MethodsLimited, header_limited, fields_limited, methods_limited}
+use Rattle.gen_links.proofs.Members.{MethodMade, method_made, method_grown, method_keeps, FieldMade, field_made, field_grown, field_keeps}
+use Rattle.gen_links.proofs.Members.{AllMade, all_made-grown, each_made, each_keeps}
 
 -- Code.
 

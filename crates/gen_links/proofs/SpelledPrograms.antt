@@ -33,14 +33,14 @@ use Rattle.gen_rules.proofs.Files.{only_compiled}
 use Rattle.gen_links.specs.Files.{HasPlainNames, JumpsInside}
 use Rattle.gen_links.proofs.Programs.{found_ones}
 use Rattle.gen_links.proofs.Cores.{cores_jump}
-use Rattle.gen_fits.specs.Encodable.{IsEncodable, AreEncodable, CanStand}
-use Rattle.gen_fits.specs.Held.{HoldsValue, HoldsExpr, HoldsStmts, IsHeld}
-use Rattle.gen_fits.specs.Spelled.{IsSpelled, HasFewMembers, CoresFit}
-use Rattle.gen_fits.proofs.Words.{ascii_text, ascii_reference, text_written, descriptor_written, field_is_written, push_fits, natural_fits}
-use Rattle.gen_fits.proofs.Coding.{both_fit, code_fits_all}
-use Rattle.gen_fits.proofs.Limits.{first_none, header_limited, fields_limited, methods_limited}
-use Rattle.gen_fits.proofs.Members.{method_made, field_made}
-use Rattle.gen_fits.proofs.Whole.{whole_spelled}
+use Rattle.gen_links.specs.Encodable.{IsEncodable, AreEncodable, CanStand}
+use Rattle.gen_links.specs.Held.{HoldsValue, HoldsExpr, HoldsStmts, IsHeld}
+use Rattle.gen_links.specs.Spelled.{IsSpelled, HasFewMembers, CoresFit}
+use Rattle.gen_links.proofs.Words.{ascii_text, ascii_reference, text_written, descriptor_written, field_is_written, push_fits, natural_fits}
+use Rattle.gen_links.proofs.Coding.{both_fit, code_fits_all}
+use Rattle.gen_links.proofs.Limits.{first_none, header_limited, fields_limited, methods_limited}
+use Rattle.gen_links.proofs.Members.{method_made, field_made}
+use Rattle.gen_links.proofs.Whole.{whole_spelled}
 
 small_access : (kind : MethodKind) → access_of kind < 2 ^ 16
 small_access kinds.Protocol = omega arith

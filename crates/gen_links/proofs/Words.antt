@@ -25,7 +25,7 @@ use Rattle.gen_rules.specs.Symbolic.{Instr, plain, push, iconst, lies_within, wi
 use Rattle.gen_rules.specs.Members.{class_name, or_empty, type_in, result_in, field_descriptor, descriptor_of, method_descriptor}
 use Rattle.gen_rules.specs.Members.{field_member, field_reference, method_member, method_reference, init_of, session_reference}
 use Rattle.gen_rules.specs.Members.{session_name}
-use Rattle.gen_fits.specs.Encodable.{IsWritten, IsEncodable}
+use Rattle.gen_links.specs.Encodable.{IsWritten, IsEncodable}
 
 -- Texts.
 

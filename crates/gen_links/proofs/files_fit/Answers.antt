@@ -1,6 +1,6 @@
-use Rattle.gen_fits.proofs.Whole as whole
-use Rattle.gen_fits.proofs.Programs as programs
-use Rattle.gen_fits.proofs.files_fit.Goals as goal
+use Rattle.gen_links.proofs.Whole as whole
+use Rattle.gen_links.proofs.SpelledPrograms as programs
+use Rattle.gen_links.proofs.files_fit.Goals as goal
 
 pub returns-clause-spelled : goal.returns-clause-spelled
 returns-clause-spelled c = whole.files_fit

@@ -38,12 +38,12 @@ use Rattle.gen_rules.specs.inner.Generating as pieces
 use Rattle.gen_rules.specs.inner.Generating.{Piece, Jumping, Pieces, Flowing, Grouped, aiming, empty, single}
 use Rattle.gen_rules.specs.inner.Generating.{◌and◌, within, forked, flowing, grouped, testing, comparing, generated}
 use Rattle.gen_rules.proofs.Generates.{method_stands}
-use Rattle.gen_fits.specs.Encodable.{IsEncodable, AreEncodable}
-use Rattle.gen_fits.specs.Held.{HoldsExpr, HoldsExprs, HoldsStmt, HoldsStmts, HoldsGroups, IsHeld}
-use Rattle.gen_fits.specs.Files.{CodeFits}
-use Rattle.gen_fits.proofs.Words.{class_written, field_is_written, method_is_written, session_is_written}
-use Rattle.gen_fits.proofs.Words.{init_is_written, ascii_reference, push_fits, natural_fits, load_fits, store_fits}
-use Rattle.gen_fits.proofs.Words.{max_within, within_left, within_right}
+use Rattle.gen_links.specs.Encodable.{IsEncodable, AreEncodable}
+use Rattle.gen_links.specs.Held.{HoldsExpr, HoldsExprs, HoldsStmt, HoldsStmts, HoldsGroups, IsHeld}
+use Rattle.gen_links.specs.FittingCode.{CodeFits}
+use Rattle.gen_links.proofs.Words.{class_written, field_is_written, method_is_written, session_is_written}
+use Rattle.gen_links.proofs.Words.{init_is_written, ascii_reference, push_fits, natural_fits, load_fits, store_fits}
+use Rattle.gen_links.proofs.Words.{max_within, within_left, within_right}
 
 -- Pieces.
 
