@@ -6,7 +6,7 @@ use Rattle.jv_kept.specs.Laws.{CoreIsKept}
 use Rattle.jv_shaped.specs.Laws.{SpelledIsShaped}
 use Rattle.gen_held.specs.Laws.{WrittenCoresAreHeld}
 use Rattle.gen_rules.specs.Linked.{linked_program}
-use Rattle.gen_typed.specs.Laws.{CoresTypable}
+use Rattle.gen_sound.specs.Laws.{CoresTypable}
 use Rattle.vm_model.specs.Program.{Program}
 use Rattle.vm_model.specs.Links.{linked}
 use Rattle.cls_verify.specs.Typing.{AllTypable}
