@@ -7,8 +7,8 @@ use Rattle.ts_tree.specs.Typestate.{Typestate}
 use Rattle.jv_tree.specs.Source.{File}
 use Rattle.jv_rules.specs.Program.{Program}
 use Rattle.jv_rules.proofs.Tests.{nothing_in, in_cases, in_first}
-use Rattle.jv_kept.proofs.Declared.{NoFault, no_fault, in_map}
-use Rattle.jv_kept.proofs.NamedApart.{types_apart, typestates_apart}
+use Rattle.jv_names.proofs.Declared.{NoFault, no_fault, in_map}
+use Rattle.jv_names.proofs.NamedApart.{types_apart, typestates_apart}
 use Rattle.stm_gen.specs.Numbered.{typestate_of}
 use Rattle.stm_api.specs.Api.{ApiText, IsApi}
 use Rattle.stm_acts.specs.Played.{HasRole}

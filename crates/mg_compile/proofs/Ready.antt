@@ -9,7 +9,7 @@ use Rattle.jv_rules.specs.Program.{Program}
 use Rattle.jv_rules.specs.Shape.{IsShaped}
 use Rattle.jv_rules.specs.Faults.{IsWellTyped}
 use Rattle.jv_shaped.specs.Laws.{SpelledIsShaped}
-use Rattle.jv_kept.specs.Laws.{CoreIsKept}
+use Rattle.jv_names.specs.KeptLaws.{CoreIsKept}
 use Rattle.jv_names.specs.Resolves.{AreBounded}
 use Rattle.jv_resolve_law.specs.Members.{resolving}
 use Rattle.jv_core.specs.Tree as Core

@@ -18,7 +18,7 @@ use gen_class::gen_classes;
 use gen_held::written_cores_are_held;
 use gen_links::{files_fit, members_are_few};
 use jv_core::{Core, CoreClass, name_text};
-use jv_kept::core_is_kept;
+use jv_names::core_is_kept;
 use jv_shaped::spelled_is_shaped;
 use mg_refusal::Stop;
 use mg_text::{Bytes, List, Memory, Text};

@@ -14,8 +14,8 @@ use Rattle.jv_values.specs.Values.{Ended, Inputs}
 use Rattle.jv_meaning.specs.Meaning.{mean}
 use Rattle.jv_rules.specs.Shape.{IsShaped}
 use Rattle.jv_shaped.specs.Laws.{SpelledIsShaped}
-use Rattle.jv_kept.specs.Laws.{CoreIsKept}
-use Rattle.jv_whole.specs.Laws.{TypesAreEnough}
+use Rattle.jv_names.specs.KeptLaws.{CoreIsKept}
+use Rattle.jv_names.specs.WholeLaws.{TypesAreEnough}
 use Rattle.jv_sound.proofs.Sound.{main_at}
 use Rattle.vm_model.specs.Program as machine
 use Rattle.vm_model.specs.Links.{Flaw, Links, least, flaws, linked}
