@@ -8,7 +8,7 @@ use Rattle.cls_tree.specs.declared.class.Class.{Class as KeptFile}
 use Rattle.jv_rules.specs.Program.{Program}
 use Rattle.jv_rules.specs.Shape.{IsShaped}
 use Rattle.jv_rules.specs.Faults.{IsWellTyped}
-use Rattle.jv_shaped.specs.Laws.{SpelledIsShaped}
+use Rattle.jv_resolve_law.specs.ShapedLaws.{SpelledIsShaped}
 use Rattle.jv_names.specs.KeptLaws.{CoreIsKept}
 use Rattle.jv_names.specs.Resolves.{AreBounded}
 use Rattle.jv_resolve_law.specs.Members.{resolving}

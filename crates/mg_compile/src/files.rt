@@ -19,7 +19,7 @@ use gen_held::written_cores_are_held;
 use gen_links::{files_fit, members_are_few};
 use jv_core::{Core, CoreClass, name_text};
 use jv_names::core_is_kept;
-use jv_shaped::spelled_is_shaped;
+use jv_resolve_law::spelled_is_shaped;
 use mg_refusal::Stop;
 use mg_text::{Bytes, List, Memory, Text};
 use std::alloc::Global;

@@ -4,7 +4,7 @@ use Rattle.jv_rules.specs.Faults.{IsWellTyped}
 use Rattle.jv_rules.specs.Program.{Program}
 use Rattle.jv_rules.specs.Shape.{IsShaped}
 use Rattle.jv_names.specs.Laws.{MainsAreTheSame}
-use Rattle.jv_shaped.specs.Laws.{SpelledIsShaped}
+use Rattle.jv_resolve_law.specs.ShapedLaws.{SpelledIsShaped}
 use Rattle.use_meant_law.specs.Laws.{SourcesKeepTypestates}
 use Rattle.mg_sources.specs.Files.{Source}
 use Rattle.mg_accepted.specs.Program.{AreWellTyped}

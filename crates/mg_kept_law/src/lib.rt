@@ -5,7 +5,7 @@
 ghost use Rattle.mg_kept_law.specs.Laws.{AcceptedKeepTypestates};
 
 use jv_names::mains_are_the_same;
-use jv_shaped::spelled_is_shaped;
+use jv_resolve_law::spelled_is_shaped;
 use use_meant_law::sources_keep_typestates;
 
 /// For each class with `main` of accepted files, whatever the other roles sent and whatever the budget: no null is

@@ -13,7 +13,7 @@ use Rattle.jv_values.specs.Values as values
 use Rattle.jv_values.specs.Values.{Ended, Inputs}
 use Rattle.jv_meaning.specs.Meaning.{mean}
 use Rattle.jv_rules.specs.Shape.{IsShaped}
-use Rattle.jv_shaped.specs.Laws.{SpelledIsShaped}
+use Rattle.jv_resolve_law.specs.ShapedLaws.{SpelledIsShaped}
 use Rattle.jv_names.specs.KeptLaws.{CoreIsKept}
 use Rattle.jv_names.specs.WholeLaws.{TypesAreEnough}
 use Rattle.jv_sound.proofs.Sound.{main_at}

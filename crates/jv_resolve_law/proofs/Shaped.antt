@@ -15,7 +15,7 @@ use Rattle.jv_meaning.specs.Program.{Sources, class_in, classes_of}
 use Rattle.jv_rules.specs.Scope.{is_variable}
 use Rattle.jv_rules.specs.Shape.{IsOfValues, DeclaresValues, AllDeclareValues, GroupsDeclareValues, IsShapedMethod, IsShapedClass}
 use Rattle.jv_resolve_law.specs.Targets.{AssignsVariables, AllAssignVariables, GroupsAssignVariables, ClassAssignsVariables}
-use Rattle.jv_shaped.specs.Laws.{IsSpelled, SpelledIsShaped}
+use Rattle.jv_resolve_law.specs.ShapedLaws.{IsSpelled, SpelledIsShaped}
 
 of_values : (ty : TypeName) → IsType ty → IsOfValues ty
 of_values written.Void h e = h
