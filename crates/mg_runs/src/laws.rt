@@ -8,8 +8,7 @@ use gen_links::files_link;
 use gen_sound::mains_run_as_meant;
 use jv_names::{core_is_kept, types_are_enough};
 use jv_resolve_law::spelled_is_shaped;
-use mg_acts_law::accepted_objects_play;
-use mg_kept_law::accepted_keep_typestates;
+use mg_accepted_law::{accepted_keep_typestates, accepted_objects_play};
 use vm_world_law::{begun_is_fresh, turns_deliver, worlds_are_meant};
 
 /// The bytes of the class files that are written of the core of some files are read back, and what

@@ -9,7 +9,7 @@ use Rattle.use_meant_law.specs.Laws.{SourcesKeepTypestates}
 use Rattle.mg_sources.specs.Files.{Source}
 use Rattle.mg_accepted.specs.Program.{AreWellTyped}
 use Rattle.mg_accepted.proofs.Grammatical.{shaped, numbered}
-use Rattle.mg_kept_law.specs.Laws.{AcceptedKeepTypestates}
+use Rattle.mg_accepted_law.specs.KeptLaws.{AcceptedKeepTypestates}
 
 well_typed : (files : List Source) (program : Program) → AreWellTyped files program → IsWellTyped program
 well_typed files program h = record {

@@ -11,10 +11,10 @@ use Rattle.jv_rules.specs.Program.{Program}
 use Rattle.use_meant_law.specs.Laws.{KeepsTo}
 use Rattle.stm_acts.specs.Played.{HasRole, ActsAreSteps}
 use Rattle.stm_acts.specs.Held.{HeldIsHad}
-use Rattle.mg_kept_law.specs.Laws.{AcceptedKeepTypestates}
-use Rattle.mg_acts_law.specs.Laws.{ObjectsPlay, AcceptedObjectsPlay}
-use Rattle.mg_acts_law.proofs.Read.{valid_read}
-use Rattle.mg_acts_law.proofs.Held.{has_role}
+use Rattle.mg_accepted_law.specs.KeptLaws.{AcceptedKeepTypestates}
+use Rattle.mg_accepted_law.specs.Laws.{ObjectsPlay, AcceptedObjectsPlay}
+use Rattle.mg_accepted_law.proofs.Read.{valid_read}
+use Rattle.mg_accepted_law.proofs.Held.{has_role}
 
 -- all events of a run follow the typestates
 all_follow : (program : Program) (run : Ended) → KeepsTo program run → Follows program.files program.typestates run.events

@@ -20,7 +20,7 @@ use Rattle.mg_sources.specs.Sources as together
 use Rattle.mg_sources.proofs.OneKind.{one_part}
 use Rattle.mg_accepted.specs.Program.{AreWellTyped}
 use Rattle.mg_accepted.proofs.Grammatical.{numbered}
-use Rattle.mg_acts_law.proofs.Read.{valid_read}
+use Rattle.mg_accepted_law.proofs.Read.{valid_read}
 
 -- a program has the files of a protocol's API and the protocol's typestate
 record Has (program : Program) (local : LocalTree) : Type 0 where
