@@ -1,4 +1,4 @@
--- The class files of a program without excess are class files that bytes spell.
+-- The code of a method of a program that a class file can hold: it can be encoded, and its stack is never deeper than it is long.
 use Rattle.std.specs.Prelude.{◌≤◌, length}
 use Rattle.jv_core.specs.Tree.{Method, Program}
 use Rattle.gen_rules.specs.Frames.{max_stack, max_locals}

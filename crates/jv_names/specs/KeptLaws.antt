@@ -1,4 +1,4 @@
--- The laws.
+-- What is kept of the conditions of the sources.
 use Rattle.jv_tree.specs.Source.{Stmts}
 use Rattle.jv_rules.specs.Program.{Program}
 use Rattle.jv_rules.specs.Scope.{Scope}

@@ -1,4 +1,4 @@
--- The laws.
+-- What the conditions of a resolved program promise of the sources that it stands for.
 use Rattle.std.specs.Prelude.{◌≡◌, ◌≢◌, ℕ, None}
 use Rattle.mg_text.specs.Call.{Name}
 use Rattle.jv_values.specs.Values.{Inputs, Wrong}

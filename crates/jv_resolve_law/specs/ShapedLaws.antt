@@ -1,4 +1,4 @@
--- The law.
+-- What the grammar fixes of trees.
 use Rattle.std.specs.Prelude.{List}
 use Rattle.std.specs.List.{AllByRecursion}
 use Rattle.jv_tree.specs.declared.token.Token.{Token}
