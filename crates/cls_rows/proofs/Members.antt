@@ -20,7 +20,7 @@ use Rattle.cls_verify.specs.Kinds.{Instance, kind_of_type, kind_named, HasSort, 
 use Rattle.cls_verify.specs.Kinds as model
 use Rattle.cls_verify.specs.Rows.{IsOwn, NamesMethod, kinds_of_field}
 use Rattle.cls_verify.specs.Typing.{Kinds}
-use Rattle.cls_blocks.specs.Rows.{Row}
+use Rattle.cls_verify.specs.BlockRows.{Row}
 use Rattle.cls_kinds.specs.declared.kind.Kind.{Kind}
 use Rattle.cls_kinds.specs.Numbers.{fits_in}
 use Rattle.cls_kinds.specs.Named.{AreNames, kind_of, kinds_of}

@@ -17,7 +17,7 @@ use Rattle.cls_verify.specs.Kinds.{HasSort, AllPass}
 use Rattle.cls_verify.specs.Kinds as model
 use Rattle.cls_verify.specs.Rows.{kinds_in}
 use Rattle.cls_verify.specs.Typing.{Kinds}
-use Rattle.cls_blocks.specs.Rows.{Row}
+use Rattle.cls_verify.specs.BlockRows.{Row}
 use Rattle.cls_verify.proofs.Searching.{pass_many}
 use Rattle.cls_kinds.specs.declared.kind.Kind.{Kind}
 use Rattle.cls_kinds.specs.Stacks.{stack_at}

@@ -10,7 +10,7 @@ use Rattle.cls_verify.specs.Kinds.{AllPass}
 use Rattle.cls_verify.specs.Kinds as model
 use Rattle.cls_verify.specs.Rows.{Names, gives, locals_after}
 use Rattle.cls_verify.specs.Typing.{Kinds, asks, ReadsOf}
-use Rattle.cls_blocks.specs.Rows.{Row}
+use Rattle.cls_verify.specs.BlockRows.{Row}
 use Rattle.cls_verify.proofs.Searching.{pass_many}
 use Rattle.cls_kinds.specs.declared.kind.Kind.{Kind}
 use Rattle.cls_kinds.specs.Stacks.{stack_at}

@@ -7,7 +7,7 @@ use Rattle.vm_actions.specs.declared.action.Calling.{Calling}
 use Rattle.vm_actions.specs.declared.action.Calling.TheVariants as callings
 use Rattle.cls_verify.specs.Kinds.{Kind}
 use Rattle.cls_verify.specs.Typing.{Kinds}
-use Rattle.cls_blocks.specs.Rows.{Row}
+use Rattle.cls_verify.specs.BlockRows.{Row}
 use Rattle.cls_kinds.specs.declared.kind.Kind.{Kind as Number}
 use Rattle.cls_rows.specs.declared.frame.Frame.{Frame}
 use Rattle.cls_rows.specs.declared.frame.Scene.{Scene}

@@ -10,7 +10,7 @@ use Rattle.vm_model.specs.Start.{is_main}
 use Rattle.vm_model.specs.View.{instr_of}
 use Rattle.cls_verify.specs.Kinds as model
 use Rattle.cls_verify.specs.Typing.{Kinds, LeadsTo, Typing, arguments, first_locals}
-use Rattle.cls_blocks.specs.Blocks.{Runs}
+use Rattle.cls_verify.specs.Blocks.{Runs}
 use Rattle.cls_kinds.specs.declared.kind.Kind.{Kind}
 use Rattle.cls_kinds.specs.Named.{AreNames, kind_of, kinds_of}
 use Rattle.cls_kinds.specs.Stacks.{stack_at}

@@ -7,7 +7,7 @@ use Rattle.std.proofs.lemmas.List.{append-nil, drop_all, take_all, get_or_defaul
 use Rattle.std.proofs.lemmas.Option.{slice_get_within}
 use Rattle.vm_model.specs.Program.{Instr}
 use Rattle.vm_model.specs.Actions.{Action, action}
-use Rattle.cls_blocks.specs.Blocks.{jumps}
+use Rattle.cls_verify.specs.Blocks.{jumps}
 use Rattle.cls_search.specs.Marked.{IsMarked, AllMarked, KeepsMarks, AreJoins}
 
 pub keeps_all : (marks : List Bool) → KeepsMarks marks marks

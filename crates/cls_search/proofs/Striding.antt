@@ -9,8 +9,8 @@ use Rattle.vm_model.specs.declared.linked.LinkedInstr.{LinkedInstr}
 use Rattle.vm_model.specs.Actions.{Action, action}
 use Rattle.vm_model.specs.View.{instr_of}
 use Rattle.cls_verify.specs.Typing.{Kinds, LeadsTo}
-use Rattle.cls_blocks.specs.Rows.{Row, RowAt}
-use Rattle.cls_blocks.specs.Blocks.{falls, jumps, Jumps, Runs, Came}
+use Rattle.cls_verify.specs.BlockRows.{Row, RowAt}
+use Rattle.cls_verify.specs.Blocks.{falls, jumps, Jumps, Runs, Came}
 use Rattle.cls_kinds.specs.declared.kind.Kind.{Kind}
 use Rattle.cls_kinds.specs.Stacks.{stack_at, Grows}
 use Rattle.cls_rows.specs.declared.frame.Frame.{Frame}

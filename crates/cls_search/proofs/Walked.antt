@@ -8,12 +8,12 @@ use Rattle.std.proofs.lemmas.Bool.{cases_eq, true≢false}
 use Rattle.vm_model.specs.Program.{Instr}
 use Rattle.vm_model.specs.Actions.{Action, action}
 use Rattle.cls_verify.specs.Typing.{Kinds, Typing}
-use Rattle.cls_blocks.specs.Rows.{Row, RowAt}
-use Rattle.cls_blocks.specs.Blocks.{falls, jumps, Jumps, Runs, Came, AreBlocks}
-use Rattle.cls_blocks.specs.Blocks as blocks
-use Rattle.cls_blocks.proofs.Running.{behind, leads_are, runs_kept, came_kept, came_runs}
-use Rattle.cls_blocks.proofs.Fitting.{rows_are_met, ways_fit}
-use Rattle.cls_blocks.proofs.Typed.{blocks_are_typed}
+use Rattle.cls_verify.specs.BlockRows.{Row, RowAt}
+use Rattle.cls_verify.specs.Blocks.{falls, jumps, Jumps, Runs, Came, AreBlocks}
+use Rattle.cls_verify.specs.Blocks as blocks
+use Rattle.cls_verify.proofs.Running.{behind, leads_are, runs_kept, came_kept, came_runs}
+use Rattle.cls_verify.proofs.Fitting.{rows_are_met, ways_fit}
+use Rattle.cls_verify.proofs.Typed.{blocks_are_typed}
 use Rattle.cls_kinds.specs.declared.kind.Kind.{Kind}
 use Rattle.cls_kinds.specs.Named.{kind_of, kinds_of}
 use Rattle.cls_kinds.specs.Stacks.{stack_at}

@@ -2,7 +2,7 @@
 use Rattle.std.specs.Prelude.{◌≡◌, ℕ, ◌+◌, ◌*◌, ◌<◌, ◌≤◌, List, [], ◌∷◌, length, get_or, Bool, true, false, Option, Some, None, option_map}
 use Rattle.std.specs.Prelude.{slice_get, if◌then◌else◌}
 use Rattle.cls_verify.specs.Typing.{Kinds, LeadsTo, Typing, first_locals}
-use Rattle.cls_blocks.specs.Blocks.{Runs}
+use Rattle.cls_verify.specs.Blocks.{Runs}
 use Rattle.cls_kinds.specs.declared.kind.Kind.{Kind}
 use Rattle.cls_kinds.specs.Numbers.{room_in}
 use Rattle.cls_kinds.specs.Stacks.{stack_at}

@@ -2,7 +2,7 @@
 use Rattle.std.specs.Prelude.{◌≡◌, ℕ, List, length, get_or, Bool, true, Some, slice_get, Contains}
 use Rattle.vm_model.specs.Program.{Instr}
 use Rattle.vm_model.specs.Actions.{Action, action}
-use Rattle.cls_blocks.specs.Blocks.{jumps}
+use Rattle.cls_verify.specs.Blocks.{jumps}
 
 abbrev pub IsMarked : List Bool → ℕ → Type 0
 IsMarked marks place = get_or marks place true ≡ true

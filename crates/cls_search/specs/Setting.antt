@@ -5,7 +5,7 @@ use Rattle.vm_model.specs.Program.{Program, Instr, MethodOf, method_at}
 use Rattle.vm_model.specs.Actions.{Action, action}
 use Rattle.cls_verify.specs.Kinds.{Kind}
 use Rattle.cls_verify.specs.Typing.{arguments}
-use Rattle.cls_blocks.specs.Blocks.{jumps}
+use Rattle.cls_verify.specs.Blocks.{jumps}
 use Rattle.cls_kinds.specs.Named.{AreNames}
 
 pub record Setting : Type 0 where

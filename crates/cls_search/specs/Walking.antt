@@ -3,8 +3,8 @@ use Rattle.std.specs.Prelude.{◌≡◌, ℕ, ◌+◌, ◌++◌, Bool, true, fal
 use Rattle.vm_model.specs.View.{instr_of}
 use Rattle.vm_model.specs.Actions.{Action}
 use Rattle.cls_verify.specs.Typing.{Kinds, LeadsTo, Typing}
-use Rattle.cls_blocks.specs.Rows.{RowAt}
-use Rattle.cls_blocks.specs.Blocks.{falls, jumps, Jumps, Runs}
+use Rattle.cls_verify.specs.BlockRows.{RowAt}
+use Rattle.cls_verify.specs.Blocks.{falls, jumps, Jumps, Runs}
 use Rattle.cls_rows.specs.declared.frame.Frame.{Frame}
 use Rattle.cls_rows.specs.Frames.{kinds_at, IsScene}
 use Rattle.cls_search.specs.declared.joins.Jumps.{Jumps as Ways}

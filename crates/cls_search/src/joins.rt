@@ -4,7 +4,7 @@ ghost use Rattle.std.specs.Prelude.{◌≡◌, ◌++◌, ℕ, Some, map, option_
 ghost use Rattle.vm_model.specs.Actions as model;
 ghost use Rattle.vm_model.specs.View.{instr_of};
 ghost use Rattle.vm_actions.specs.Table.{action_of};
-ghost use Rattle.cls_blocks.specs.Blocks.{falls, jumps};
+ghost use Rattle.cls_verify.specs.Blocks.{falls, jumps};
 ghost use Rattle.cls_search.specs.Marked.{KeepsMarks, IsMarked, AllMarked, AreJoins};
 
 use mg_text::Memory;

@@ -18,7 +18,7 @@ use Rattle.jv_core.specs.Tree as Core
 use Rattle.jv_core.specs.Types.{text_result}
 use Rattle.jv_core.specs.View.{exprs_of}
 use Rattle.jv_names.proofs.Tables.{some_is, none_some}
-use Rattle.jv_kept.proofs.Slots.{all_holds}
+use Rattle.jv_names.proofs.Slots.{all_holds}
 use Rattle.jv_resolve_law.specs.Tables.{◌>>=◌, Tables, Callee, Numbered, class_called, enum_called, enum_names, method_called, type_meant}
 use Rattle.jv_resolve_law.specs.Expressions.{Given, OfNull, Of, Resolved, Known, Standing, Found, Receiver, OnThis, OnClass, OnValue}
 use Rattle.jv_resolve_law.specs.Expressions.{variable_in, only, typed, text_form, text_call, session_call}
@@ -27,7 +27,7 @@ use Rattle.jv_resolve_law.specs.Expressions.{call_typed, own_found, call_own, ca
 use Rattle.jv_resolve_law.specs.Expressions.{named_receiver, receiver, resolved, resolved_all}
 use Rattle.jv_resolve_law.proofs.Steps.{bound, mapped}
 use Rattle.jv_back.proofs.Exprs.{IsWritten, AreWritten}
-use Rattle.gen_fits.specs.Held.{HoldsExpr, HoldsExprs}
+use Rattle.gen_links.specs.Held.{HoldsExpr, HoldsExprs}
 use Rattle.gen_held.proofs.Words.{int_fits}
 
 abbrev pub Holds : Resolved → Type 0

@@ -16,7 +16,7 @@ use Rattle.jv_back.proofs.Told.{IsNamed}
 use Rattle.jv_back.proofs.Stmts.{IsWrittenValue}
 use Rattle.jv_back.proofs.Members.{IsWrittenField, IsWrittenParam, AreWrittenParams, IsWrittenMethod}
 use Rattle.jv_back.proofs.Files.{IsWrittenClass, AreWrittenConstants, IsWrittenEnum}
-use Rattle.gen_fits.specs.Held.{HoldsValue, HoldsStmts}
+use Rattle.gen_links.specs.Held.{HoldsValue, HoldsStmts}
 use Rattle.gen_held.proofs.Words.{AreFine, fine, fine_with, all_in_back}
 use Rattle.gen_held.proofs.Exprs.{AreFew, initial_held}
 use Rattle.gen_held.proofs.Stmts.{slot_kept, stmts_kept}

@@ -16,7 +16,7 @@ use Rattle.jv_resolve_law.proofs.Steps.{bound, mapped}
 use Rattle.jv_back.proofs.Told.{IsNamed}
 use Rattle.jv_back.proofs.Exprs.{IsWritten}
 use Rattle.jv_back.proofs.Stmts.{IsWrittenValue, IsWrittenLocal, IsWrittenStmt, AreWrittenStmts, AreWrittenGroups}
-use Rattle.gen_fits.specs.Held.{HoldsValue, HoldsStmt, HoldsStmts, HoldsGroups}
+use Rattle.gen_links.specs.Held.{HoldsValue, HoldsStmt, HoldsStmts, HoldsGroups}
 use Rattle.gen_held.proofs.Words.{AreFine, fine, fine_with}
 use Rattle.gen_held.proofs.Exprs.{AreFew, resolved_held}
 

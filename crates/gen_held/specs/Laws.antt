@@ -4,7 +4,7 @@ use Rattle.jv_core.specs.Tree as Core
 use Rattle.jv_names.specs.Resolves.{AreBounded}
 use Rattle.jv_resolve_law.specs.Members.{resolving}
 use Rattle.gen_links.specs.Files.{HasPlainNames}
-use Rattle.gen_fits.specs.Held.{IsHeld}
+use Rattle.gen_links.specs.Held.{IsHeld}
 use Rattle.mg_sources.specs.Files.{Source}
 use Rattle.mg_sources.specs.Sources.{Sourced, AreProgram}
 

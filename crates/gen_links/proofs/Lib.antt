@@ -12,3 +12,12 @@ pub mod Looked
 pub mod Called
 pub mod Cores
 pub mod Sounding
+pub mod Words
+pub mod Coding
+pub mod Pools
+pub mod Encoded
+pub mod Limits
+pub mod Members
+pub mod Whole
+pub mod SpelledPrograms
+pub mod Few

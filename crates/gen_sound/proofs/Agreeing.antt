@@ -11,7 +11,7 @@ use Rattle.vm_model.specs.Messages.{Messages, role_named}
 use Rattle.vm_model.specs.Machine.{Machine, Stepped, Went, Waits, Stops, Steps, none, more, noted}
 use Rattle.vm_model.specs.Runs.{Runs}
 use Rattle.gen_sound.specs.Following.{Moment, Comes, Stopped, EndsAlike}
-use Rattle.world_meant_law.specs.Meant.{finish_of}
+use Rattle.vm_world_law.specs.Meant.{finish_of}
 
 abbrev machine_of : Machine → Stepped → Machine
 machine_of m (Went n q e) = n

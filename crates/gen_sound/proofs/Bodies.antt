@@ -45,7 +45,7 @@ use Rattle.jv_sound.proofs.Executions.{all_good}
 use Rattle.jv_sound.proofs.Sound.{lowers, is_main_method, have_types, bounds}
 use Rattle.gen_sound.specs.Following.{Moment, Comes, EndsAlike, Follows}
 use Rattle.gen_sound.specs.Related.{Running, moment, flat, flat_given, RunsCode}
-use Rattle.world_meant_law.specs.Meant.{Holds}
+use Rattle.vm_world_law.specs.Meant.{Holds}
 use Rattle.gen_sound.specs.Standing.{return_of}
 use Rattle.gen_sound.proofs.Plain.{ArePlain}
 use Rattle.gen_sound.specs.Begun.{outermost}

@@ -41,7 +41,7 @@ use Rattle.jv_sound.proofs.Expressions.{Callable, method_ok}
 use Rattle.gen_sound.specs.Following.{Moment, Leads, EndsAlike, Follows}
 use Rattle.gen_sound.specs.Arriving.{Arrives}
 use Rattle.gen_sound.specs.Related.{Running, moment, flat, flat_given, heap_in, action_of, RunsCode, calling_of, invoke}
-use Rattle.world_meant_law.specs.Meant.{Holds}
+use Rattle.vm_world_law.specs.Meant.{Holds}
 use Rattle.gen_sound.specs.Standing.{Returning, return_of}
 use Rattle.gen_sound.proofs.Steps.{stays, comes_on, lead_of, ClosedBefore, follows_then}
 use Rattle.gen_sound.proofs.Peers.{seen_holds}

@@ -16,7 +16,7 @@ use Rattle.gen_rules.specs.Linked.{linked_program}
 use Rattle.gen_links.specs.Files.{HasPlainNames}
 use Rattle.gen_sound.specs.Following.{Moment, EndsAlike}
 use Rattle.gen_sound.specs.Begun.{begun}
-use Rattle.world_meant_law.specs.Meant.{Holds, RunsAsMeant}
+use Rattle.vm_world_law.specs.Meant.{Holds, RunsAsMeant}
 use Rattle.gen_sound.proofs.Plain.{ArePlain}
 
 -- The machine that begins with the code of this `main` does what `main` means with a budget: it ends so, waits so, or has

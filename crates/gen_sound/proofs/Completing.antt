@@ -28,7 +28,7 @@ use Rattle.jv_sound.proofs.Completions.{Living}
 use Rattle.jv_sound.proofs.Executions.{On}
 use Rattle.gen_sound.specs.Following.{Moment, Comes, Follows}
 use Rattle.gen_sound.specs.Related.{Running, moment, flat, Laid, LaidObject, RunsCode}
-use Rattle.world_meant_law.specs.Meant.{Holds}
+use Rattle.vm_world_law.specs.Meant.{Holds}
 use Rattle.gen_sound.specs.Arriving.{Arrives}
 use Rattle.gen_sound.specs.Standing.{HoldsRow, Stands, Leaps, CompletesAt}
 use Rattle.gen_sound.proofs.Steps.{comes_on, comes_lead, ClosedBefore, follows_later, follows_paid}

@@ -55,7 +55,7 @@ use Rattle.jv_sound.proofs.Expressions.{CallsWell, This, method_ok, eval_good, a
 use Rattle.gen_sound.specs.Following.{Moment, Comes, Follows}
 use Rattle.gen_sound.specs.Arriving.{Arrives}
 use Rattle.gen_sound.specs.Related.{Running, moment, flat, Laid, LaidObject, RunsCode}
-use Rattle.world_meant_law.specs.Meant.{Holds}
+use Rattle.vm_world_law.specs.Meant.{Holds}
 use Rattle.gen_sound.proofs.Plain.{IsPlain, ArePlainArgs}
 use Rattle.gen_sound.proofs.Steps.{stays, ClosedBefore, follows_later, follows_then}
 use Rattle.gen_sound.proofs.Forms.{Does, does_value, Value_at, value_closed, arrives_later, next_place}

@@ -40,7 +40,7 @@ use Rattle.jv_sound.proofs.Expressions.{FieldAt, field_at}
 use Rattle.gen_sound.specs.Following.{Moment, Comes, Leads, Follows}
 use Rattle.gen_sound.specs.Arriving.{ValueAt}
 use Rattle.gen_sound.specs.Related.{Running, moment, flat, object_in, heap_in, LaidObject, RunsCode}
-use Rattle.world_meant_law.specs.Meant.{Holds}
+use Rattle.vm_world_law.specs.Meant.{Holds}
 use Rattle.gen_sound.proofs.Steps.{comes_on, lead_of}
 use Rattle.gen_sound.proofs.Taking.{step_takes}
 use Rattle.gen_sound.proofs.Forms.{next_place, goes as goes_there}

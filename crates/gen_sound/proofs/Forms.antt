@@ -25,7 +25,7 @@ use Rattle.jv_sound.proofs.Worlds as worlds
 use Rattle.jv_sound.proofs.Objects.{Heap}
 use Rattle.gen_sound.specs.Following.{Moment, Comes, Leads, Follows}
 use Rattle.gen_sound.specs.Related.{Running, moment, flat, flat_given, action_of, RunsCode}
-use Rattle.world_meant_law.specs.Meant.{Holds}
+use Rattle.vm_world_law.specs.Meant.{Holds}
 use Rattle.gen_sound.specs.Arriving.{Arrives, Jumps, ValueAt, UnlessAt, WhenAt}
 use Rattle.gen_sound.proofs.Steps.{comes_on, comes_lead, lead_of, ClosedBefore}
 use Rattle.gen_sound.proofs.Taking.{step_takes}

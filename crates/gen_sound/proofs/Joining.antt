@@ -28,7 +28,7 @@ use Rattle.jv_sound.proofs.Worlds as worlds
 use Rattle.jv_sound.proofs.Objects.{Heap}
 use Rattle.gen_sound.specs.Following.{Moment, Follows}
 use Rattle.gen_sound.specs.Related.{Running, moment, flat, RunsCode}
-use Rattle.world_meant_law.specs.Meant.{Holds}
+use Rattle.vm_world_law.specs.Meant.{Holds}
 use Rattle.gen_sound.proofs.Steps.{follows_later}
 use Rattle.gen_sound.proofs.Forms.{Does, does_value, Value_at, value_closed, next_place}
 use Rattle.gen_sound.proofs.Pairs.{of_both, value_is, second}

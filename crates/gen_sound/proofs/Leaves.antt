@@ -24,7 +24,7 @@ use Rattle.gen_rules.specs.Frames.{max_stack, Depths, depths_by_value}
 use Rattle.jv_sound.proofs.Worlds.{World}
 use Rattle.gen_sound.specs.Following.{Moment, Leads, Follows}
 use Rattle.gen_sound.specs.Related.{Running, flat, RunsCode, action_of}
-use Rattle.world_meant_law.specs.Meant.{Holds}
+use Rattle.vm_world_law.specs.Meant.{Holds}
 use Rattle.gen_sound.specs.Arriving.{Arrives, Jumps}
 use Rattle.gen_sound.proofs.Steps.{stays}
 use Rattle.gen_sound.proofs.Taking.{step_takes}

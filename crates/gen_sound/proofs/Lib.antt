@@ -36,3 +36,15 @@ pub mod Plain
 pub mod Coming
 pub mod Covering
 pub mod PlainMains
+pub mod Scopes
+pub mod TypedInstructions
+pub mod TypedForms
+pub mod TypedOperations
+pub mod Named
+pub mod TypedExpressions
+pub mod Around
+pub mod Statements
+pub mod Methods
+pub mod Constructors
+pub mod Linking
+pub mod Typable

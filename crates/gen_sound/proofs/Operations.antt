@@ -33,7 +33,7 @@ use Rattle.jv_sound.proofs.Worlds.{World, Fits, Runs, GivesA}
 use Rattle.jv_sound.proofs.Worlds as worlds
 use Rattle.gen_sound.specs.Following.{Moment, Leads, Follows}
 use Rattle.gen_sound.specs.Related.{Running, flat, RunsCode, action_of}
-use Rattle.world_meant_law.specs.Meant.{Holds}
+use Rattle.vm_world_law.specs.Meant.{Holds}
 use Rattle.gen_sound.specs.Arriving.{Arrives, Jumps}
 use Rattle.gen_sound.proofs.Steps.{stays, comes_on, comes_lead}
 use Rattle.gen_sound.proofs.Ints.{lt_not_le, le_not_lt, not_not}

@@ -23,7 +23,7 @@ use Rattle.jv_sound.proofs.Worlds as worlds
 use Rattle.jv_sound.proofs.Objects.{Heap}
 use Rattle.gen_sound.specs.Following.{Moment, Follows}
 use Rattle.gen_sound.specs.Related.{Running, flat, RunsCode}
-use Rattle.world_meant_law.specs.Meant.{Holds}
+use Rattle.vm_world_law.specs.Meant.{Holds}
 use Rattle.gen_sound.proofs.Steps.{follows_later, ClosedBefore}
 use Rattle.gen_sound.proofs.Forms.{tested, Does, does_value, does_jumps, At, Value_at, Unless_at, When_at, value_closed, unless_closed}
 use Rattle.gen_sound.proofs.Forms.{when_closed}

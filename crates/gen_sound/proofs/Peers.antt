@@ -16,8 +16,8 @@ use Rattle.jv_values.specs.Messages.{taken, takes_from}
 use Rattle.vm_model.specs.Messages.{Messages, or_nothing, sent_by, on_way, with_list, sending, role_named}
 use Rattle.vm_model.specs.Step.{other_role}
 use Rattle.jv_sound.proofs.Lists.{some_is}
-use Rattle.world_meant_law.specs.Meant.{PeerHolds, Holds}
-use Rattle.world_meant_law.specs.Meant as meaning
+use Rattle.vm_world_law.specs.Meant.{PeerHolds, Holds}
+use Rattle.vm_world_law.specs.Meant as meaning
 use Rattle.vm_world_law.proofs.Lists.{set_here, set_there}
 
 -- What was taken.

@@ -24,7 +24,7 @@ use Rattle.gen_rules.specs.Linked.{outlines_of, linked_program}
 use Rattle.gen_links.specs.Files.{HasPlainNames}
 use Rattle.jv_sound.proofs.Sound.{never_wrong}
 use Rattle.gen_sound.specs.Following.{Moment, Stopped, EndsAlike}
-use Rattle.world_meant_law.specs.Meant.{finish_of, Holds, Means, EndsSo, RunsAsMeant}
+use Rattle.vm_world_law.specs.Meant.{finish_of, Holds, Means, EndsSo, RunsAsMeant}
 use Rattle.gen_sound.proofs.Plain.{ArePlain}
 use Rattle.gen_sound.specs.Begun.{outermost, begun}
 use Rattle.gen_sound.specs.Mains.{StandsAs, LinkedCodeRuns, MainsAgree}

@@ -38,8 +38,8 @@ use Rattle.jv_sound.proofs.Worlds.{World, AllFit}
 use Rattle.jv_sound.proofs.Worlds as worlds
 use Rattle.gen_sound.specs.Following.{Moment, Stopped, Follows}
 use Rattle.gen_sound.specs.Related.{Running, moment, flat, flat_given, RunsCode}
-use Rattle.world_meant_law.specs.Meant.{PeerHolds, Holds}
-use Rattle.world_meant_law.specs.Meant as meaning
+use Rattle.vm_world_law.specs.Meant.{PeerHolds, Holds}
+use Rattle.vm_world_law.specs.Meant as meaning
 use Rattle.gen_sound.specs.Arriving.{Arrives}
 use Rattle.gen_sound.proofs.Steps.{stays, lead_of}
 use Rattle.gen_sound.proofs.Taking.{step_takes}

@@ -8,7 +8,7 @@ use Rattle.vm_model.specs.Messages.{Messages}
 use Rattle.vm_model.specs.Step.{step}
 use Rattle.gen_sound.specs.Following.{Moment, Comes, Leads}
 use Rattle.gen_sound.specs.Related.{Running, moment, flat_given}
-use Rattle.world_meant_law.specs.Meant.{Holds}
+use Rattle.vm_world_law.specs.Meant.{Holds}
 
 -- a core, its linked program, the messages that the others sent, the number of the role that runs, and its frame
 module _ (p : Program) (program : linked.Program) (inputs : Inputs) (me : ℕ) (r : Running) where

@@ -4,3 +4,5 @@ pub mod Arriving
 pub mod Standing
 pub mod Begun
 pub mod Mains
+pub mod Known
+pub mod Laws

@@ -15,7 +15,7 @@ use Rattle.gen_rules.specs.Classes.{Compiled, compiled, IsCompiled}
 use Rattle.gen_rules.specs.Linked.{outlines_of, linked_program}
 use Rattle.gen_links.specs.Files.{HasPlainNames}
 use Rattle.gen_sound.specs.Related.{Running, RunsCode}
-use Rattle.world_meant_law.specs.Meant.{Holds, RunsAsMeant}
+use Rattle.vm_world_law.specs.Meant.{Holds, RunsAsMeant}
 
 -- a method of this class and of this number there, and its code
 pub record StandsAs (p : Program) (all : List (List Compiled)) (class method : ℕ) (m : Method) (code : List Instr) : Type 0 where

@@ -1,2 +1,4 @@
 pub mod Resolves
 pub mod Laws
+pub mod KeptLaws
+pub mod WholeLaws

@@ -20,7 +20,7 @@ use crate::classes::{resolve_classes, resolve_enums};
 use crate::given::Unresolved;
 use crate::methods::resolve_methods;
 use jv_core::{Core, CoreClass, CoreEnum, CoreMethod};
-use jv_kept::core_is_kept;
+use jv_names::core_is_kept;
 use jv_resolve_law::{resolving_is_right, resolving_is_total};
 use jv_types::Table;
 use mg_text::{List, Memory, Names};

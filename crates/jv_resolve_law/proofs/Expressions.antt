@@ -38,9 +38,9 @@ use Rattle.jv_core.specs.Meaning.{type_given, result_of}
 use Rattle.jv_names.specs.Resolves.{Numbers, IsVar, IsPlaced, IsClass, IsMethod, IsExpr, IsExprs, GivesEnum}
 use Rattle.jv_names.specs.Resolves as is
 use Rattle.jv_names.proofs.Tables.{some_is, none_some}
-use Rattle.jv_kept.proofs.Clean.{NoFaultAt, CleanExpr, CleanArgs, nodes_left, nodes_right, first_arg, other_args, left_operand}
-use Rattle.jv_kept.proofs.Clean.{right_operand}
-use Rattle.jv_kept.proofs.Moving.{IsNotThis, arguments_clean, call_clean}
+use Rattle.jv_names.proofs.Clean.{NoFaultAt, CleanExpr, CleanArgs, nodes_left, nodes_right, first_arg, other_args, left_operand}
+use Rattle.jv_names.proofs.Clean.{right_operand}
+use Rattle.jv_names.proofs.Moving.{IsNotThis, arguments_clean, call_clean}
 use Rattle.jv_resolve_law.specs.Tables.{◌>>=◌, Entry, Tables, Callee, class_called, enum_called, method_called, type_meant}
 use Rattle.jv_resolve_law.specs.Expressions.{Given, Of, Resolved, Known, Standing, Found, Receiver, OnThis, OnClass, OnValue, typed}
 use Rattle.jv_resolve_law.specs.Expressions.{is_text, operator_gives, variable_in, only, text_form, text_call, session_call, found_at}

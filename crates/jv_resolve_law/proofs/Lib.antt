@@ -15,3 +15,4 @@ mod TotalExpressions
 mod TotalStatements
 mod TotalMembers
 mod TotalWhole
+mod Shaped

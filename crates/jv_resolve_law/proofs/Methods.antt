@@ -21,7 +21,7 @@ use Rattle.jv_names.specs.Resolves.{Aligned, Numbers, AreParams, IsStmts, Method
 use Rattle.jv_names.specs.Resolves as is
 use Rattle.jv_names.proofs.Tables.{some_is}
 use Rattle.jv_names.proofs.Lookups.{owned_by}
-use Rattle.jv_kept.proofs.Clean.{NoFaultAt, all_left, all_right}
+use Rattle.jv_names.proofs.Clean.{NoFaultAt, all_left, all_right}
 use Rattle.jv_resolve_law.specs.Tables.{◌>>=◌, Interned, Entry, Tables, type_meant, kind_meant, is_offered, followed, interned}
 use Rattle.jv_resolve_law.specs.Expressions.{Known, Standing}
 use Rattle.jv_resolve_law.specs.Statements.{Counted, Counting, slot_more, declared, stmts}

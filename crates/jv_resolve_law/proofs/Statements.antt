@@ -20,7 +20,7 @@ use Rattle.jv_names.specs.Resolves.{Aligned, Numbers, IsEnum, IsExpr, IsPlaced, 
 use Rattle.jv_names.specs.Resolves.{GivesEnum}
 use Rattle.jv_names.specs.Resolves as is
 use Rattle.jv_names.proofs.Tables.{some_is, none_some}
-use Rattle.jv_kept.proofs.Clean.{NoFaultAt, CleanExpr, all_left, all_right}
+use Rattle.jv_names.proofs.Clean.{NoFaultAt, CleanExpr, all_left, all_right}
 use Rattle.jv_resolve_law.specs.Tables.{◌>>=◌, Tables}
 use Rattle.jv_resolve_law.specs.Expressions.{Given, Of, Resolved, Known, Standing, known_named, variable_in, resolved}
 use Rattle.jv_resolve_law.specs.Statements.{Counted, Around, InLoop, InSwitch, Counting, Item, labels_at, loop_more, declared, slot_more}

@@ -37,10 +37,10 @@ use Rattle.std.proofs.lemmas.Bool.Decides.{nat_tests}
 use Rattle.jv_names.specs.Resolves.{Owned, methods_of, IsClass, IsExpr, IsExprs}
 use Rattle.jv_names.specs.Resolves as is
 use Rattle.jv_names.proofs.Tables.{some_is, none_some}
-use Rattle.jv_kept.proofs.Clean.{NoFaultAt, CleanExpr, CleanArgs, nodes_left, nodes_right, first_arg, other_args, left_operand}
-use Rattle.jv_kept.proofs.Clean.{right_operand}
-use Rattle.jv_kept.proofs.Declared.{clean_left, clean_right}
-use Rattle.jv_kept.proofs.Moving.{IsNotThis, arguments_clean, call_clean}
+use Rattle.jv_names.proofs.Clean.{NoFaultAt, CleanExpr, CleanArgs, nodes_left, nodes_right, first_arg, other_args, left_operand}
+use Rattle.jv_names.proofs.Clean.{right_operand}
+use Rattle.jv_names.proofs.Declared.{clean_left, clean_right}
+use Rattle.jv_names.proofs.Moving.{IsNotThis, arguments_clean, call_clean}
 use Rattle.jv_resolve_law.specs.Tables.{◌>>=◌, Numbered, Entry, Tables, Callee, Placed, class_called, enum_called, method_called}
 use Rattle.jv_resolve_law.specs.Tables.{field_called, type_meant}
 use Rattle.jv_resolve_law.specs.Expressions.{Given, Of, Resolved, Known, Standing, Found, Receiver, OnThis, OnClass, OnValue, variable_in}

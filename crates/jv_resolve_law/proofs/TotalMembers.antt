@@ -22,7 +22,7 @@ use Rattle.jv_core.specs.Tree as Core
 use Rattle.jv_names.specs.Resolves.{Aligned, Owned, methods_of}
 use Rattle.jv_names.specs.Resolves as is
 use Rattle.jv_names.proofs.Tables.{some_is, none_some}
-use Rattle.jv_kept.proofs.Clean.{NoFaultAt, all_left, all_right}
+use Rattle.jv_names.proofs.Clean.{NoFaultAt, all_left, all_right}
 use Rattle.jv_resolve_law.specs.Tables.{Entry, Tables, type_meant, followed, entries_from, tables_of, interned, enum_called}
 use Rattle.jv_resolve_law.specs.Expressions.{Known, constant, initial}
 use Rattle.jv_resolve_law.specs.Statements.{Counted, declared, slot_more, stmts}

@@ -32,8 +32,8 @@ use Rattle.jv_core.specs.Lookup as core_lookup
 use Rattle.jv_names.specs.Resolves.{Aligned}
 use Rattle.jv_names.specs.Resolves as is
 use Rattle.jv_names.proofs.Tables.{some_is, none_some}
-use Rattle.jv_kept.proofs.Clean.{NoFaultAt, CleanExpr, all_left, all_right}
-use Rattle.jv_kept.proofs.Declared.{clean_left, clean_right}
+use Rattle.jv_names.proofs.Clean.{NoFaultAt, CleanExpr, all_left, all_right}
+use Rattle.jv_names.proofs.Declared.{clean_left, clean_right}
 use Rattle.jv_resolve_law.specs.Tables.{◌>>=◌, Tables, type_meant, interned}
 use Rattle.jv_resolve_law.specs.Expressions.{Given, Resolved, Known, Standing, known_named, variable_in, resolved}
 use Rattle.jv_resolve_law.specs.Statements.{Counted, Around, InLoop, InSwitch, Counting, Item, is_label, labelled, innermost, labels_at}

@@ -16,13 +16,13 @@ use Rattle.jv_core.specs.declared.program.MethodKind.TheVariants as kinds
 use Rattle.jv_core.specs.Tree as Core
 use Rattle.jv_names.specs.Resolves.{Owned, methods_of}
 use Rattle.jv_names.proofs.Tables.{some_is, none_some, aligned_at, owner_at}
-use Rattle.jv_kept.proofs.Clean.{method_clean}
-use Rattle.jv_kept.proofs.Declared.{NoFault, no_fault, got_in, clean_part}
-use Rattle.jv_kept.proofs.Mentioned.{method_mentions, field_mentions, param_mentions, body_mentions_of}
-use Rattle.jv_kept.proofs.NamedApart.{types_apart}
-use Rattle.jv_kept.proofs.OneNumber.{distinct_left}
-use Rattle.jv_kept.proofs.Owned.{method_at}
-use Rattle.jv_kept.proofs.Slots.{all_holds}
+use Rattle.jv_names.proofs.Clean.{method_clean}
+use Rattle.jv_names.proofs.Declared.{NoFault, no_fault, got_in, clean_part}
+use Rattle.jv_names.proofs.Mentioned.{method_mentions, field_mentions, param_mentions, body_mentions_of}
+use Rattle.jv_names.proofs.NamedApart.{types_apart}
+use Rattle.jv_names.proofs.OneNumber.{distinct_left}
+use Rattle.jv_names.proofs.Owned.{method_at}
+use Rattle.jv_names.proofs.Slots.{all_holds}
 use Rattle.jv_resolve_law.specs.Tables.{Entry, Tables, type_meant, tables_of}
 use Rattle.jv_resolve_law.specs.Members.{Naming, enums, classes, methods}
 use Rattle.jv_resolve_law.specs.Targets.{ClassAssignsVariables, OnlyVariablesAreAssigned}

@@ -17,11 +17,11 @@ use Rattle.jv_names.specs.Resolves.{Aligned, Owned, methods_of, ClassIs, EnumIs,
 use Rattle.jv_names.specs.Resolves as is
 use Rattle.jv_names.proofs.Tables.{some_is, aligned_at, owner_at, class_name}
 use Rattle.jv_names.proofs.Lookups.{owned_by}
-use Rattle.jv_kept.proofs.Clean.{NoFaultAt, method_clean}
-use Rattle.jv_kept.proofs.Declared.{no_fault}
-use Rattle.jv_kept.proofs.NamedApart.{types_apart}
-use Rattle.jv_kept.proofs.OneNumber.{distinct_left, stands_once, finds}
-use Rattle.jv_kept.proofs.Owned.{aligned_behind, method_at}
+use Rattle.jv_names.proofs.Clean.{NoFaultAt, method_clean}
+use Rattle.jv_names.proofs.Declared.{no_fault}
+use Rattle.jv_names.proofs.NamedApart.{types_apart}
+use Rattle.jv_names.proofs.OneNumber.{distinct_left, stands_once, finds}
+use Rattle.jv_names.proofs.Owned.{aligned_behind, method_at}
 use Rattle.jv_resolve_law.specs.Tables.{Entry, Tables, tables_of}
 use Rattle.jv_resolve_law.specs.Members.{Naming, enums, classes, method, methods, resolving}
 use Rattle.jv_resolve_law.specs.Members as members

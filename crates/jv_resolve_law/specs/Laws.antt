@@ -1,4 +1,4 @@
--- The laws.
+-- Resolving is right, and total for programs that assign to variables alone.
 use Rattle.std.specs.Prelude.{◌≡◌, ◌≢◌, Some, None}
 use Rattle.jv_rules.specs.Program.{Program}
 use Rattle.jv_rules.specs.Faults.{IsWellTyped}

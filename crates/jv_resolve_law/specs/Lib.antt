@@ -4,3 +4,4 @@ pub mod Statements
 pub mod Members
 pub mod Targets
 pub mod Laws
+pub mod ShapedLaws

@@ -11,7 +11,7 @@ use Rattle.jv_rules.specs.Program.{Program}
 use Rattle.jv_rules.specs.Shape.{IsShapedClass, IsShaped}
 use Rattle.jv_resolve_law.specs.Targets.{ClassAssignsVariables, OnlyVariablesAreAssigned}
 use Rattle.jv_read.proofs.Unique.{read_spells}
-use Rattle.jv_shaped.specs.Laws.{SpelledIsShaped, IsSpelled}
+use Rattle.jv_resolve_law.specs.ShapedLaws.{SpelledIsShaped, IsSpelled}
 use Rattle.mg_sources.specs.Files.{Source}
 use Rattle.mg_sources.specs.Reading.{Part, Reads}
 use Rattle.mg_sources.specs.Reading as reading

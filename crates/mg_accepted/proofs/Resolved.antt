@@ -11,7 +11,7 @@ use Rattle.jv_rules.specs.Shape.{IsShaped}
 use Rattle.jv_rules.specs.Faults.{IsTableFault, IsFault, IsWellTyped}
 use Rattle.jv_resolve_law.specs.Members.{resolving}
 use Rattle.jv_resolve_law.specs.Targets.{OnlyVariablesAreAssigned}
-use Rattle.jv_shaped.specs.Laws.{SpelledIsShaped}
+use Rattle.jv_resolve_law.specs.ShapedLaws.{SpelledIsShaped}
 use Rattle.jv_types.specs.View.{program_of}
 use Rattle.jv_types.specs.Outcome.{fault_told, TellsFault}
 use Rattle.jv_types.specs.declared.fault.TypeFault.{TypeFault}

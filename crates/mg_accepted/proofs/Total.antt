@@ -6,7 +6,7 @@ use Rattle.jv_resolve_law.specs.Members.{resolving}
 use Rattle.jv_resolve_law.specs.Targets.{OnlyVariablesAreAssigned}
 use Rattle.jv_rules.specs.Faults.{IsWellTyped}
 use Rattle.jv_rules.specs.Program.{Program}
-use Rattle.jv_shaped.specs.Laws.{SpelledIsShaped}
+use Rattle.jv_resolve_law.specs.ShapedLaws.{SpelledIsShaped}
 use Rattle.mg_sources.specs.Files.{Source}
 use Rattle.mg_accepted.specs.Laws.{WellTypedIsResolved}
 use Rattle.mg_accepted.specs.Program.{AreWellTyped}

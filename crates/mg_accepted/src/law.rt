@@ -3,8 +3,7 @@
 
 ghost use Rattle.mg_accepted.specs.Laws.{WellTypedIsResolved};
 
-use jv_resolve_law::{resolving_is_right, resolving_is_total};
-use jv_shaped::spelled_is_shaped;
+use jv_resolve_law::{resolving_is_right, resolving_is_total, spelled_is_shaped};
 
 /// A well typed program of files is resolved to a core, which is theirs where it is within the bounds.
 pub fn well_typed_is_resolved()

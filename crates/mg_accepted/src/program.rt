@@ -10,7 +10,7 @@ ghost use Rattle.mg_accepted.specs.Program.{HaveCore, FirstRefusal};
 use crate::judged::judge;
 use jv_core::Core;
 use jv_resolve::resolve;
-use jv_shaped::spelled_is_shaped;
+use jv_resolve_law::spelled_is_shaped;
 use mg_refusal::Stop;
 use mg_sources::read_program;
 use mg_text::{Bytes, Text};

@@ -11,7 +11,7 @@ use Rattle.cls_tree.specs.ClassFile.{is_code_text, names_code, FileAttr, FileMem
 use Rattle.cls_tree.specs.WellFormed.{NamesCode, PlainNames, MethodNames, IsField_in, IsMethod_in, is_code}
 use Rattle.cls_bytes.specs.File.{IsFile}
 use Rattle.gen_links.proofs.Apart.{differ}
-use Rattle.gen_fits.specs.Spelled.{IsSpelled}
+use Rattle.gen_links.specs.Spelled.{IsSpelled}
 
 code_named : (pool : List Const) (n : ℕ) → NamesCode pool n → names_code pool n ≡ true
 unfolding names_code

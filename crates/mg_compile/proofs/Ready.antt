@@ -8,8 +8,8 @@ use Rattle.cls_tree.specs.declared.class.Class.{Class as KeptFile}
 use Rattle.jv_rules.specs.Program.{Program}
 use Rattle.jv_rules.specs.Shape.{IsShaped}
 use Rattle.jv_rules.specs.Faults.{IsWellTyped}
-use Rattle.jv_shaped.specs.Laws.{SpelledIsShaped}
-use Rattle.jv_kept.specs.Laws.{CoreIsKept}
+use Rattle.jv_resolve_law.specs.ShapedLaws.{SpelledIsShaped}
+use Rattle.jv_names.specs.KeptLaws.{CoreIsKept}
 use Rattle.jv_names.specs.Resolves.{AreBounded}
 use Rattle.jv_resolve_law.specs.Members.{resolving}
 use Rattle.jv_core.specs.Tree as Core
@@ -20,7 +20,7 @@ use Rattle.gen_rules.specs.Classes.{AreClasses, class_files}
 use Rattle.gen_rules.specs.inner.Files.{generated_classes}
 use Rattle.gen_rules.proofs.Files.{only_files}
 use Rattle.gen_rules.specs.Limits.{IsFirstExcess}
-use Rattle.gen_fits.specs.Spelled.{IsSpelled, CoresFit, CoresAreSmall}
+use Rattle.gen_links.specs.Spelled.{IsSpelled, CoresFit, CoresAreSmall}
 use Rattle.gen_held.specs.Laws.{CanBeHeld, WrittenCoresAreHeld}
 use Rattle.mg_sources.specs.Files.{Source}
 use Rattle.mg_accepted.specs.Program.{AreWellTyped, HaveCore}

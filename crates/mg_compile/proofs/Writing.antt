@@ -11,7 +11,7 @@ use Rattle.cls_bytes.proofs.Written.{first_fits, others_fit}
 use Rattle.jv_core.specs.Tree.{Class, Program}
 use Rattle.jv_core.specs.View.{class_of}
 use Rattle.jv_core.specs.declared.program.CoreClass.{CoreClass}
-use Rattle.gen_fits.specs.Spelled.{IsSpelled}
+use Rattle.gen_links.specs.Spelled.{IsSpelled}
 use Rattle.mg_compile.specs.declared.files.ClassFile.{ClassFile}
 use Rattle.mg_compile.specs.Files.{HoldsClass, HoldClasses}
 

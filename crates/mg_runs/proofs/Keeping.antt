@@ -15,10 +15,10 @@ use Rattle.vm_world_law.specs.declared.stand.Stand.TheVariants as stands
 use Rattle.vm_world_law.specs.World.{State, Over, Role, World, events_of}
 use Rattle.vm_world_law.specs.Turns.{stand_of}
 use Rattle.vm_world_law.proofs.Lists.{some_is}
-use Rattle.world_meant_law.specs.Meant.{Means}
-use Rattle.world_meant_law.specs.Worlds.{inputs_of, Shows, IsMeant}
+use Rattle.vm_world_law.specs.Meant.{Means}
+use Rattle.vm_world_law.specs.Worlds.{inputs_of, Shows, IsMeant}
 use Rattle.use_meant_law.specs.Laws.{KeepsTo}
-use Rattle.mg_kept_law.specs.Laws.{AcceptedKeepTypestates}
+use Rattle.mg_accepted_law.specs.KeptLaws.{AcceptedKeepTypestates}
 use Rattle.mg_runs.specs.Headline.{Keeps, AreMeant, EachKeeps, MeaningsKeep}
 use Rattle.mg_runs.specs.Laws.{RolesKeep}
 use Rattle.mg_runs.proofs.Roles.{main_at}

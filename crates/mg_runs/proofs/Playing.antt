@@ -30,10 +30,10 @@ use Rattle.vm_world_law.specs.World.{State, Runs, Over, Role, World, of_role, st
 use Rattle.vm_world_law.proofs.Events.{events-append}
 use Rattle.vm_world_law.proofs.Lists.{some_is}
 use Rattle.vm_world_law.proofs.Swap.{turns-append}
-use Rattle.world_meant_law.specs.Meant.{finish_of}
-use Rattle.world_meant_law.specs.Worlds.{inputs_of, Shows, IsMeant}
-use Rattle.mg_acts_law.specs.Laws.{ObjectsPlay, AcceptedObjectsPlay}
-use Rattle.mg_acts_law.proofs.Read.{valid_read}
+use Rattle.vm_world_law.specs.Meant.{finish_of}
+use Rattle.vm_world_law.specs.Worlds.{inputs_of, Shows, IsMeant}
+use Rattle.mg_accepted_law.specs.Laws.{ObjectsPlay, AcceptedObjectsPlay}
+use Rattle.mg_accepted_law.proofs.Read.{valid_read}
 use Rattle.mg_runs.specs.Headline.{AreMeant, StaysAt, HasRefused, DoesItsPart, plays, refuses}
 use Rattle.mg_runs.specs.Laws.{RolesPlay}
 use Rattle.mg_runs.proofs.Keeping.{front}

@@ -1,6 +1,6 @@
 -- The typestates of the protocols of files.
 use Rattle.stm_acts.proofs.Held.{generated_agrees}
-use Rattle.mg_acts_law.proofs.Read.{valid_read}
+use Rattle.mg_accepted_law.proofs.Read.{valid_read}
 use Rattle.mg_runs.specs.Laws.{AllProtocolsAgree}
 
 pub protocols_agree : AllProtocolsAgree

@@ -14,7 +14,7 @@ use Rattle.vm_world_law.proofs.Alone.{kept_by}
 use Rattle.vm_world_law.proofs.Begun.{begun_is_fresh}
 use Rattle.vm_world_law.proofs.Order.{order_is_free}
 use Rattle.vm_world_law.proofs.Once.{begun_many, turns_long}
-use Rattle.world_meant_law.specs.Worlds.{IsMeant, WorldsAreMeant}
+use Rattle.vm_world_law.specs.Worlds.{IsMeant, WorldsAreMeant}
 use Rattle.mg_sources.specs.Files.{Source}
 use Rattle.mg_accepted.specs.Program.{HaveCore}
 use Rattle.mg_compile.specs.declared.files.ClassFile.{ClassFile}

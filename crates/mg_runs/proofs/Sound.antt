@@ -13,9 +13,9 @@ use Rattle.jv_values.specs.Values as values
 use Rattle.jv_values.specs.Values.{Ended, Inputs}
 use Rattle.jv_meaning.specs.Meaning.{mean}
 use Rattle.jv_rules.specs.Shape.{IsShaped}
-use Rattle.jv_shaped.specs.Laws.{SpelledIsShaped}
-use Rattle.jv_kept.specs.Laws.{CoreIsKept}
-use Rattle.jv_whole.specs.Laws.{TypesAreEnough}
+use Rattle.jv_resolve_law.specs.ShapedLaws.{SpelledIsShaped}
+use Rattle.jv_names.specs.KeptLaws.{CoreIsKept}
+use Rattle.jv_names.specs.WholeLaws.{TypesAreEnough}
 use Rattle.jv_sound.proofs.Sound.{main_at}
 use Rattle.vm_model.specs.Program as machine
 use Rattle.vm_model.specs.Links.{Flaw, Links, least, flaws, linked}
@@ -40,8 +40,8 @@ use Rattle.mg_compile.proofs.Ready.{is_core, is_held, well_typed}
 use Rattle.mg_compile.specs.declared.files.ClassFile.{ClassFile}
 use Rattle.mg_compile.specs.Files.{HoldClasses, AreClassFiles}
 use Rattle.vm_world_law.specs.declared.role.RoleMain.{RoleMain}
-use Rattle.world_meant_law.specs.Meant.{Holds, RunsAsMeant}
-use Rattle.world_meant_law.specs.Worlds.{DoesAsMeant}
+use Rattle.vm_world_law.specs.Meant.{Holds, RunsAsMeant}
+use Rattle.vm_world_law.specs.Worlds.{DoesAsMeant}
 use Rattle.mg_runs.specs.Runs.{AreSpelled, IsLoaded, HaveMains}
 use Rattle.mg_runs.specs.Laws.{WrittenClassesLink, RunsAreMeant}
 use Rattle.mg_runs.specs.inner.Loading.{HaveFiles}

@@ -31,7 +31,7 @@ use Rattle.vm_world_law.specs.declared.role.RoleMain.{RoleMain}
 use Rattle.vm_world_law.specs.World.{Over, Role, World, turns, IsBegun, events_of}
 use Rattle.vm_world_law.specs.Turns as turning
 use Rattle.vm_world_law.specs.Laws.{Delivers, OrderIsFreeFrom}
-use Rattle.world_meant_law.specs.Worlds.{inputs_of, IsMeant, DoesAsMeant}
+use Rattle.vm_world_law.specs.Worlds.{inputs_of, IsMeant, DoesAsMeant}
 use Rattle.mg_runs.specs.Runs.{IsLoaded, HaveMains}
 
 -- the core of the program, its class files, the program that is linked of their bytes, and the world before the first turn and at the stop

@@ -15,7 +15,7 @@ use Rattle.vm_model.specs.Step.{step}
 use Rattle.vm_step.specs.Main.{HasMain}
 use Rattle.vm_world_law.specs.declared.role.RoleMain.{RoleMain}
 use Rattle.vm_world_law.specs.World.{World, turns, IsBegun}
-use Rattle.world_meant_law.specs.Meant.{Holds, RunsAsMeant}
+use Rattle.vm_world_law.specs.Meant.{Holds, RunsAsMeant}
 use Rattle.gen_rules.specs.Linked.{linked_program}
 use Rattle.mg_sources.specs.Files.{Source}
 use Rattle.mg_accepted.specs.Program.{HaveCore}

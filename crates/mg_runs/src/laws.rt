@@ -6,13 +6,10 @@ ghost use Rattle.mg_runs.specs.Laws.{AllProtocolsAgree, RolesAreMeant, RolesKeep
 use gen_held::written_cores_are_held;
 use gen_links::files_link;
 use gen_sound::mains_run_as_meant;
-use jv_kept::core_is_kept;
-use jv_shaped::spelled_is_shaped;
-use jv_whole::types_are_enough;
-use mg_acts_law::accepted_objects_play;
-use mg_kept_law::accepted_keep_typestates;
-use vm_world_law::{begun_is_fresh, turns_deliver};
-use world_meant_law::worlds_are_meant;
+use jv_names::{core_is_kept, types_are_enough};
+use jv_resolve_law::spelled_is_shaped;
+use mg_accepted_law::{accepted_keep_typestates, accepted_objects_play};
+use vm_world_law::{begun_is_fresh, turns_deliver, worlds_are_meant};
 
 /// The bytes of the class files that are written of the core of some files are read back, and what
 /// is read links to the program that is expected of the core.

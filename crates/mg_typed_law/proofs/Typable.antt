@@ -2,11 +2,11 @@
 -- programs are never bad.
 use Rattle.std.proofs.Common.{◌≡◌, ℕ, List, map, sym, ap, ◌∙◌, subst}
 use Rattle.jv_core.specs.Tree as Core
-use Rattle.jv_kept.specs.Laws.{CoreIsKept}
-use Rattle.jv_shaped.specs.Laws.{SpelledIsShaped}
+use Rattle.jv_names.specs.KeptLaws.{CoreIsKept}
+use Rattle.jv_resolve_law.specs.ShapedLaws.{SpelledIsShaped}
 use Rattle.gen_held.specs.Laws.{WrittenCoresAreHeld}
 use Rattle.gen_rules.specs.Linked.{linked_program}
-use Rattle.gen_typed.specs.Laws.{CoresTypable}
+use Rattle.gen_sound.specs.Laws.{CoresTypable}
 use Rattle.vm_model.specs.Program.{Program}
 use Rattle.vm_model.specs.Links.{linked}
 use Rattle.cls_verify.specs.Typing.{AllTypable}

@@ -5,9 +5,9 @@
 ghost use Rattle.mg_typed_law.specs.Laws.{CompiledClassesAreTypable, RunsAreTypable, TypableRunsNeverBad};
 
 use gen_held::written_cores_are_held;
-use gen_typed::code_is_typable;
-use jv_kept::core_is_kept;
-use jv_shaped::spelled_is_shaped;
+use gen_sound::code_is_typable;
+use jv_names::core_is_kept;
+use jv_resolve_law::spelled_is_shaped;
 use mg_runs::written_classes_link;
 use world_typed_law::typable_worlds_never_bad;
 

@@ -7,8 +7,8 @@ use Rattle.jv_core.specs.Tree as Core
 use Rattle.jv_core.specs.Meaning.{main_of}
 use Rattle.jv_names.specs.Laws.{MainsAreTheSame, FollowsTheSame}
 use Rattle.jv_names.specs.Resolves.{Resolves}
-use Rattle.jv_kept.specs.Laws.{CoreIsKept}
-use Rattle.jv_whole.specs.Laws.{SourcesAreSound}
+use Rattle.jv_names.specs.KeptLaws.{CoreIsKept}
+use Rattle.jv_names.specs.WholeLaws.{SourcesAreSound}
 use Rattle.use_kept.specs.Laws.{KeepsTypestates}
 use Rattle.use_kept.specs.Laws as on_core
 use Rattle.use_meant_law.specs.Laws.{KeepsTo, SourcesKeepTypestates}

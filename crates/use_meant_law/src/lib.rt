@@ -4,9 +4,7 @@
 
 ghost use Rattle.use_meant_law.specs.Laws.{SourcesKeepTypestates};
 
-use jv_kept::core_is_kept;
-use jv_names::{follows_the_same, mains_are_the_same};
-use jv_whole::sources_are_sound;
+use jv_names::{core_is_kept, follows_the_same, mains_are_the_same, sources_are_sound};
 use use_kept::keeps_typestates;
 
 /// Where tables solve the core of well typed sources, for each class with `main`, whatever the other roles sent and whatever

@@ -1,4 +1,5 @@
-//! Roles that take turns, each with its machine, over the lists of messages between them.
+//! Roles that take turns, each with its machine, over the lists of messages between them; and that each does what is
+//! meant, on the messages that the others sent to it.
 //! There is no running code here; each function carries a law, for every list of turns. The types
 //! are those that definitions and code share.
 #![tactic(auto)]
@@ -9,6 +10,7 @@ mod stand;
 ghost use Rattle.vm_world_law.specs.Laws.{BegunIsFresh, LongerListsDoNoHarm, OrderIsFree, RolesRunAlone, StepsDoOne, TurnsDeliver};
 ghost use Rattle.vm_world_law.specs.Laws.{TurnsSwap};
 ghost use Rattle.vm_world_law.specs.Turns.{OneRun, OrdersAgree, RestIsNoBound, RunsStop, StillRoundsRest, TurnsCount};
+ghost use Rattle.vm_world_law.specs.Worlds.{WorldsAreMeant};
 
 pub use role::{RoleEvent, RoleMain, Turned};
 pub use stand::Stand;
@@ -70,4 +72,11 @@ pub fn one_run()
     ensures some { RunsStop }
     ensures still { StillRoundsRest }
     ensures rest { RestIsNoBound }
+{}
+
+/// Whatever turns were taken, each role whose machine alone does what is meant did so among the
+/// others: where it ended so does the meaning, where it waits the meaning waits, and what it has
+/// shown so far is meant.
+pub fn worlds_are_meant()
+    ensures { WorldsAreMeant }
 {}

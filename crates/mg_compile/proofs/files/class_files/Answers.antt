@@ -1,7 +1,7 @@
 use Rattle.std.proofs.Common.{length, map, ap, sym, ◌∙◌, subst}
 use Rattle.std.specs.List.{AllByRecursion}
 use Rattle.cls_tree.specs.View.{class_of as file_of}
-use Rattle.gen_fits.specs.Spelled.{IsSpelled}
+use Rattle.gen_links.specs.Spelled.{IsSpelled}
 use Rattle.mg_compile.proofs.Ready.{all_spelled, one_each}
 use Rattle.mg_compile.proofs.Given.{excess_given}
 use Rattle.mg_compile.proofs.files.class_files.Goals as goal

@@ -1,4 +1,0 @@
-pub mod Splits
-pub mod Running
-pub mod Typed
-pub mod Fitting

@@ -1,5 +1,0 @@
-use Rattle.gen_fits.proofs.Few.{cores_are_small}
-use Rattle.gen_fits.proofs.members_are_few.Goals as goal
-
-pub returns : goal.returns
-returns c = record { few = cores_are_small }

@@ -1,4 +1,0 @@
-pub mod Encodable
-pub mod Held
-pub mod Files
-pub mod Spelled

@@ -1,5 +1,0 @@
-use Rattle.jv_kept.proofs.Completing as laws
-use Rattle.jv_kept.proofs.completes_alike.Goals as goal
-
-pub returns : goal.returns
-returns c = laws.completes_alike

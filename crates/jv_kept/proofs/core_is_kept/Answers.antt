@@ -1,5 +1,0 @@
-use Rattle.jv_kept.proofs.Kept as laws
-use Rattle.jv_kept.proofs.core_is_kept.Goals as goal
-
-pub returns : goal.returns
-returns c = laws.core_is_kept

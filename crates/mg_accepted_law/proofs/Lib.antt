@@ -1,0 +1,4 @@
+pub mod Read
+pub mod Held
+pub mod Accepted
+pub mod Kept

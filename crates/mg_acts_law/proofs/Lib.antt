@@ -1,3 +1,0 @@
-pub mod Read
-pub mod Held
-pub mod Accepted
