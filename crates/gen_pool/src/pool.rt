@@ -39,9 +39,15 @@ impl From<Memory> for PoolFault {
 
 /// Constants, each once, in the order in which they were first asked for. Contracts see the list
 /// of the constants.
-#[derive(Drop)]
 pub struct Pool {
     keys: IndexSet<Key>,
+}
+
+// One call lets go of it, wherever a function ends.
+impl Drop for Pool {
+    fn drop(self) {
+        let Pool { keys: _ } = self;
+    }
 }
 
 impl Model for Pool {
@@ -144,7 +150,8 @@ impl Pool {
         ensures { IfOk result (λ consts. consts.items ≡ self) }
     {
         let mut consts = List::new(alloc);
-        for key in self.keys {
+        let Pool { keys } = self;
+        for key in keys {
             consts.push(const_of(key)?)?;
         }
         Ok(consts)

@@ -17,13 +17,25 @@ use ts_tree::Typestate;
 /// the kind `Protocol` exactly where the typestate of its class names it. The first slots of a
 /// method are its parameters; each other slot is declared once and each loop stands once, both in
 /// the order of the text. The scope of a loop has the slots in scope where it begins.
-#[derive(Drop)]
 pub struct Core {
     classes: List<CoreClass>,
     enums: List<CoreEnum>,
     methods: List<CoreMethod>,
     typestates: List<Typestate>,
     names: Names,
+}
+
+// One call lets go of it, wherever a function ends.
+impl Drop for Core {
+    fn drop(self) {
+        let Core {
+            classes: _,
+            enums: _,
+            methods: _,
+            typestates: _,
+            names: _,
+        } = self;
+    }
 }
 
 impl Model for Core {

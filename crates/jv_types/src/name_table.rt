@@ -12,7 +12,6 @@ use mg_text::Names;
 use ts_tree::Typestate;
 
 /// A program whose declarations have no type fault, in tables by name.
-#[derive(Drop)]
 pub struct Table<'a> {
     pub(crate) files: &'a [File],
     pub(crate) typestates: &'a [Typestate],
@@ -26,4 +25,20 @@ pub struct Table<'a> {
     pub(crate) enums: Vec<EnumEntry<'a>>,
     pub(crate) enum_names: Names,
     ghost tabled: { IsTabled files.now typestates.now protocols.items typestate_names classes.items class_names enums.items enum_names } by { Prim.hlevel (codes, exprs.the_row.coded, stmts.the_row.coded) },
+}
+
+// One call lets go of it, wherever a function ends.
+impl Drop for Table<'_> {
+    fn drop(self) {
+        let Table {
+            files: _,
+            typestates: _,
+            protocols: _,
+            typestate_names: _,
+            classes: _,
+            class_names: _,
+            enums: _,
+            enum_names: _,
+        } = self;
+    }
 }

@@ -12,13 +12,25 @@ use std::marker::Model;
 
 /// A folder in memory, which tells its files. Its calls of `read` and `write` are counted
 /// together from 0, and those whose number is listed fail.
-#[derive(Drop)]
 pub struct MemFolder {
     files: FileList,
     calls: u64,
     failing: NumberList,
     failed_reads: List<Text>,
     failed_writes: List<Text>,
+}
+
+// One call lets go of it, wherever a function ends.
+impl Drop for MemFolder {
+    fn drop(self) {
+        let MemFolder {
+            files: _,
+            calls: _,
+            failing: _,
+            failed_reads: _,
+            failed_writes: _,
+        } = self;
+    }
 }
 
 impl Model for MemFolder {

@@ -16,9 +16,15 @@ use std::marker::Model;
 pub struct Name(pub u32);
 
 /// A table of texts, each once. Contracts see it as the list of them, in the order of first adding.
-#[derive(Drop)]
 pub struct Names {
     texts: IndexSet<String>,
+}
+
+// One call lets go of it, wherever a function ends.
+impl Drop for Names {
+    fn drop(self) {
+        let Names { texts: _ } = self;
+    }
 }
 
 impl Model for Names {

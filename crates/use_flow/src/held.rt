@@ -31,7 +31,6 @@ use use_elements::{copy_set, empty_set, mark};
 /// The tables of a program: a set for each field of an object in a state, each parameter and result
 /// of a context, each field where a helper is entered and left, and each variable at a loop's head.
 /// Each set is as wide as its class has elements.
-#[derive(Drop)]
 pub struct Tables {
     // By typestates: the states that calls lead to.
     reached: Vec<StateSet>,
@@ -39,6 +38,18 @@ pub struct Tables {
     keys: IndexSet<TableKey>,
     // By the numbers of the keys.
     sets: Vec<StateSet>,
+}
+
+// One call lets go of it, wherever a function ends.
+impl Drop for Tables {
+    fn drop(self) {
+        let Tables {
+            reached: _,
+            contexts: _,
+            keys: _,
+            sets: _,
+        } = self;
+    }
 }
 
 // The contexts, each with its place as its number.

@@ -16,11 +16,17 @@ use mg_text::Memory;
 use std::alloc::Global;
 
 /// Declared members, and the number of the first of each name, descriptor and kind.
-#[derive(Drop)]
 pub(crate) struct Members<'a> {
     pub all: Vec<Declared<'a>>,
     numbers: IndexMap<Key, u32>,
     ghost firsts: { HasFirsts (get ⟦<Key as PartialEq>⟧.eq numbers) (map declared_of all.items) } by { Prim.hlevel props },
+}
+
+// One call lets go of it, wherever a function ends.
+impl Drop for Members<'_> {
+    fn drop(self) {
+        let Members { all: _, numbers: _ } = self;
+    }
 }
 
 impl<'a> Members<'a> {

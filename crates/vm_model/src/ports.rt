@@ -13,10 +13,19 @@ use std::collections::VecDeque;
 use std::marker::Model;
 
 /// Roles, and for each ordered pair of them the messages on their way from one to the other.
-#[derive(Drop)]
 pub struct Ports {
     roles: Names,
     queues: Vec<Vec<VecDeque<Sent>>>,
+}
+
+// One call lets go of it, wherever a function ends.
+impl Drop for Ports {
+    fn drop(self) {
+        let Ports {
+            roles: _,
+            queues: _,
+        } = self;
+    }
 }
 
 impl Model for Ports {

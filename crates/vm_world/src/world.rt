@@ -24,12 +24,23 @@ use vm_step::Machine;
 use vm_world_law::{RoleEvent, RoleMain, Turned};
 
 /// Roles that run one program, the messages on their way, and the events of all roles in their order.
-#[derive(Drop)]
 pub struct World {
     linked: Linked,
     ports: Ports,
     pub(crate) roles: Vec<Role>,
     events: List<RoleEvent>,
+}
+
+// One call lets go of it, wherever a function ends.
+impl Drop for World {
+    fn drop(self) {
+        let World {
+            linked: _,
+            ports: _,
+            roles: _,
+            events: _,
+        } = self;
+    }
 }
 
 impl Model for World {
