@@ -4,10 +4,11 @@ ghost use Rattle.std.specs.Prelude.{◌≡◌, ◌++◌, OnOk, string_bytes, cod
 ghost use Rattle.mg_trace.specs.Trace.{line_of, event_words, object_of, object_words, carried_words};
 ghost use Rattle.mg_trace.specs.inner.Kept.{known_at};
 ghost use Rattle.mg_trace.specs.inner.Tabled.{AreTold, telling_of};
+ghost use Rattle.mg_trace.specs.inner.Words.{word_text};
 
 use crate::objects::{Tracked, known};
 use crate::results::Answers;
-use crate::words::{carried_word, push_word, told_word};
+use crate::words::{Word, carried_word, push_word, told_word};
 use mg_text::{Carried, Event, Memory, Text};
 
 /// Appends the line of an event of the role of this name. A text that is printed has none.
@@ -42,14 +43,16 @@ fn push_event(
 {
     match event {
         Event::Print(_) => Ok(()),
-        Event::Made { object, class } => push_made(*object, class.as_str(), lines),
+        Event::Made { object, class } => {
+            push_object("made ", class.as_str(), *object, Word::Nothing, lines)
+        }
         Event::Enter { object, method } => {
             let (class, _) = known(objects, *object);
-            push_call("enter ", class, *object, method.as_str(), lines)
+            push_object("enter ", class, *object, Word::Said(method.as_str()), lines)
         }
         Event::Leave { object, answer } => {
             let (class, method) = known(objects, *object);
-            push_call("leave ", class, *object, method, lines)?;
+            push_object("leave ", class, *object, Word::Said(method), lines)?;
             push_word(told_word(answers, class, method, *answer), lines)
         }
         Event::Send {
@@ -68,27 +71,19 @@ fn push_event(
     }
 }
 
-// Appends that an object was made.
-fn push_made(object: u32, class: &str, lines: &mut String) -> Result<(), Memory>
-    ensures { OnOk result (string_bytes lines.new ≡ string_bytes lines.old ++ (codes "made " ++ object_words class.now object)) }
-{
-    write!(lines, "made {class}#{object}")?;
-    Ok(())
-}
-
-// Appends what an object of a class does with a method.
-fn push_call(
+// Appends what is told of an object of a class, with the method that it is told of.
+fn push_object(
     what: &str,
     class: &str,
     object: u32,
-    method: &str,
+    method: Word<'_>,
     lines: &mut String,
 ) -> Result<(), Memory>
     ensures { OnOk result (string_bytes lines.new ≡ string_bytes lines.old
-        ++ (what.now ++ object_words class.now object ++ codes " " ++ method.now)) }
+        ++ (what.now ++ object_words class.now object ++ word_text method.entry)) }
 {
-    write!(lines, "{what}{class}#{object} {method}")?;
-    Ok(())
+    write!(lines, "{what}{class}#{object}")?;
+    push_word(method, lines)
 }
 
 // Appends a message to or from a peer.
