@@ -3,9 +3,15 @@ use Rattle.std.proofs.lemmas.List.{take_more, map-append}
 use Rattle.vm_model.specs.declared.linked.LinkedClass.{LinkedClass}
 use Rattle.vm_model.specs.Program.{ClassOf}
 use Rattle.vm_model.specs.View.{class_of, classes_of}
+use Rattle.cls_table.specs.Known.{KnowsClass}
 use Rattle.cls_table.specs.Tables.{AreClasses}
 use Rattle.cls_table.proofs.Counting.{classes_more}
 use Rattle.cls_table.proofs.classes.classes_kinds.Goals as goal
+
+pub class_kinds-requires-clause-known : goal.class_kinds-requires-clause-known
+class_kinds-requires-clause-known c =
+    subst (KnowsClass c.args.names.now) (sym c.class-item.is)
+    (c.requires.known c.loop-class.class-index c.class-item.result c.loop-class-test.true)
 
 pub loop-class-preserved : goal.loop-class-preserved
 loop-class-preserved c =

@@ -3,9 +3,15 @@ use Rattle.std.proofs.lemmas.List.{take_more, map-append}
 use Rattle.vm_model.specs.declared.linked.LinkedMethod.{LinkedMethod}
 use Rattle.vm_model.specs.Program.{MethodOf}
 use Rattle.vm_model.specs.View.{method_of}
+use Rattle.cls_table.specs.Known.{KnowsMethod}
 use Rattle.cls_table.specs.Tables.{AreMethods}
 use Rattle.cls_table.proofs.Tabled.{more_methods}
 use Rattle.cls_table.proofs.classes.methods_kinds.Goals as goal
+
+pub method_kinds-requires : goal.method_kinds-requires
+method_kinds-requires c =
+    subst (KnowsMethod c.args.names.now) (sym c.method-item.is)
+    (c.requires c.loop-method.method-index c.method-item.result c.loop-method-test.true)
 
 pub loop-method-preserved : goal.loop-method-preserved
 loop-method-preserved c class e =
