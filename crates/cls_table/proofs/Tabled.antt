@@ -1,6 +1,8 @@
 -- Names have numbers, and types have kinds.
 use Rattle.std.proofs.Common.{◌≡◌, ℕ, zero, suc, ◌+◌, Bool, true, false, List, [], ◌∷◌, ◌++◌, length, map, get_or, position, cond, ltb}
+use Rattle.std.proofs.Common.{◌<◌, ◌≤◌, drop, append_assoc}
 use Rattle.std.proofs.Common.{Option, Some, None, option_map, is_some, refl, sym, ap, ap₂, ◌∙◌, arith}
+use Rattle.std.proofs.lemmas.List.{append-nil, at_drop_more, drop_all, map-append}
 use Rattle.std.specs.Prelude.{if◌then◌else◌, slice_get, codes}
 use Rattle.std.specs.List.{IsDistinct, list_any, position_or_len}
 use Rattle.std.proofs.lemmas.Cmp.{nat_list_eq_equiv}
@@ -104,3 +106,21 @@ more_methods names class [] [] m x a h = (h, tt)
 more_methods names class [] (y ∷ xs) m x a h = absurd a
 more_methods names class (n ∷ ms) [] m x a h = absurd a
 more_methods names class (n ∷ ms) (y ∷ xs) m x a h = (a.0, more_methods names class ms xs m x a.1 h)
+
+-- A loop that makes one thing of each of a list.
+module _ {A B C : Type 0} (view : A → C) (of : B → C) (xs : List B) (i : ℕ) where
+  pub one_made : (x : B) (done new : List A) (a : A) (total : List C) → i < length xs → x ≡ get_or xs i x → view a ≡ of x →
+      new ≡ done ++ a ∷ [] → map view done ++ map of (drop i xs) ≡ total → map view new ++ map of (drop (i + 1) xs) ≡ total
+  one_made x done new a total within is same grown l =
+      let rest = map of (drop (i + 1) xs) in
+      let cut : drop i xs ≡ x ∷ drop (i + 1) xs = at_drop_more (λ ys. ys) xs i x within ∙ ap (λ y. y ∷ drop (i + 1) xs) (sym is) in
+      ap (λ ys. map view ys ++ rest) grown
+      ∙ ap (λ ys. ys ++ rest) (map-append view done (a ∷ []))
+      ∙ append_assoc (map view done) (view a ∷ []) rest
+      ∙ ap (λ y. map view done ++ (y ∷ rest)) same
+      ∙ ap (λ ys. map view done ++ map of ys) (sym cut)
+      ∙ l
+
+  pub all_made : (done : List A) (total : List C) → length xs ≤ i → map view done ++ map of (drop i xs) ≡ total → map view done ≡ total
+  all_made done total past l =
+      sym (append-nil (map view done)) ∙ ap (λ ys. map view done ++ map of ys) (sym (drop_all i xs past)) ∙ l

@@ -1,6 +1,6 @@
 //! The names of all classes that a linked program may name, each once: `Object`'s first and `PrintStream`'s second.
 
-ghost use Rattle.std.specs.Prelude.{◌≡◌, ◌<◌, true, Some, position, IfOk, OnOk};
+ghost use Rattle.std.specs.Prelude.{◌≡◌, ◌<◌, [], true, Some, position, IfOk, OnOk};
 ghost use Rattle.std.specs.Str.{bytes_eq};
 ghost use Rattle.mg_text.specs.Call.{Name as Named};
 ghost use Rattle.mg_text.specs.Interned.{with_text};
@@ -27,25 +27,26 @@ pub(crate) fn add_name(names: &mut Names, name: &str) -> Result<(), Memory>
     Ok(())
 }
 
-/// The names of the built-in classes.
-fn built_in_names(alloc: Global) -> Result<Names, Memory>
-    ensures are { IfOk result (λ n. AreNames n) }
-    ensures known { IfOk result (λ n. (name : Named) → is_built_in name ≡ true → IsKnown n name) }
+/// Adds the names of the built-in classes, where there are none.
+fn add_built_in(names: &mut Names) -> Result<(), Memory>
+    requires { names.old ≡ [] }
+    ensures are { OnOk result (AreNames names.new) }
+    ensures known { OnOk result ((name : Named) → is_built_in name ≡ true → IsKnown names.new name) }
 {
-    let mut names = Names::new(alloc);
-    add_name(&mut names, OBJECT_CLASS)?;
-    add_name(&mut names, PRINT_STREAM_CLASS)?;
-    add_name(&mut names, STRING_CLASS)?;
-    add_name(&mut names, SYSTEM_CLASS)?;
-    add_name(&mut names, SESSION_CLASS)?;
-    Ok(names)
+    add_name(names, OBJECT_CLASS)?;
+    add_name(names, PRINT_STREAM_CLASS)?;
+    add_name(names, STRING_CLASS)?;
+    add_name(names, SYSTEM_CLASS)?;
+    add_name(names, SESSION_CLASS)?;
+    Ok(())
 }
 
 /// The names of the built-in classes and of those of a program.
 pub(crate) fn class_names(alloc: Global, classes: &[LinkedClass]) -> Result<Names, Memory>
     ensures { IfOk result (λ n. KnowsNames n (classes_of classes.now)) }
 {
-    let mut names = built_in_names(alloc)?;
+    let mut names = Names::new(alloc);
+    add_built_in(&mut names)?;
     for class in classes {
         add_name(&mut names, class.name.as_str())?;
     }

@@ -1,5 +1,5 @@
 -- What stands at a place among images of a list, or else this.
-use Rattle.std.proofs.Common.{◌≡◌, ◌<◌, ℕ, zero, suc, List, [], ◌∷◌, map, length, get_or, refl, ap, arith}
+use Rattle.std.proofs.Common.{◌≡◌, ◌<◌, ℕ, zero, suc, List, [], ◌∷◌, ◌++◌, map, length, get_or, refl, ap, arith}
 use Rattle.std.specs.Prelude.{slice_set}
 
 module _ {A B : Type 0} (f : A → B) (d : B) where
@@ -24,3 +24,10 @@ module _ {A B : Type 0} (f : A → B) (d : B) where
   image_is [] i x lt is = absurd (omega arith)
   image_is (y ∷ xs) zero x lt is = ap f is
   image_is (y ∷ xs) (suc i) x lt is = image_is xs i x (omega arith) is
+
+  -- one more that is nothing else
+  pub padded : (xs : List A) (x : A) (i : ℕ) → f x ≡ d → image (xs ++ x ∷ []) i ≡ image xs i
+  padded [] x zero is = is
+  padded [] x (suc i) is = refl
+  padded (y ∷ xs) x zero is = refl
+  padded (y ∷ xs) x (suc i) is = padded xs x i is

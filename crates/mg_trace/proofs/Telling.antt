@@ -78,11 +78,14 @@ told_more t names roles events e name objects old new known named own h line =
 
 -- the words of an object that left a method
 pub left : (t : Telling) (objects : List Tracked) (event : Event) (o : ℕ) (answer : Option ℤ) → event ≡ seen.Leave o answer →
-    (class method : Name) → class ≡ (known_at objects o).class → method ≡ last_call (known_at objects o).calls → (old mid new : List ℕ) →
-    mid ≡ old ++ (codes "leave " ++ object_words class o ++ codes " " ++ method) → new ≡ mid ++ told_answer t class method answer →
+    (class method : Name) → class ≡ (known_at objects o).class → method ≡ last_call (known_at objects o).calls →
+    (old mid new word : List ℕ) → mid ≡ old ++ (codes "leave " ++ object_words class o ++ (codes " " ++ method)) → new ≡ mid ++ word →
+    word ≡ told_answer t class method answer →
     new ≡ old ++ event_words t (known_at objects (object_of event)) event
-left t objects event o answer is class method class_is method_is old mid new call line =
-    line ∙ ap (λ (l : List ℕ). l ++ told_answer t class method answer) call
+left t objects event o answer is class method class_is method_is old mid new word call line told =
+    line ∙ ap (λ (l : List ℕ). mid ++ l) told
+    ∙ ap (λ (l : List ℕ). l ++ told_answer t class method answer)
+    (call ∙ ap (λ (l : List ℕ). old ++ l) (sym (append_assoc (codes "leave " ++ object_words class o) (codes " ") method)))
     ∙ append_assoc old (codes "leave " ++ object_words class o ++ codes " " ++ method) (told_answer t class method answer)
     ∙ ap (λ (c : Name). old ++ words c method) class_is
     ∙ ap (λ (m : Name). old ++ words (known_at objects o).class m) method_is

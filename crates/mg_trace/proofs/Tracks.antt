@@ -1,18 +1,20 @@
 -- What is kept of the objects of each role.
-use Rattle.std.proofs.Common.{◌≡◌, ◌==◌, ◌<◌, ◌+◌, ◌-◌, take, vec_len, ℕ, List, [], ◌∷◌, ◌++◌, Option, Bool, true, false, if◌then◌else◌}
-use Rattle.std.proofs.Common.{Decides, length, get_or, refl, sym, ap, ◌∙◌}
+use Rattle.std.proofs.Common.{◌≡◌, ◌==◌, ◌<◌, ◌+◌, ◌-◌, take, vec_len, ℕ, List, [], ◌∷◌, ◌++◌, Option, Some, None, Bool, true, false}
+use Rattle.std.proofs.Common.{if◌then◌else◌, Decides, length, get_or, refl, sym, ap, ◌∙◌}
 use Rattle.std.specs.Prelude.{Vec, MatchOption, slice_set}
 use Rattle.std.specs.Borrow.{Bor}
 use Rattle.std.specs.Global.{Global}
 use Rattle.std.specs.Option.{option_to_list}
 use Rattle.std.proofs.lemmas.Bool.Decides.{Decides-eqb}
 use Rattle.mg_text.specs.Call.{Name}
+use Rattle.mg_text.specs.declared.event.Event.{Event}
+use Rattle.mg_text.specs.declared.event.Event.TheVariants as seen
 use Rattle.vm_world_law.specs.declared.role.RoleEvent.{RoleEvent}
 use Rattle.mg_trace.specs.declared.objects.Tracked.{Tracked}
 use Rattle.mg_trace.specs.Trace.{Known, unknown, other_calls, known_more}
-use Rattle.mg_trace.specs.inner.Kept.{known_of, known_at, objects_at, KeepsMore, KeepMore}
+use Rattle.mg_trace.specs.inner.Kept.{known_of, known_at, objects_at, object_in, changed, KeepsMore, KeepMore}
 use Rattle.mg_trace.proofs.Calls.{calls_of, call_more, popped}
-use Rattle.mg_trace.proofs.Images.{here, there, image_is}
+use Rattle.mg_trace.proofs.Images.{here, there, image_is, padded}
 
 differ : (i o : ℕ) → Decides false (i ≡ o) → i ≡ o → ⊥
 differ i o d e = let no : false ≡ true = d.1 e in absurd cc
@@ -43,6 +45,11 @@ pub known_new : (name : Bor Name) (calls : Vec (Bor Name) Global) (class : Name)
 known_new name calls class is none =
     ap (λ (l : List (Bor Name)). record { class = name.now; calls = calls_of now l }) none
     ∙ ap (λ (x : Name). record { class = x; calls = [] }) is
+
+-- nothing is known of an object without a class and calls
+pub none_tracked : (calls : Vec (Bor Name) Global) → calls.items ≡ [] →
+    ◌≡◌ {A = Known} (record { class = []; calls = calls_of now calls.items }) unknown
+none_tracked calls none = ap (λ (l : List (Bor Name)). record { class = []; calls = calls_of now l }) none
 
 -- an object entered a method
 pub known_entered : (t : Tracked) (calls : Vec (Bor Name) Global) (method : Bor Name) (k : Known) → known_of t ≡ k →
@@ -83,3 +90,39 @@ role_changed roles e within before after is more r o = go (e.role == r) (Decides
         ∙ more o
         ∙ ap (λ l. known_more o (known_at l o) e.event) (was ∙ ap (objects_at roles) (d.0 refl))
     go false d = ap (λ l. known_at l o) (there items [] roles e.role r after (differ e.role r d))
+
+abbrev number_in : Option ℕ → ℕ
+number_in None = 0
+number_in (Some n) = n
+
+-- an event of no object tells nothing of any
+pub told_of_none : (e : Event) → None ≡ object_in e → (k : Known) (o : ℕ) → k ≡ known_more o k e
+told_of_none (seen.Made n class) none k o = absurd (let no : ⊥ = cc in no)
+told_of_none (seen.Enter n method) none k o = absurd (let no : ⊥ = cc in no)
+told_of_none (seen.Leave n answer) none k o = absurd (let no : ⊥ = cc in no)
+told_of_none (seen.Print text) none k o = refl
+told_of_none (seen.Send peer label payload) none k o = refl
+told_of_none (seen.Look peer label) none k o = refl
+told_of_none (seen.Take peer label payload) none k o = refl
+
+-- an event of an object tells of that alone
+pub told_of_one : (e : Event) (n : ℕ) → Some n ≡ object_in e → (k : Known) (o : ℕ) →
+    (if n == o then changed k e else k) ≡ known_more o k e
+told_of_one (seen.Made m class) n is k o = ap (λ (z : Option ℕ). if number_in z == o then record { class = class; calls = [] } else k) is
+told_of_one (seen.Enter m method) n is k o =
+    ap (λ (z : Option ℕ). if number_in z == o then record k { calls = method ∷ k.calls } else k) is
+told_of_one (seen.Leave m answer) n is k o =
+    ap (λ (z : Option ℕ). if number_in z == o then record k { calls = other_calls k.calls } else k) is
+told_of_one (seen.Print text) n is k o = absurd (let no : ⊥ = cc in no)
+told_of_one (seen.Send peer label payload) n is k o = absurd (let no : ⊥ = cc in no)
+told_of_one (seen.Look peer label) n is k o = absurd (let no : ⊥ = cc in no)
+told_of_one (seen.Take peer label payload) n is k o = absurd (let no : ⊥ = cc in no)
+
+-- nothing is known of more objects
+pub known_padded : (objects : List Tracked) (t : Tracked) (o : ℕ) → known_of t ≡ unknown → known_at (objects ++ t ∷ []) o ≡ known_at objects o
+known_padded = padded known_of unknown
+
+-- roles without objects
+pub roles_padded : (roles : List (Vec Tracked Global)) (more : Vec Tracked Global) (r : ℕ) → more.items ≡ [] →
+    objects_at (roles ++ more ∷ []) r ≡ objects_at roles r
+roles_padded = padded items []

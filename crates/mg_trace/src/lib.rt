@@ -9,6 +9,7 @@ mod printing;
 mod results;
 mod roles;
 mod tracing;
+mod words;
 
 ghost use Rattle.mg_trace.specs.Computed.{AreWorked};
 

@@ -1,11 +1,10 @@
 //! What the events of a role tell of its objects. Texts stay where the events have them.
 
-ghost use Rattle.std.specs.Prelude.{◌≡◌, ◌<◌, ℕ, ℤ, Option, OnOk, length};
-ghost use Rattle.mg_text.specs.declared.event.Event.TheVariants as seen;
-ghost use Rattle.mg_trace.specs.Trace.{unknown, last_call};
-ghost use Rattle.mg_trace.specs.inner.Kept.{known_at, known_of, KeepsMore};
+ghost use Rattle.std.specs.Prelude.{◌≡◌, ◌<◌, ℕ, OnOk, length};
+ghost use Rattle.mg_trace.specs.Trace.{last_call};
+ghost use Rattle.mg_trace.specs.inner.Kept.{known_at, known_of, object_in, changed, KeepsMore};
 
-use mg_text::{Event, Memory, Text};
+use mg_text::{Event, Memory};
 use std::alloc::Global;
 
 /// What the events so far tell of an object: the class of which it was made, and the methods that it
@@ -17,16 +16,6 @@ pub(crate) struct Tracked<'a> {
 }
 
 impl<'a> Tracked<'a> {
-    // Nothing is known yet.
-    fn unknown(alloc: Global) -> Tracked<'a>
-        ensures { known_of result ≡ unknown }
-    {
-        Tracked {
-            class: "",
-            calls: Vec::new(alloc),
-        }
-    }
-
     // The method that was entered last, of those that weren't left.
     fn last_call(&self) -> &'a str
         ensures { result.now ≡ last_call (known_of self.now).calls }
@@ -57,52 +46,48 @@ pub(crate) fn note<'a>(
 ) -> Result<(), Memory>
     ensures { OnOk result (KeepsMore objects.old.items objects.new.items event.now) }
 {
-    match event {
-        Event::Made { object, class } => made(alloc, objects, *object, class),
-        Event::Enter { object, method } => entered(alloc, objects, *object, method),
-        Event::Leave { object, .. } => left(alloc, objects, *object),
-        Event::Print(_) | Event::Send { .. } | Event::Look { .. } | Event::Take { .. } => Ok(()),
+    match object_in(event) {
+        None => Ok(()),
+        Some(object) => {
+            pad(alloc, objects, object)?;
+            change(&mut objects[object as usize], event)
+        }
     }
 }
 
-// An object of a class was made.
-fn made<'a>(
-    alloc: Global,
-    objects: &mut Vec<Tracked<'a>>,
-    object: u32,
-    class: &'a Text,
-) -> Result<(), Memory>
-    ensures { OnOk result (KeepsMore objects.old.items objects.new.items (seen.Made object class.now)) }
+// The object of which an event tells, if of any.
+fn object_in(event: &Event) -> Option<u32>
+    ensures { result ≡ object_in event.now }
 {
-    pad(alloc, objects, object)?;
-    objects[object as usize] = Tracked {
-        class: class.as_str(),
-        calls: Vec::new(alloc),
-    };
-    Ok(())
+    match event {
+        Event::Made { object, .. } => Some(*object),
+        Event::Enter { object, .. } => Some(*object),
+        Event::Leave { object, .. } => Some(*object),
+        Event::Print(_) | Event::Send { .. } | Event::Look { .. } | Event::Take { .. } => None,
+    }
 }
 
-// An object entered a method.
-fn entered<'a>(
-    alloc: Global,
-    objects: &mut Vec<Tracked<'a>>,
-    object: u32,
-    method: &'a Text,
-) -> Result<(), Memory>
-    ensures { OnOk result (KeepsMore objects.old.items objects.new.items (seen.Enter object method.now)) }
+// What an event tells more of its object: it was made, entered a method, or left the one that it had
+// entered last.
+fn change<'a>(tracked: &mut Tracked<'a>, event: &'a Event) -> Result<(), Memory>
+    ensures { OnOk result (known_of tracked.new ≡ changed (known_of tracked.old) event.now) }
 {
-    pad(alloc, objects, object)?;
-    objects[object as usize].calls.push(method.as_str())?;
-    Ok(())
-}
-
-// An object left the method that it had entered last.
-fn left(alloc: Global, objects: &mut Vec<Tracked>, object: u32) -> Result<(), Memory>
-    ensures { (answer : Option ℤ) → OnOk result (KeepsMore objects.old.items objects.new.items (seen.Leave object answer)) }
-{
-    pad(alloc, objects, object)?;
-    let _method = objects[object as usize].calls.pop();
-    Ok(())
+    match event {
+        Event::Made { class, .. } => {
+            tracked.class = class.as_str();
+            tracked.calls.clear();
+            Ok(())
+        }
+        Event::Enter { method, .. } => {
+            tracked.calls.push(method.as_str())?;
+            Ok(())
+        }
+        Event::Leave { .. } => {
+            let _method = tracked.calls.pop();
+            Ok(())
+        }
+        Event::Print(_) | Event::Send { .. } | Event::Look { .. } | Event::Take { .. } => Ok(()),
+    }
 }
 
 // Makes room for what is told of an object. Nothing more is known of any.
@@ -111,7 +96,10 @@ fn pad(alloc: Global, objects: &mut Vec<Tracked>, object: u32) -> Result<(), Mem
     ensures same { OnOk result ((o : ℕ) → known_at objects.new.items o ≡ known_at objects.old.items o) }
 {
     for _ in objects.len()..object as usize + 1 {
-        objects.push(Tracked::unknown(alloc))?;
+        objects.push(Tracked {
+            class: "",
+            calls: Vec::new(alloc),
+        })?;
     }
     Ok(())
 }

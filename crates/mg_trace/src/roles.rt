@@ -1,12 +1,11 @@
 //! What the events of a run tell of the objects of each role.
 
 ghost use Rattle.std.specs.Prelude.{◌≡◌, ◌<◌, ℕ, OnOk, length};
-ghost use Rattle.mg_trace.specs.inner.Kept.{objects_at, KeepMore};
+ghost use Rattle.mg_trace.specs.inner.Kept.{objects_at};
 
-use crate::objects::{Tracked, note};
+use crate::objects::Tracked;
 use mg_text::Memory;
 use std::alloc::Global;
-use vm_world_law::RoleEvent;
 
 /// Makes room for the objects of a role. No role has more.
 pub(crate) fn make_room(
@@ -29,16 +28,4 @@ pub(crate) fn objects_of<'a, 'b>(roles: &'b [Vec<Tracked<'a>>], role: u32) -> &'
     ensures { result.now ≡ objects_at roles.now role }
 {
     roles[role as usize].as_slice()
-}
-
-/// What an event of a role tells more.
-pub(crate) fn note_of_role<'a>(
-    alloc: Global,
-    roles: &mut Vec<Vec<Tracked<'a>>>,
-    event: &'a RoleEvent,
-) -> Result<(), Memory>
-    requires { event.now.role < length roles.old.items }
-    ensures { OnOk result (KeepMore roles.old.items roles.new.items event.now) }
-{
-    note(alloc, &mut roles[event.role as usize], &event.event)
 }

@@ -1,13 +1,16 @@
 //! The trace of a run: the lines of its events.
 
-ghost use Rattle.std.specs.Prelude.{◌≡◌, [], IfOk};
+ghost use Rattle.std.specs.Prelude.{◌≡◌, List as Seq, [], ◌∷◌, ◌++◌, IfOk, OnOk, string_bytes};
+ghost use Rattle.vm_world_law.specs.declared.role.RoleEvent.{RoleEvent as Seen};
 ghost use Rattle.mg_trace.specs.Trace.{trace, plain_trace, lines_from};
+ghost use Rattle.mg_trace.specs.inner.Kept.{AreKnown};
 ghost use Rattle.mg_trace.specs.inner.Tabled.{AreTold, telling_of};
 
 use crate::lines::push_line;
 use crate::names::role_name;
+use crate::objects::{Tracked, note};
 use crate::results::{Answers, Results};
-use crate::roles::{make_room, note_of_role, objects_of};
+use crate::roles::{make_room, objects_of};
 use jv_core::Core;
 use mg_text::{Memory, Text};
 use std::alloc::Global;
@@ -55,11 +58,29 @@ fn told(
     let mut roles = Vec::new(alloc);
     let mut lines = String::new(alloc);
     for event in events {
-        make_room(alloc, &mut roles, event.role)?;
-        let name = role_name(names, event.role);
-        let objects = objects_of(roles.as_slice(), event.role);
-        push_line(answers, name, objects, &event.event, &mut lines)?;
-        note_of_role(alloc, &mut roles, event)?;
+        push_next(alloc, answers, names, &mut roles, event, &mut lines)?;
     }
     Ok(Text::from_string(lines))
+}
+
+// Appends the line of one event more, and keeps what it tells of the objects of its role.
+fn push_next<'a>(
+    alloc: Global,
+    answers: Answers<'_>,
+    names: &[Text],
+    roles: &mut Vec<Vec<Tracked<'a>>>,
+    event: &'a RoleEvent,
+    lines: &mut String,
+) -> Result<(), Memory>
+    requires { AreTold answers }
+    ensures { (before : Seq Seen) → AreKnown roles.old.items before →
+        string_bytes lines.old ≡ lines_from (telling_of answers.entry) names.now [] before →
+        OnOk result (AreKnown roles.new.items (before ++ event.now ∷ [])
+        × (string_bytes lines.new ≡ lines_from (telling_of answers.entry) names.now [] (before ++ event.now ∷ []))) }
+{
+    make_room(alloc, roles, event.role)?;
+    let name = role_name(names, event.role);
+    let objects = objects_of(roles.as_slice(), event.role);
+    push_line(answers, name, objects, &event.event, lines)?;
+    note(alloc, &mut roles[event.role as usize], &event.event)
 }

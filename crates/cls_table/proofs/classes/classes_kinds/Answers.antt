@@ -1,11 +1,17 @@
 use Rattle.std.proofs.Common.{List, [], ◌∷◌, ◌++◌, take, sym, ap, subst, ◌∙◌}
-use Rattle.std.proofs.lemmas.List.{take_more, map-append}
+use Rattle.std.proofs.lemmas.List.{take_more, take_all, map-append}
 use Rattle.vm_model.specs.declared.linked.LinkedClass.{LinkedClass}
 use Rattle.vm_model.specs.Program.{ClassOf}
 use Rattle.vm_model.specs.View.{class_of, classes_of}
+use Rattle.cls_table.specs.Known.{KnowsClass}
 use Rattle.cls_table.specs.Tables.{AreClasses}
 use Rattle.cls_table.proofs.Counting.{classes_more}
 use Rattle.cls_table.proofs.classes.classes_kinds.Goals as goal
+
+pub class_kinds-requires-clause-known : goal.class_kinds-requires-clause-known
+class_kinds-requires-clause-known c =
+    subst (KnowsClass c.args.names.now) (sym c.class-item.is)
+    (c.requires.known c.loop-class.class-index c.class-item.result c.loop-class-test.true)
 
 pub loop-class-preserved : goal.loop-class-preserved
 loop-class-preserved c =
@@ -21,3 +27,8 @@ loop-class-preserved c =
     (sym c.in_ok-push.ensures.items)
     (classes_more names counts (classes_of (take c.loop-class.class-index classes)) c.loop-class.kinds.items (class_of item)
     c.in_ok-class.class c.loop-class.invariant c.in_ok-class.ensures.is c.in_ok-class.ensures.own))
+
+pub returns : goal.returns
+returns c =
+    subst (λ (cs : List LinkedClass). AreClasses c.args.names.now c.args.counts.now (classes_of cs) c.loop-class.kinds.items)
+    (take_all c.loop-class.class-index c.args.classes.now c.loop-class-test.false) c.loop-class.invariant

@@ -4,9 +4,16 @@ use Rattle.std.proofs.lemmas.List.{take_more, take_all, map-append}
 use Rattle.vm_model.specs.declared.linked.LinkedClass.{LinkedClass}
 use Rattle.vm_model.specs.Program.{Program}
 use Rattle.vm_model.specs.View.{class_of, classes_of}
+use Rattle.cls_table.specs.Known.{IsKnown, KnowsClass}
 use Rattle.cls_table.specs.Counted.{IsCount, AreCounted}
 use Rattle.cls_table.proofs.Counting.{count_more, written}
 use Rattle.cls_table.proofs.classes.counts.Goals as goal
+
+pub number_of-number-requires : goal.number_of-number-requires
+number_of-number-requires c =
+    subst (IsKnown c.args.names.now) (sym c.as_str.ensures)
+    (subst (KnowsClass c.args.names.now) (sym c.class-item.is)
+    (c.requires c.loop-class.class-index c.class-item.result c.loop-class-test.true)).name
 
 pub loop-class-preserved : goal.loop-class-preserved
 loop-class-preserved c =

@@ -1,11 +1,17 @@
 use Rattle.std.proofs.Common.{List, [], ◌∷◌, ◌++◌, map, take, sym, ap, subst, ◌∙◌}
-use Rattle.std.proofs.lemmas.List.{take_more, map-append}
+use Rattle.std.proofs.lemmas.List.{take_more, take_all, map-append}
 use Rattle.vm_model.specs.declared.linked.LinkedMethod.{LinkedMethod}
 use Rattle.vm_model.specs.Program.{MethodOf}
 use Rattle.vm_model.specs.View.{method_of}
+use Rattle.cls_table.specs.Known.{KnowsMethod}
 use Rattle.cls_table.specs.Tables.{AreMethods}
 use Rattle.cls_table.proofs.Tabled.{more_methods}
 use Rattle.cls_table.proofs.classes.methods_kinds.Goals as goal
+
+pub method_kinds-requires : goal.method_kinds-requires
+method_kinds-requires c =
+    subst (KnowsMethod c.args.names.now) (sym c.method-item.is)
+    (c.requires c.loop-method.method-index c.method-item.result c.loop-method-test.true)
 
 pub loop-method-preserved : goal.loop-method-preserved
 loop-method-preserved c class e =
@@ -21,3 +27,8 @@ loop-method-preserved c class e =
     (more_methods c.args.names.now class (map method_of (take c.loop-method.method-index methods)) c.loop-method.kinds.items
     (method_of item)
     c.in_ok-method.method (c.loop-method.invariant class e) (c.in_ok-method.ensures class e)))
+
+pub returns : goal.returns
+returns c class e =
+    subst (λ (ms : List LinkedMethod). AreMethods c.args.names.now class (map method_of ms) c.loop-method.kinds.items)
+    (take_all c.loop-method.method-index c.args.methods.now c.loop-method-test.false) (c.loop-method.invariant class e)

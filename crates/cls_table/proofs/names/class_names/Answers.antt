@@ -9,7 +9,7 @@ use Rattle.cls_table.proofs.Knowing.{no_classes, one_class}
 use Rattle.cls_table.proofs.names.class_names.Goals as goal
 
 pub loop-class-init : goal.loop-class-init
-loop-class-init c = no_classes c.in_ok-names.names c.in_ok-names.ensures.are c.in_ok-names.ensures.known
+loop-class-init c = no_classes c.add_built_in.new.names c.in_ok-add_built_in.ensures.are c.in_ok-add_built_in.ensures.known
 
 pub loop-class-preserved : goal.loop-class-preserved
 loop-class-preserved c =

@@ -7,13 +7,13 @@ use Rattle.cls_kinds.specs.Named.{AreNames}
 use Rattle.cls_table.specs.Known.{IsKnown}
 use Rattle.cls_table.proofs.Tabled.{with_more, two_names}
 use Rattle.cls_table.proofs.Knowing.{known_more, built_in_known}
-use Rattle.cls_table.proofs.names.built_in_names.Goals as goal
+use Rattle.cls_table.proofs.names.add_built_in.Goals as goal
 
 pub returns-clause-are : goal.returns-clause-are
 returns-clause-are c =
     let two : c.add_name-2.new.names ≡ object ∷ codes "java/io/PrintStream" ∷ [] =
     c.in_ok-add_name-2.ensures.added ∙ ap (λ (ns : List Name). with_text ns (codes "java/io/PrintStream"))
-    (c.in_ok-add_name.ensures.added ∙ ap (λ (ns : List Name). with_text ns (codes "java/lang/Object")) c.new-names.ensures) in
+    (c.in_ok-add_name.ensures.added ∙ ap (λ (ns : List Name). with_text ns (codes "java/lang/Object")) c.requires) in
     let second : AreNames c.add_name-2.new.names = subst AreNames (sym two) two_names in
     let third : AreNames c.add_name-3.new.names = subst AreNames (sym c.in_ok-add_name-3.ensures.added)
     (with_more c.add_name-2.new.names (codes "java/lang/String") second) in
