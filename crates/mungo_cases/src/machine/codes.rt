@@ -1,0 +1,42 @@
+//! Codes that are read, and encoded as they were.
+
+use crate::machine::instrs::tell_instrs;
+use crate::machine::spelling::bytes_of;
+use crate::machine::unanswered::Unanswered;
+use cases::Answer;
+use cls_code::{CodeFault, decode, encode};
+use cls_tree::Instr;
+use mg_text::{List, Memory};
+use std::alloc::Global;
+
+/// Tells the instructions of a code, or its fault.
+pub fn tell(alloc: Global, answer: &mut Answer, given: &str) -> Result<(), Unanswered> {
+    let bytes = bytes_of(alloc, given)?;
+    tell_code(alloc, answer, bytes.as_slice())?;
+    Ok(())
+}
+
+fn tell_code(alloc: Global, answer: &mut Answer, bytes: &[u8]) -> Result<(), Memory> {
+    if !is_encoded_back(alloc, bytes) {
+        answer.add("encoded otherwise")?;
+    }
+    match read(alloc, bytes) {
+        Ok(instrs) => tell_instrs(answer, instrs.as_slice()),
+        Err(fault) => answer.tell(&fault),
+    }
+}
+
+fn read(alloc: Global, bytes: &[u8]) -> Result<List<Instr>, CodeFault> {
+    decode(alloc, bytes)
+}
+
+// Whether these bytes are no code, or one that is encoded as they are.
+fn is_encoded_back(alloc: Global, bytes: &[u8]) -> bool {
+    match decode(alloc, bytes) {
+        Ok(instrs) => match encode(alloc, instrs.as_slice()) {
+            Ok(encoded) => encoded.as_slice() == bytes,
+            Err(_) => false,
+        },
+        Err(_) => true,
+    }
+}
