@@ -16,6 +16,7 @@ use vm_model::Linked;
 
 /// The frames, objects and texts of a machine. There is always room for as many operands of the
 /// running frame as a method may have.
+#[derive(Drop)]
 pub struct State {
     pub(crate) cells: RawStack<Cell>,
     pub(crate) head: Head,
@@ -25,20 +26,6 @@ pub struct State {
     pub(crate) heap: Vec<Object>,
     pub(crate) texts: List<Text>,
     pub(crate) notes: Notes,
-}
-
-// One call lets go of it, wherever a function ends.
-impl Drop for State {
-    fn drop(self) {
-        let State {
-            cells: _,
-            head: _,
-            heads: _,
-            heap: _,
-            texts: _,
-            notes: _,
-        } = self;
-    }
 }
 
 impl Model for State {
