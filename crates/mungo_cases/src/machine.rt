@@ -6,7 +6,7 @@ mod classes;
 mod codes;
 mod described;
 mod frames;
-mod instrs;
+pub(crate) mod instrs;
 mod linking;
 mod running;
 mod spelling;
