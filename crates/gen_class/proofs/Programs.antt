@@ -1,7 +1,9 @@
 -- The methods of a class, and the class files of a program.
 use Rattle.std.proofs.Common.{◌≡◌, ℕ, suc, ◌+◌, ◌<◌, ◌≤◌, get_or, List, [], ◌∷◌, ◌++◌, length, drop, map, filter_map, slice_get}
+use Rattle.std.specs.Prelude.{codes}
 use Rattle.std.proofs.Common.{Some, None, refl, sym, ap, ap₂, ◌∙◌, subst, append_assoc, arith}
 use Rattle.std.proofs.lemmas.List.{append-nil, at_drop_more, at_drop_all, drop_all, drop-map, map-append, get_or_past}
+use Rattle.std.proofs.lemmas.List.{length-map, length-append}
 use Rattle.std.proofs.lemmas.List.Elements.{filter_map-append}
 use Rattle.std.proofs.lemmas.Option.{slice_get-map, get_or_from_slice_get}
 use Rattle.mg_text.specs.Call.{Name}
@@ -12,11 +14,14 @@ use Rattle.jv_core.specs.Tree.{Class, Method, Program}
 use Rattle.jv_core.specs.Lookup.{text_at}
 use Rattle.jv_core.specs.View.{class_of}
 use Rattle.jv_core.specs.declared.program.CoreClass.{CoreClass}
-use Rattle.gen_rules.specs.Symbolic.{Instr}
+use Rattle.gen_rules.specs.Symbolic.{Instr, return}
+use Rattle.gen_symbolic.specs.declared.symbolic.Symbolic.{Symbolic}
+use Rattle.gen_symbolic.specs.View.{instr_of, instrs_of}
 use Rattle.gen_rules.specs.Members.{method_descriptor}
 use Rattle.gen_rules.specs.Frames.{max_stack, max_locals}
 use Rattle.gen_rules.specs.Templates.{IsCode}
 use Rattle.gen_rules.specs.Classes.{Compiled, compiled, access_of, code_in_file, class_file, class_files, AreClasses, Emits}
+use Rattle.gen_rules.specs.Classes.{all_initialised, constructor_code, constructor_stack, constructor}
 use Rattle.gen_rules.specs.Limits.{Excess, parts_in, first_in_parts, first_in_classes, or_else, IsFirstExcess, exceeded_by_code}
 use Rattle.gen_rules.specs.inner.Generating.{generated}
 use Rattle.gen_rules.specs.inner.Files.{generated_method, generated_class, generated_classes, classes_of, excess_of}
@@ -48,6 +53,58 @@ pub method_made : (p : Program) (m : Method) (access stack locals : ℕ) (name d
       told_as = name;
     } ≡ generated_method p m
 method_made p m access stack locals name descriptor code ea en ed es el is = rw (ea, en, ed, es, el, only_generated p m code is) refl
+
+-- a constructor with the code that is generated
+pub constructor_made : (p : Program) (n number : ℕ) (k : Class) (descriptor : Name) (stack : ℕ) (code : List Instr) (told : Name) →
+    number ≡ n → descriptor ≡ codes "()V" → stack ≡ constructor_stack (all_initialised p number 0 k.fields) →
+    code ≡ constructor_code p number k → told ≡ text_at p k.name →
+    record {
+      access = 1;
+      name = codes "<init>";
+      descriptor = descriptor;
+      max_stack = stack;
+      max_locals = 1;
+      code = code;
+      place = k.place;
+      told_as = told;
+    } ≡ constructor p n k
+constructor_made p n number k descriptor stack code told en ed es ec et =
+    subst (λ (m : ℕ). record {
+      access = 1;
+      name = codes "<init>";
+      descriptor = descriptor;
+      max_stack = stack;
+      max_locals = 1;
+      code = code;
+      place = k.place;
+      told_as = told;
+    } ≡ constructor p m k) en (rw (ed, es, ec, et) refl)
+
+-- How deep the stack of a constructor is, by how long its code is.
+module _ (p : Program) (n : ℕ) (k : Class) (is : List Symbolic) (count : ℕ) (long : count ≡ length is)
+    (code : instrs_of p is ≡ constructor_code p n k) where
+  longer : count ≡ length (all_initialised p n 0 k.fields) + 3
+  longer =
+      let all = ap length code in
+      let each = length-map is (instr_of p) in
+      let more = length-append (all_initialised p n 0 k.fields) (return ∷ []) in
+      omega (arith, long, all, each, more)
+
+  pub deep : 3 < count → 2 ≡ constructor_stack (all_initialised p n 0 k.fields)
+  deep lt = go (all_initialised p n 0 k.fields) longer
+    where
+      go : (xs : List Instr) → count ≡ length xs + 3 → 2 ≡ constructor_stack xs
+      go [] e = absurd (omega (arith, e, lt))
+      go (x ∷ xs) e = refl
+
+  pub flat : count ≤ 3 → 1 ≡ constructor_stack (all_initialised p n 0 k.fields)
+  flat le = go (all_initialised p n 0 k.fields) longer
+    where
+      go : (xs : List Instr) → count ≡ length xs + 3 → 1 ≡ constructor_stack xs
+      go [] e = refl
+      go (x ∷ xs) e = absurd (omega (arith, e, le))
+
+pub ruleset depths = (deep, flat)
 
 -- The methods with these numbers.
 

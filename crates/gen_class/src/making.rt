@@ -1,13 +1,15 @@
 //! The methods of a class, with their codes.
 
-ghost use Rattle.std.specs.Prelude.{◌≡◌, [], ◌∷◌, ◌++◌, map, option_map, slice_get, filter_map, IfOk, OnOk};
+ghost use Rattle.std.specs.Prelude.{◌≡◌, ℕ, [], ◌∷◌, ◌++◌, map, option_map, slice_get, filter_map, IfOk, OnOk};
+ghost use Rattle.jv_core.specs.Tree.{Class, Program};
 ghost use Rattle.jv_core.specs.View.{class_of, method_of};
-ghost use Rattle.gen_rules.specs.Classes.{access_of, constructor, constructors};
+ghost use Rattle.gen_symbolic.specs.View.{instrs_of};
+ghost use Rattle.gen_rules.specs.Classes.{access_of, all_initialised, constructor_code, constructor_stack, constructor, constructors};
 ghost use Rattle.gen_rules.specs.inner.Files.{generated_method, generated_class};
 ghost use Rattle.gen_members.specs.Parts.{compiled_of};
 
 use gen_members::{Making, constructor_code, method_descriptor};
-use gen_symbolic::{MethodCode, method_code};
+use gen_symbolic::{MethodCode, Symbolic, method_code};
 use jv_core::{Core, CoreClass, CoreMethod, MethodKind, name_text};
 use mg_text::{List, Memory};
 use std::alloc::Global;
@@ -37,6 +39,7 @@ pub(crate) fn method_making<'a>(
 ) -> Result<Making<'a>, Memory>
     ensures { IfOk result (λ m. compiled_of core.now m ≡ generated_method core.now (method_of method.now)) }
 {
+    let descriptor = method_descriptor(alloc, core, method)?;
     let MethodCode {
         instrs,
         max_stack,
@@ -46,13 +49,23 @@ pub(crate) fn method_making<'a>(
     Ok(Making {
         access: access_of(method.kind),
         name,
-        descriptor: method_descriptor(alloc, core, method)?,
+        descriptor,
         max_stack,
         max_locals,
         instrs,
         place: method.place,
         told_as: name,
     })
+}
+
+/// How deep the stack of a constructor with this code is. Three instructions stand in the code of one
+/// that sets no field.
+#[tactic(auto, using(crate::proofs::Programs::depths))]
+fn depth_of(instrs: &[Symbolic<'_>]) -> u32
+    ensures { (p : Program) (number : ℕ) (class : Class) → instrs_of p instrs.now ≡ constructor_code p number class →
+        result ≡ constructor_stack (all_initialised p number 0 class.fields) }
+{
+    if instrs.len() > 3 { 2 } else { 1 }
 }
 
 /// The constructor of a class.
@@ -67,14 +80,13 @@ fn constructor_making<'a>(
     let Ok(number) = u32::try_from(number) else {
         return Err(Memory);
     };
+    let descriptor = String::from_str(alloc, "()V")?;
     let instrs = constructor_code(alloc, number, class)?;
-    // Three instructions stand in the code of a constructor that sets no field.
-    let max_stack = if instrs.len() > 3 { 2 } else { 1 };
     Ok(Making {
         access: PUBLIC,
         name: "<init>",
-        descriptor: String::from_str(alloc, "()V")?,
-        max_stack,
+        descriptor,
+        max_stack: depth_of(instrs.as_slice()),
         max_locals: 1,
         instrs,
         place: class.place,

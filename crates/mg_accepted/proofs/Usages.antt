@@ -1,5 +1,5 @@
 -- What judging the usages of a program answers.
-use Rattle.std.proofs.Common.{◌≡◌, List, Option, Some, None, Result, Ok, Err, subst, sym}
+use Rattle.std.proofs.Common.{◌≡◌, List, Option, Some, None, Result, Err, subst}
 use Rattle.std.specs.Prelude.{OnOk}
 use Rattle.jv_core.specs.Tree as Core
 use Rattle.jv_core.specs.declared.resolved.Core.{Core as KeptCore}
@@ -7,22 +7,22 @@ use Rattle.use_flow.specs.View.{tables_of, reached_of}
 use Rattle.use_rules.specs.declared.demand.Demand.{Demand}
 use Rattle.use_verdict.specs.declared.verdict.CheckFault.{CheckFault}
 use Rattle.use_verdict.specs.declared.verdict.CheckFault.TheVariants as faults
-use Rattle.use_verdict.specs.Verdict.{FailsFirst}
+use Rattle.use_verdict.specs.Verdict.{AreAnswer, FailsFirst}
 use Rattle.use_verdict.specs.Faults.{IsFault}
 use Rattle.mg_refusal.specs.Refusals.{Refusal}
 use Rattle.mg_refusal.specs.Order.{Finds, Answers, AnswersOnly, IsStopBy, at_first, at_next}
 use Rattle.mg_refusal.specs.declared.stop.Stop.{Stop}
-use Rattle.mg_refusal.specs.declared.stop.Stop.TheVariants as stops
 use Rattle.mg_refusal.proofs.Orders.{refused_by, unless_refused, never_ok, stop_refused_by}
 use Rattle.mg_sources.specs.Files.{Source}
 use Rattle.mg_accepted.specs.Program.{HaveCore}
 use Rattle.mg_accepted.specs.Program as program
 use Rattle.mg_accepted.proofs.OneCore.{one_core}
+use Rattle.mg_accepted.proofs.Refused.{unsaid, Stops}
 use Rattle.mg_accepted.specs.declared.accepted.AcceptedProgram.{AcceptedProgram}
 use Rattle.mg_accepted.specs.Demands.{demand_refusal}
 use Rattle.mg_accepted.specs.Accepted.{AreAccepted, FirstRefusal}
 use Rattle.mg_accepted.specs.View.{IsProgramOf}
-use Rattle.mg_accepted.specs.inner.Answers.{demand_of, IsSolved}
+use Rattle.mg_accepted.specs.inner.Answers.{demand_of}
 use Rattle.mg_accepted.proofs.Apart.{not_refused}
 
 -- ---- the fault of the verdict
@@ -45,31 +45,37 @@ fails_first core faults.Memory d f h = none_some h
 
 pub unmet_judged : (core : Core.Program) (fault : CheckFault) (stop : Stop) → IsFault core fault →
     IsStopBy (λ d r. r ≡ demand_refusal core d) (demand_of fault) stop →
-    Answers (IsSolved core) (Finds (FailsFirst core) (demand_refusal core)) (Err stop)
+    Stops (Finds (FailsFirst core) (demand_refusal core)) stop
 unmet_judged core fault stop f h =
-    stop_refused_by (λ d r. r ≡ demand_refusal core d) (IsSolved core) (Finds (FailsFirst core) (demand_refusal core))
+    stop_refused_by (λ d r. r ≡ demand_refusal core d) unsaid (Finds (FailsFirst core) (demand_refusal core))
     (demand_of fault) stop h
     (λ d r told says. (d, fails_first core fault d f told, says))
 
 -- ---- the verdict on files
 
--- the verdict on the core of files is that on the files
-pub core_judged : (files : List Source) (core : Core.Program) (answer : Result AcceptedProgram Stop) → HaveCore files core →
-    Answers (IsSolved core) (Finds (FailsFirst core) (demand_refusal core)) answer → Answers (IsProgramOf files) (FirstRefusal files) answer
-core_judged files core (Ok a) h j = record {
+-- the core of files, with its least tables
+pub usages_right : (files : List Source) (a : AcceptedProgram) → HaveCore files a.core → AreAnswer a.core a.accepted.tables →
+    IsProgramOf files a
+usages_right files a h answer = record {
   files_are = record {
-    have = subst (HaveCore files) (sym j.same) h;
+    have = h;
     solved = record {
       reached = reached_of a.accepted.tables;
-      are = j.tables_are.made.reached;
+      are = answer.made.reached;
       tables = tables_of a.accepted.tables;
-      solves = j.tables_are.solves;
+      solves = answer.solves;
     };
   };
-  tables_are = j.tables_are;
+  tables_are = answer;
 }
-core_judged files core (Err (stops.Refused r)) h j = at_next core h j
-core_judged files core (Err stops.Memory) h j = tt
+
+-- the refusal of the core of files is that of the files
+pub usages_refused : (files : List Source) (core : Core.Program) (stop : Stop)
+    (answer : Result AcceptedProgram Stop) → answer ≡ Err stop → HaveCore files core →
+    Stops (Finds (FailsFirst core) (demand_refusal core)) stop → Answers (IsProgramOf files) (FirstRefusal files) answer
+usages_refused files core stop answer is h judged =
+    refused_by unsaid (Finds (FailsFirst core) (demand_refusal core)) (IsProgramOf files) (FirstRefusal files)
+    (λ r found. at_next core h found) stop judged answer is
 
 -- files that are no well typed program are refused
 pub ill_typed_judged : (files : List Source) (stop : Stop) (answer : Result AcceptedProgram Stop) → answer ≡ Err stop →

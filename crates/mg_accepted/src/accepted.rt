@@ -3,13 +3,12 @@
 ghost use Rattle.std.specs.Prelude.{◌≡◌, ◌<◌, ◌^◌, length, OnOk};
 ghost use Rattle.jv_core.specs.Tree as CoreTree;
 ghost use Rattle.mg_sources.specs.Files.{HaveKinds, sources};
-ghost use Rattle.use_verdict.specs.Verdict.{FailsFirst};
+ghost use Rattle.use_verdict.specs.Verdict.{AreAnswer, FailsFirst};
 ghost use Rattle.mg_refusal.specs.Refusals.{Refusal};
 ghost use Rattle.mg_refusal.specs.Order.{Finds, Answers, AnswersOnly};
 ghost use Rattle.mg_accepted.specs.Demands.{demand_refusal};
 ghost use Rattle.mg_accepted.specs.Accepted.{AreAccepted, FirstRefusal};
 ghost use Rattle.mg_accepted.specs.View.{IsProgramOf};
-ghost use Rattle.mg_accepted.specs.inner.Answers.{IsSolved};
 
 use crate::program::resolve_program;
 use crate::unmet::stop_of;
@@ -57,15 +56,25 @@ fn verdict(alloc: Global, names: &[Text], contents: &[Bytes]) -> Result<Accepted
     ensures { Answers (IsProgramOf (sources names.now contents.now)) (FirstRefusal (sources names.now contents.now)) result }
 {
     let core = resolve_program(alloc, names, contents)?;
-    judge(alloc, core)
+    match usages(alloc, &core) {
+        Ok(accepted) => Ok(AcceptedProgram { core, accepted }),
+        Err(stop) => {
+            drop(core);
+            Err(stop)
+        }
+    }
 }
 
-// The same of a core.
-fn judge(alloc: Global, core: Core) -> Result<AcceptedProgram, Stop>
-    ensures { Answers (IsSolved core) (Finds (FailsFirst core) (demand_refusal core)) result }
+// The verdict on the usages of a core.
+fn usages(alloc: Global, core: &Core) -> Result<Accepted, Stop>
+    ensures { Answers (λ a. AreAnswer core.now a.tables) (Finds (FailsFirst core.now) (demand_refusal core.now)) result }
 {
-    match check(alloc, &core) {
-        Ok(accepted) => Ok(AcceptedProgram { core, accepted }),
-        Err(fault) => Err(stop_of(alloc, &core, &fault)),
+    match check(alloc, core) {
+        Ok(accepted) => Ok(accepted),
+        Err(fault) => {
+            let stop = stop_of(alloc, core, &fault);
+            drop(fault);
+            Err(stop)
+        }
     }
 }

@@ -1,18 +1,23 @@
 //! From the files of a command to the core of their program.
 
-ghost use Rattle.std.specs.Prelude.{◌≡◌, ◌<◌, ◌^◌, length, OnOk};
-ghost use Rattle.mg_sources.specs.Files.{HaveKinds, sources};
+ghost use Rattle.std.specs.Prelude.{◌≡◌, ◌<◌, ◌^◌, List as Seq, length, OnOk};
+ghost use Rattle.mg_sources.specs.Files.{Source, HaveKinds, sources};
+ghost use Rattle.jv_types.specs.Tables.{program_in};
+ghost use Rattle.mg_sources.specs.Sources.{Sourced, AreProgram};
+ghost use Rattle.mg_sources.specs.View.{sourced_of};
 ghost use Rattle.jv_core.specs.Tree as CoreTree;
 ghost use Rattle.mg_refusal.specs.Refusals.{Refusal};
 ghost use Rattle.mg_refusal.specs.Order.{Answers, AnswersOnly};
 ghost use Rattle.mg_accepted.specs.Program.{HaveCore, FirstRefusal};
+ghost use Rattle.mg_accepted.specs.inner.Answers.{AreDeclared};
 
-use crate::judged::judge;
+use crate::judged::{declared, judge};
 use jv_core::Core;
 use jv_resolve::resolve;
 use jv_resolve_law::spelled_is_shaped;
+use jv_types::Table;
 use mg_refusal::Stop;
-use mg_sources::read_program;
+use mg_sources::{Sources, read_program};
 use mg_text::{Bytes, Text};
 use std::alloc::Global;
 
@@ -48,9 +53,31 @@ fn core_of(alloc: Global, names: &[Text], contents: &[Bytes]) -> Result<Core, St
     ensures { Answers (HaveCore (sources names.now contents.now))
         (FirstRefusal (sources names.now contents.now)) result }
 {
-    spelled_is_shaped();
     let sources = read_program(alloc, names, contents)?;
-    let table = judge(alloc, &sources)?;
-    let core = resolve(alloc, &table)?;
+    let core = core_in(alloc, &sources);
+    drop(sources);
+    core
+}
+
+// The core of the program that some files are.
+fn core_in(alloc: Global, sources: &Sources) -> Result<Core, Stop>
+    requires { (files : Seq Source) × AreProgram files (sourced_of sources.now) }
+    ensures { (files : Seq Source) → AreProgram files (sourced_of sources.now) → Answers (HaveCore files) (FirstRefusal files) result }
+{
+    let table = declared(alloc, sources)?;
+    let core = core_by(alloc, &table);
+    drop(table);
+    core
+}
+
+// The same, by the table of its declarations, which have no fault.
+fn core_by(alloc: Global, table: &Table<'_>) -> Result<Core, Stop>
+    requires { (files : Seq Source) × (sourced : Sourced) × AreDeclared files sourced (program_in table.now) }
+    ensures { (files : Seq Source) (sourced : Sourced) → AreDeclared files sourced (program_in table.now) →
+        Answers (HaveCore files) (FirstRefusal files) result }
+{
+    spelled_is_shaped();
+    judge(alloc, table)?;
+    let core = resolve(alloc, table)?;
     Ok(core)
 }

@@ -45,5 +45,7 @@ fn compiled(alloc: Global, names: &[Text], contents: &[Bytes]) -> Result<List<Cl
         (FirstRefusal (sources names.now contents.now)) result }
 {
     let program = accept(alloc, names, contents)?;
-    class_files(alloc, &program.core)
+    let files = class_files(alloc, &program.core);
+    drop(program);
+    files
 }

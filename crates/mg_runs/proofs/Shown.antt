@@ -1,10 +1,13 @@
 -- What running roles answers.
-use Rattle.std.proofs.Common.{◌≡◌, ℕ, zero, suc, List, [], ◌∷◌, ◌++◌, Bool, Some, Result, Err, take, drop, get_or, slice_get, ap, ◌∙◌}
+use Rattle.std.proofs.Common.{◌≡◌, ℕ, zero, suc, List, [], ◌∷◌, ◌++◌, Bool, Some, Result, Err, take, drop, get_or, slice_get}
+use Rattle.std.proofs.Common.{map, refl, ap, ◌∙◌}
 use Rattle.std.proofs.lemmas.Option.{get_or_from_slice_get}
 use Rattle.jv_core.specs.Tree as Core
 use Rattle.vm_world_law.specs.declared.role.RoleMain.{RoleMain}
 use Rattle.vm_world_law.specs.World.{turns}
+use Rattle.mg_text.specs.Call.{Name}
 use Rattle.mg_text.specs.Row.{Row}
+use Rattle.vm_model.specs.Program.{Program}
 use Rattle.mg_refusal.specs.Refusals.{Refusal}
 use Rattle.mg_refusal.specs.Order.{Answers, at_first, at_next}
 use Rattle.mg_sources.specs.Files.{Source}
@@ -17,12 +20,14 @@ use Rattle.mg_compile.specs.declared.files.ClassFile.{ClassFile}
 use Rattle.mg_compile.specs.Files.{AreClassFiles}
 use Rattle.mg_compile.specs.Compiled.{ExcessRefusal}
 use Rattle.mg_runs.specs.declared.ran.Ran.{Ran}
-use Rattle.mg_runs.specs.Runs.{HaveMains}
+use Rattle.mg_runs.specs.declared.going.Gone.{Gone}
+use Rattle.mg_runs.specs.Going.{IsGone}
+use Rattle.mg_runs.specs.Runs.{HaveMains, IsLoaded, messages_in}
 use Rattle.mg_runs.specs.Commanded.{no_main, FirstRefusal}
 use Rattle.mg_runs.specs.Laws.{RolesAreMeant, RolesKeep, RolesPlay, AllProtocolsAgree}
 use Rattle.mg_runs.specs.View.{IsOfRun}
 use Rattle.mg_runs.specs.inner.Mains.{IsWithout}
-use Rattle.mg_runs.specs.inner.Going.{IsRunOf}
+use Rattle.mg_runs.specs.inner.Going.{IsRunOf, told}
 use Rattle.mg_runs.proofs.Playing.{from_there}
 use Rattle.mg_runs.proofs.Roles.{any_order}
 
@@ -31,6 +36,30 @@ parts_at : {A : Type 0} (xs : List A) (k : ℕ) (x : A) → slice_get xs k ≡ S
 parts_at [] k x at = absurd (cc at)
 parts_at (y ∷ xs) zero x at = let e : y ≡ x = cc in ap (λ z. z ∷ xs) e
 parts_at (y ∷ xs) (suc k) x at = ap (λ l. y ∷ l) (parts_at xs k x at)
+
+-- what is shown of roles that took their turns
+pub gone_shown : (core : Core.Program) (files : Row ClassFile) (mains : List RoleMain) (order : List ℕ) (limit : ℕ) (named traced : Bool)
+    (program : Program) (gone : Gone) (trace : List ℕ) (messages : ℕ) → IsLoaded (map (λ f. f.bytes) files.items) program →
+    IsGone program mains order limit named gone → trace ≡ told core gone.names.items gone.world.world.events traced →
+    messages ≡ messages_in gone.world.world.events →
+    IsRunOf core files.items mains order limit named traced
+    (record { files = files; roles = gone.roles; printed = gone.printed; trace = trace; messages = messages })
+gone_shown core files mains order limit named traced program gone trace messages loaded g traces counts = record {
+  program = program;
+  first = g.first;
+  last = gone.world.world;
+  loaded = loaded;
+  begins = g.begins;
+  runs = g.runs;
+  shows = record {
+    written = refl;
+    counts = g.counts;
+    stands = g.stands;
+    printed_is = g.printed_is;
+    trace_is = traces ∙ ap (λ (names : List Name). told core names gone.world.world.events traced) g.names_are;
+    messages_are = counts;
+  };
+}
 
 module _ (files : List Source) (mains : List RoleMain) (order : List ℕ) (limit : ℕ) (named traced : Bool) where
   -- the run of class files is that of their files

@@ -1,9 +1,12 @@
 //! Roles of a linked program take their turns, whatever the program is of.
 
-ghost use Rattle.std.specs.Prelude.{◌≡◌, map, IfOk};
+ghost use Rattle.std.specs.Prelude.{◌≡◌, map, IfOk, OnOk};
 ghost use Rattle.std.specs.List.{IsDistinct, AllByRecursion};
 ghost use Rattle.std.specs.Str.{bytes_eq};
 ghost use Rattle.vm_step.specs.Main.{HasMain};
+ghost use Rattle.vm_world_law.specs.World.{IsBegun};
+ghost use Rattle.vm_world_law.specs.Turns.{IsRun, stands_in};
+ghost use Rattle.mg_trace.specs.Trace.{printed};
 ghost use Rattle.mg_runs.specs.Going.{IsOrder, IsGone};
 ghost use Rattle.mg_runs.specs.Runs.{names_of};
 
@@ -48,16 +51,43 @@ pub fn go(
     ensures { IfOk result (IsGone linked mains.now order.now limit named) }
 {
     let mut world = World::new(alloc, linked, mains)?;
+    match played(alloc, &mut world, mains, order, limit, named) {
+        Ok((roles, names, printed)) => Ok(Gone {
+            world,
+            names,
+            roles,
+            printed,
+        }),
+        Err(Memory) => {
+            drop(world);
+            Err(Memory)
+        }
+    }
+}
+
+// The turns of a world that has begun: how its roles stand then, their names, and what they printed.
+fn played(
+    alloc: Global,
+    world: &mut World,
+    mains: &[RoleMain],
+    order: &[u32],
+    limit: u32,
+    named: bool,
+) -> Result<(List<RoleRan>, List<Text>, Bytes), Memory>
+    requires begun { IsBegun world.old.program mains.now world.old.world }
+    requires order { IsOrder order.now mains.now }
+    ensures program { world.new.program ≡ world.old.program }
+    ensures runs { OnOk result (IsRun world.old.program world.old.world order.now limit world.new.world) }
+    ensures counts { IfOk result (λ p. map (λ r. r.instructions) p.0.items ≡ map (λ r. r.count) world.new.world.roles) }
+    ensures stands { IfOk result (λ p. map (λ r. r.stand) p.0.items ≡ stands_in world.new.program world.new.world) }
+    ensures names { IfOk result (λ p. p.1.items ≡ names_of mains.now) }
+    ensures printed { IfOk result (λ p. p.2 ≡ printed named (names_of mains.now) world.new.world.events) }
+{
     world.run(alloc, order, limit)?;
     let roles = world.roles_ran(alloc, mains)?;
     let names = role_names(alloc, mains)?;
     let printed = printed(alloc, names.as_slice(), named, world.events().as_slice())?;
-    Ok(Gone {
-        world,
-        names,
-        roles,
-        printed,
-    })
+    Ok((roles, names, printed))
 }
 
 // The names of the roles.

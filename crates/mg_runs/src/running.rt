@@ -1,11 +1,12 @@
 //! From the files of a command to the run of its roles.
 
-ghost use Rattle.std.specs.Prelude.{◌≡◌, ◌<◌, ◌^◌, ℕ, IfOk, OnOk, Contains, length, map, slice_get, Some};
+ghost use Rattle.std.specs.Prelude.{◌≡◌, ◌<◌, ◌^◌, ℕ, List as Seq, IfOk, OnOk, Contains, length, map, slice_get, Some};
 ghost use Rattle.std.specs.List.{IsDistinct};
 ghost use Rattle.std.specs.Str.{bytes_eq};
-ghost use Rattle.mg_sources.specs.Files.{HaveKinds, sources};
+ghost use Rattle.mg_sources.specs.Files.{Source, HaveKinds, sources};
 ghost use Rattle.mg_refusal.specs.Refusals.{Refusal};
 ghost use Rattle.mg_refusal.specs.Order.{Answers, AnswersOnly};
+ghost use Rattle.mg_accepted.specs.Accepted.{AreAccepted};
 ghost use Rattle.mg_compile.specs.Files.{AreClassFiles};
 ghost use Rattle.mg_compile.specs.View.{IsOfFiles};
 ghost use Rattle.mg_runs.specs.Commanded.{no_main, FirstRefusal};
@@ -87,26 +88,38 @@ fn ran_roles(
     ensures { Answers (IsOfRun (sources names.now contents.now) mains.now order.now limit named traced)
         (FirstRefusal (sources names.now contents.now) mains.now) result }
 {
+    let program = accept(alloc, names, contents)?;
+    let ran = ran_by(alloc, &program.core, mains, order, limit, named, traced);
+    drop(program);
+    ran
+}
+
+// The run of these roles, of the core of accepted files.
+fn ran_by(
+    alloc: Global,
+    core: &Core,
+    mains: &[RoleMain],
+    order: &[u32],
+    limit: u32,
+    named: bool,
+    traced: bool,
+) -> Result<Ran, Stop>
+    requires files { IsOfFiles core.now }
+    requires roles { IsDistinct bytes_eq (map (λ m. m.role) mains.now) }
+    requires order { IsOrder order.now mains.now }
+    ensures { (files : Seq Source) → AreAccepted files core.now →
+        Answers (IsOfRun files mains.now order.now limit named traced) (FirstRefusal files mains.now) result }
+{
     roles_are_meant();
     roles_keep();
     roles_play();
     protocols_agree();
-    let program = accept(alloc, names, contents)?;
-    if let Some(number) = first_without(&program.core, mains) {
+    if let Some(number) = first_without(core, mains) {
         let refusal = no_main(&mains[number].class)?;
         return Err(Stop::Refused(refusal));
     }
-    let files = class_files(alloc, &program.core)?;
-    Ok(run_files(
-        alloc,
-        &program.core,
-        files,
-        mains,
-        order,
-        limit,
-        named,
-        traced,
-    )?)
+    let files = class_files(alloc, core)?;
+    Ok(run_files(alloc, core, files, mains, order, limit, named, traced)?)
 }
 
 // The run of these roles, of the class files of a program.
@@ -131,21 +144,35 @@ fn run_files(
     let linked = load_back(alloc, core, files.as_slice())?;
     let gone = go(alloc, linked, mains, order, limit, named)?;
     let events = gone.world.events().as_slice();
-    let trace = told(alloc, core, gone.names.as_slice(), events, traced)?;
     let messages = messages_in(events);
+    match told(alloc, core, gone.names.as_slice(), events, traced) {
+        Ok(trace) => Ok(ran_of(files, gone, trace, messages)),
+        Err(Memory) => {
+            drop(gone);
+            Err(Memory)
+        }
+    }
+}
+
+// What is shown of roles that took their turns. Their world and their names are let go.
+fn ran_of(files: List<ClassFile>, gone: Gone, trace: Text, messages: usize) -> Ran
+    ensures { result ≡ record { files = files; roles = gone.roles; printed = gone.printed; trace = trace; messages = messages } }
+{
     let Gone {
-        world: _world,
-        names: _names,
+        world,
+        names,
         roles,
         printed,
     } = gone;
-    Ok(Ran {
+    drop(world);
+    drop(names);
+    Ran {
         files,
         roles,
         printed,
         trace,
         messages,
-    })
+    }
 }
 
 // The trace of these events, where it is asked for.

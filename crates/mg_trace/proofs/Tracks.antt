@@ -119,7 +119,8 @@ told_of_one (seen.Look peer label) n is k o = absurd (let no : ⊥ = cc in no)
 told_of_one (seen.Take peer label payload) n is k o = absurd (let no : ⊥ = cc in no)
 
 -- nothing is known of more objects
-pub known_padded : (objects : List Tracked) (t : Tracked) (o : ℕ) → known_of t ≡ unknown → known_at (objects ++ t ∷ []) o ≡ known_at objects o
+pub known_padded : (objects : List Tracked) (t : Tracked) (o : ℕ) → known_of t ≡ unknown →
+    known_at (objects ++ t ∷ []) o ≡ known_at objects o
 known_padded = padded known_of unknown
 
 -- roles without objects

@@ -347,33 +347,4 @@ module _ (me : Name) where
 
 pub ruleset all_steps = (common_steps, same_later, same_differs, same_short, same_end)
 
-pub ruleset alone = (
-  common_steps,
-  Message-Message,
-  Message-Choice,
-  Message-Rec,
-  Message-Continue,
-  Choice-Message,
-  Choice-Choice,
-  Choice-Rec,
-  Choice-Continue,
-  Rec-Message,
-  Rec-Choice,
-  Rec-Rec,
-  Rec-Continue,
-  Continue-Message,
-  Continue-Choice,
-  Continue-Rec,
-  Continue-Continue,
-  Message-Do,
-  Choice-Do,
-  Rec-Do,
-  Continue-Do,
-  Do-Message,
-  Do-Choice,
-  Do-Rec,
-  Do-Continue,
-  Do-Do,
-)
-
 pub ruleset in_steps = (common_steps, branches_later, branches_differ, branches_short, branches_end)

@@ -1,6 +1,6 @@
 //! The local protocol of one role of a global protocol.
 
-ghost use Rattle.std.specs.Prelude.{◌≡◌, Some, None, Err, IfOk, Contains};
+ghost use Rattle.std.specs.Prelude.{◌≡◌, ◌≢◌, Some, None, Err, IfOk, IfSome, Contains};
 ghost use Rattle.std.specs.Option.{is_none};
 ghost use Rattle.scr_tree.specs.View.{statements};
 ghost use Rattle.scr_global.specs.Texts.{projected};
@@ -41,19 +41,34 @@ fn is_memory(fault: &ScrFault) -> bool
     }
 }
 
+// The name of a role, to be told with a fault; none where memory is wanted.
+fn told_name(alloc: Global, role: &str, fault: &ScrFault) -> Option<Text>
+    ensures { IfSome result (λ name. (name ≡ role.now) × (fault_answer fault.now ≢ None)) }
+{
+    if is_memory(fault) {
+        return None;
+    }
+    match Text::of(alloc, role) {
+        Ok(name) => Some(name),
+        Err(Memory) => None,
+    }
+}
+
 // The fault of a role that does what is no local protocol.
 fn unprojected(alloc: Global, file: u32, role: &str, fault: ScrFault) -> Result<Local, ProjectFault>
     ensures { IsUnprojected file role.now fault result }
 {
-    if is_memory(&fault) {
-        return Err(ProjectFault::Memory);
+    match told_name(alloc, role, &fault) {
+        Some(name) => Err(ProjectFault::Unprojected {
+            place: Place::start(file),
+            name,
+            fault,
+        }),
+        None => {
+            drop(fault);
+            Err(ProjectFault::Memory)
+        }
     }
-    let name = Text::of(alloc, role)?;
-    Err(ProjectFault::Unprojected {
-        place: Place::start(file),
-        name,
-        fault,
-    })
 }
 
 // The local protocol of a role that does this.

@@ -30,7 +30,6 @@ pub(crate) fn same_all(me: &Text, some: &[Statement], others: &[Statement]) -> b
     rest.is_empty()
 }
 
-#[tactic(auto, using(crate::proofs::Sameness::alone))]
 #[cycle(same)]
 fn same_at(me: &Text, some: &Statement, other: &Statement) -> bool
     ensures { result ≡ is_same (spoken me.now (front some.now Nothing)) (spoken me.now (front other.now Nothing)) }

@@ -1,9 +1,9 @@
-use Rattle.std.proofs.Common.{Err, Result, ap, ◌∙◌}
+use Rattle.std.proofs.Common.{Err, Result, refl, ap, ◌∙◌}
 use Rattle.std.proofs.lemmas.Result.{err_from_is_err_and}
 use Rattle.mg_refusal.specs.declared.stop.Stop.{Stop}
 use Rattle.mg_sources.specs.Files.{sources}
 use Rattle.mg_accepted.specs.declared.accepted.AcceptedProgram.{AcceptedProgram}
-use Rattle.mg_accepted.proofs.Usages.{core_judged, ill_typed_judged}
+use Rattle.mg_accepted.proofs.Usages.{ill_typed_judged, usages_right, usages_refused}
 use Rattle.mg_accepted.proofs.accepted.verdict.Goals as goal
 
 abbrev failed : Stop → Result AcceptedProgram Stop
@@ -15,7 +15,10 @@ returns-in_err-core c =
     ill_typed_judged (sources c.args.names.now c.args.contents.now) c.in_err-core.field-0.0 c.from_residual.result (f.1 ∙ ap failed f.2)
     c.in_err-core.ensures.answered
 
-pub returns : goal.returns
-returns c =
-    core_judged (sources c.args.names.now c.args.contents.now) c.in_ok-core.core c.judge.result c.in_ok-core.ensures.answered
-    c.judge.ensures
+pub returns-in-Err : goal.returns-in-Err
+returns-in-Err c =
+    usages_refused (sources c.args.names.now c.args.contents.now) c.in_ok-core.core c.in-Err.stop (failed c.in-Err.stop) refl
+    c.in_ok-core.ensures.answered c.in-Err.ensures
+
+pub returns-in-Ok : goal.returns-in-Ok
+returns-in-Ok c = usages_right (sources c.args.names.now c.args.contents.now) _ c.in_ok-core.ensures.answered c.in-Ok.ensures

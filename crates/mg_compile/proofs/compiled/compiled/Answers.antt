@@ -17,10 +17,10 @@ returns-in_err-program c =
     (f.1 ∙ ap failed f.2)
     c.in_err-program.ensures.answered
 
-pub class_files-requires : goal.class_files-requires
-class_files-requires c = (sources c.args.names.now c.args.contents.now, c.in_ok-program.ensures.answered.files_are.have)
+pub class_files-files-requires : goal.class_files-files-requires
+class_files-files-requires c = (sources c.args.names.now c.args.contents.now, c.in_ok-program.ensures.answered.files_are.have)
 
 pub returns : goal.returns
 returns c =
-    core_compiled (sources c.args.names.now c.args.contents.now) c.in_ok-program.program.core c.class_files.result
-    c.in_ok-program.ensures.answered.files_are c.class_files.ensures
+    core_compiled (sources c.args.names.now c.args.contents.now) c.in_ok-program.program.core c.class_files-files.result
+    c.in_ok-program.ensures.answered.files_are c.class_files-files.ensures

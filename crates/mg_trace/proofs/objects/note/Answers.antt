@@ -13,8 +13,9 @@ returns-in_ok-pad-in-Some c =
     let old = c.args.objects.now.items in
     let objects = c.pad.new.objects.items in
     let n = c.in-Some.object in
+    let room = c.in_ok-pad-in-Some.ensures in
     on_ok_weaker c.change.result
-    (λ is o. known_changed old objects n c.in_ok-pad-in-Some.ensures.within c.in_ok-pad-in-Some.ensures.same c.change.new.tracked (λ k. changed k e)
-    (is ∙ ap (λ k. changed k e) (known_is objects n c.index_mut.result.now c.in_ok-pad-in-Some.ensures.within c.index_mut.ensures.value)) o
+    (λ is o. known_changed old objects n room.within room.same c.change.new.tracked (λ k. changed k e)
+    (is ∙ ap (λ k. changed k e) (known_is objects n c.index_mut.result.now room.within c.index_mut.ensures.value)) o
     ∙ told_of_one e n c.in-Some.ensures (known_at old o) o)
     c.change.ensures

@@ -10,8 +10,8 @@ loop-class-preserved c =
     let classes = c.classes-class-items.result.now in
     let index = c.loop-class.class-index in
     let item : CoreClass = c.class-item.result in
-    let more = take_more classes index item c.loop-class-test.true ∙ ap (λ (x : CoreClass). take index classes ++ x ∷ []) (sym c.class-item.is)
-    in
+    let next = ap (λ (x : CoreClass). take index classes ++ x ∷ []) (sym c.class-item.is) in
+    let more = take_more classes index item c.loop-class-test.true ∙ next in
     subst (λ cs. AreClasses c.args.core.now cs c.add_class.new.by_class)
     (sym (ap (map class_of) more ∙ map-append class_of (take index classes) (item ∷ [])))
     (c.in_ok-add_class.ensures (map class_of (take index classes)) c.loop-class.invariant)
