@@ -11,8 +11,8 @@ use Rattle.cls_layout.specs.declared.ClassFault.{ClassFault}
 use Rattle.cls_layout.specs.declared.ClassFault.TheVariants as faults
 use Rattle.cls_layout.specs.Parts.{size}
 use Rattle.cls_layout.specs.Row.{Lays, complete, stopped, next, stops, entered, due_behind}
-use Rattle.cls_layout.specs.Faults.{first_misnamed, JudgesText, spelled, unspelled, JudgesCode, faulty, misnamed, right, Judges, JudgesField}
-use Rattle.cls_layout.specs.Faults.{cut, whole, First, clean, here, behind, moved, Fails, IsRight}
+use Rattle.cls_layout.specs.Faults.{first_misnamed, JudgesText, spelled, unspelled, JudgesCode, faulty, misnamed, right, Judges}
+use Rattle.cls_layout.specs.Faults.{JudgesField, cut, whole, First, clean, here, behind, moved, Fails, IsRight}
 
 pub record SameRow (a b : List Field) (p q : List ℕ) : Type 0 where
   pub row : a ≡ b
