@@ -3,7 +3,7 @@
 ghost use Rattle.std.specs.Prelude.{◌≡◌, ℕ, [], ◌∷◌, ◌++◌, map, option_map, slice_get, filter_map, IfOk, OnOk};
 ghost use Rattle.jv_core.specs.Tree.{Class, Program};
 ghost use Rattle.jv_core.specs.View.{class_of, method_of};
-ghost use Rattle.gen_symbolic.specs.View.{instrs_of};
+ghost use Rattle.gen_expressions.specs.View.{instrs_of};
 ghost use Rattle.gen_rules.specs.Classes.{access_of, all_initialised, constructor_code, constructor_stack, constructor, constructors};
 ghost use Rattle.gen_rules.specs.inner.Files.{generated_method, generated_class};
 ghost use Rattle.gen_members.specs.Parts.{compiled_of};

@@ -1,6 +1,6 @@
 use Rattle.std.proofs.Common.{◌≡◌, ap, ◌∙◌, rules}
 use Rattle.jv_core.specs.View.{class_of}
-use Rattle.gen_symbolic.specs.View.{instrs_of}
+use Rattle.gen_expressions.specs.View.{instrs_of}
 use Rattle.gen_class.proofs.Programs.{constructor_made}
 use Rattle.gen_class.proofs.making.constructor_making.Goals as goal
 
