@@ -15,7 +15,7 @@ use Rattle.jv_core.specs.Lookup.{text_at}
 use Rattle.jv_core.specs.View.{class_of}
 use Rattle.jv_core.specs.declared.program.CoreClass.{CoreClass}
 use Rattle.gen_rules.specs.Symbolic.{Instr, return}
-use Rattle.gen_symbolic.specs.declared.symbolic.Symbolic.{Symbolic}
+use Rattle.gen_expressions.specs.declared.symbolic.Symbolic.{Symbolic}
 use Rattle.gen_expressions.specs.View.{instr_of, instrs_of}
 use Rattle.gen_rules.specs.Members.{method_descriptor}
 use Rattle.gen_rules.specs.Frames.{max_stack, max_locals}
