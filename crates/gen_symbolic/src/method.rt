@@ -21,7 +21,7 @@ use std::alloc::Global;
 
 /// The code of a method: its instructions, how many operands stand on the stack at most, and how many
 /// locals it has.
-#[derive(Debug, Drop)]
+#[derive(Drop)]
 pub struct MethodCode<'a> {
     pub instrs: List<Symbolic<'a>>,
     pub max_stack: u32,

@@ -13,7 +13,7 @@ use std::alloc::Global;
 pub const MOST: u32 = 400;
 
 /// The files of a workload: their names and what they hold, in one order.
-#[derive(Debug, Drop)]
+#[derive(Drop)]
 pub struct Workload {
     pub names: List<Text>,
     pub contents: List<Bytes>,

@@ -19,7 +19,7 @@ use scr_tree::Local;
 use std::alloc::Global;
 
 /// The file of a role: its name, and its text.
-#[derive(Debug, Drop)]
+#[derive(Drop)]
 pub struct RoleFile {
     pub name: Text,
     pub text: Text,

@@ -18,7 +18,7 @@ use ts_refine::Verdict;
 use ts_tree::Typestate;
 
 /// What is told of two typestates: lines of text, and whether the first stands for the second.
-#[derive(Debug, Drop)]
+#[derive(Drop)]
 pub struct Told {
     pub text: Text,
     pub stands: bool,

@@ -7,7 +7,7 @@ use crate::GStatement;
 use mg_text::{List, Text};
 
 /// A valid global protocol: the roles, and what they do.
-#[derive(Debug, Drop)]
+#[derive(Drop)]
 pub struct Global {
     file: u32,
     name: Text,

@@ -26,7 +26,7 @@ pub struct Walk<'a> {
 }
 
 /// Why a walk can't take a call. In both cases it stands where it stood.
-#[derive(Clone, Copy, Debug, PartialEq, Eq)]
+#[derive(Clone, Copy, Debug)]
 pub enum StepFault {
     /// No step of the protocol has the call.
     NotOffered,

@@ -40,7 +40,7 @@ pub enum Mark {
 }
 
 /// What a token is.
-#[derive(Debug, Drop)]
+#[derive(Drop)]
 pub enum TokenKind {
     /// A name, which is no reserved word.
     Name(Text),
@@ -51,7 +51,7 @@ pub enum TokenKind {
 }
 
 /// A token, and the place of its first byte.
-#[derive(Debug, Drop)]
+#[derive(Drop)]
 pub struct Token {
     pub place: Place,
     pub kind: TokenKind,

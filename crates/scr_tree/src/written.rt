@@ -4,7 +4,7 @@ use crate::Statement;
 use mg_text::{List, Place, Text};
 
 /// A declaration `type <language> "class" from ".." as alias;`, with the place of its alias.
-#[derive(Debug, Drop)]
+#[derive(Drop)]
 pub struct Declaration {
     pub place: Place,
     pub language: Text,
@@ -20,7 +20,7 @@ pub struct Role {
 }
 
 /// The types that stand between the parentheses of a message, with the message's place.
-#[derive(Debug, Drop)]
+#[derive(Drop)]
 pub struct Carries {
     pub place: Place,
     pub types: List<Text>,
@@ -28,7 +28,7 @@ pub struct Carries {
 
 /// The roles that stand between the parentheses of a `do`, with its place and the protocol that it
 /// names.
-#[derive(Debug, Drop)]
+#[derive(Drop)]
 pub struct Arguments {
     pub place: Place,
     pub name: Text,
@@ -36,7 +36,7 @@ pub struct Arguments {
 }
 
 /// A protocol of a file, with the place of its name.
-#[derive(Debug, Drop)]
+#[derive(Drop)]
 pub struct WrittenPart {
     pub place: Place,
     pub name: Text,
@@ -53,7 +53,7 @@ pub struct WrittenPart {
 }
 
 /// The parts of a file.
-#[derive(Debug, Drop)]
+#[derive(Drop)]
 pub struct Written {
     /// The types that are declared, in the order of the text.
     pub types: List<Declaration>,

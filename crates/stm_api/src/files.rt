@@ -21,7 +21,7 @@ use std::alloc::Global;
 
 /// A file of an API: its name, what it holds, and the text of that. Places are the first of the
 /// protocol's file.
-#[derive(Debug, Drop)]
+#[derive(Drop)]
 pub struct ApiFile {
     pub name: Text,
     pub tree: File,

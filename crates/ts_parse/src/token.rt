@@ -4,7 +4,7 @@
 use mg_text::{Place, Text};
 
 /// A reserved word, or a sign.
-#[derive(Clone, Copy, Debug, PartialEq, Eq)]
+#[derive(Clone, Copy, PartialEq, Eq)]
 pub enum Mark {
     Typestate,
     Package,
@@ -24,14 +24,14 @@ pub enum Mark {
 }
 
 /// What a token is.
-#[derive(Debug, Drop)]
+#[derive(Drop)]
 pub enum TokenKind {
     Name(Text),
     Mark(Mark),
 }
 
 /// A token, and the place of its first byte.
-#[derive(Debug, Drop)]
+#[derive(Drop)]
 pub struct Token {
     pub place: Place,
     pub kind: TokenKind,

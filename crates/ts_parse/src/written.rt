@@ -5,28 +5,28 @@ use mg_text::{List, Place, Text};
 use ts_tree::TypeName;
 
 /// A name where it stands.
-#[derive(Debug, Drop)]
+#[derive(Drop)]
 pub struct Naming {
     pub place: Place,
     pub text: Text,
 }
 
 /// A label, and the name of the state that it leads to.
-#[derive(Debug, Drop)]
+#[derive(Drop)]
 pub struct WrittenBranch {
     pub label: Naming,
     pub to: Naming,
 }
 
 /// Where the calls of a method lead, by the names of states.
-#[derive(Debug, Drop)]
+#[derive(Drop)]
 pub enum WrittenTarget {
     One(Naming),
     ByAnswer(List<WrittenBranch>),
 }
 
 /// A method of a state.
-#[derive(Debug, Drop)]
+#[derive(Drop)]
 pub struct WrittenMethod {
     pub result: TypeName,
     pub name: Naming,
@@ -35,7 +35,7 @@ pub struct WrittenMethod {
 }
 
 /// An entry of a state.
-#[derive(Debug, Drop)]
+#[derive(Drop)]
 pub enum WrittenEntry {
     Method(WrittenMethod),
     /// `drop: end`, at the place of its `drop`.
@@ -43,14 +43,14 @@ pub enum WrittenEntry {
 }
 
 /// A state, and its entries in the order of the text.
-#[derive(Debug, Drop)]
+#[derive(Drop)]
 pub struct WrittenState {
     pub name: Naming,
     pub entries: List<WrittenEntry>,
 }
 
 /// A typestate, and its states in the order of the text.
-#[derive(Debug, Drop)]
+#[derive(Drop)]
 pub struct WrittenTypestate {
     pub name: Text,
     pub states: List<WrittenState>,

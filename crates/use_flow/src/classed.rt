@@ -20,7 +20,7 @@ use std::alloc::Global;
 use ts_tree::State;
 
 /// A table, and the class of its objects.
-#[derive(Clone, Copy, Debug)]
+#[derive(Clone, Copy)]
 pub(crate) struct Entry {
     pub key: TableKey,
     pub class: u32,

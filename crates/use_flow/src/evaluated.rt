@@ -34,7 +34,7 @@ pub(crate) struct Arguments {
 }
 
 /// A variable that is tested for null, and whether the test holds where it is null.
-#[derive(Clone, Copy, Debug)]
+#[derive(Clone, Copy)]
 pub(crate) struct NullTest {
     pub variable: Var,
     pub holds: bool,

@@ -16,7 +16,7 @@ use use_elements::{Sets, copy_set, empty_set};
 
 /// The tables of the fields of an object: in a state, where a helper is entered or left, or at the
 /// head of a loop, where fields stand behind so many slots.
-#[derive(Clone, Copy, Debug)]
+#[derive(Clone, Copy)]
 pub enum FieldTable {
     State {
         class: u32,

@@ -6,14 +6,14 @@ use mg_sets::StateSet;
 use mg_text::List;
 
 /// A set that flows into a table.
-#[derive(Debug, Drop)]
+#[derive(Drop)]
 pub struct Out {
     pub key: TableKey,
     pub set: StateSet,
 }
 
 /// What flows into tables, and the demands that fail.
-#[derive(Debug, Drop)]
+#[derive(Drop)]
 pub struct Flow {
     pub outs: List<Out>,
     pub failed: List<Demand>,

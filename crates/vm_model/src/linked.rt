@@ -82,14 +82,14 @@ pub enum LinkedArgs {
 }
 
 /// An instruction: its opcode (JVMS chapter 6), and what it works with.
-#[derive(Debug, Drop)]
+#[derive(Drop)]
 pub struct LinkedInstr {
     pub op: u8,
     pub args: LinkedArgs,
 }
 
 /// A method: its name and descriptor, the types that the descriptor names, its bounds, and its code.
-#[derive(Debug, Drop)]
+#[derive(Drop)]
 pub struct LinkedMethod {
     pub name: Text,
     pub descriptor: Text,
@@ -105,7 +105,7 @@ pub struct LinkedMethod {
 }
 
 /// A field that each object of a class has.
-#[derive(Debug, Drop)]
+#[derive(Drop)]
 pub struct LinkedField {
     pub name: Text,
     pub descriptor: Text,
@@ -115,7 +115,7 @@ pub struct LinkedField {
 }
 
 /// A class: its name, its fields that aren't static, and its methods.
-#[derive(Debug, Drop)]
+#[derive(Drop)]
 pub struct LinkedClass {
     pub name: Text,
     pub fields: List<LinkedField>,

@@ -9,7 +9,7 @@ use mg_text::{Memory, Text};
 use std::alloc::Global;
 
 /// The type of a field, a parameter or a result.
-#[derive(Debug, Drop)]
+#[derive(Drop)]
 pub enum LinkedType {
     Int,
     Truth,
