@@ -1,7 +1,8 @@
 //! Reads the cases of a file, line by line.
 
+use crate::CasesFault;
+use crate::case::Case;
 use crate::escapes::spell;
-use crate::{Case, CasesFault};
 use std::alloc::{AllocError, Global};
 
 /// What a line belongs to.
