@@ -68,36 +68,37 @@ impl Answers for Reading {
             "lists.txt" => bases::listed(alloc, answer, text),
             "names.txt" => bases::numbered(alloc, answer, text),
             "sets.txt" => bases::joined(alloc, answer, text),
-            "layouts.txt" => typestates::laid_out(alloc, answer, given),
-            "reached.txt" => typestates::reached(alloc, answer, given),
+            "typestates.txt" | "states.txt" | "trees.txt" | "layouts.txt" | "reached.txt" => {
+                typestates::tell(alloc, answer, file, given)
+            }
             "calls.txt" => typestates::called(alloc, answer, text),
             "walks.txt" => walks::walked(alloc, answer, text),
-            "apis.txt" => walks::api_of(alloc, answer, given),
+            "protocols.txt"
+            | "bodies.txt"
+            | "parts.txt"
+            | "whole.txt"
+            | "printed.txt"
+            | "generated.txt"
+            | "label_calls.txt"
+            | "apis.txt" => { protocols::tell(alloc, answer, file, given) }
             _ => {
-                read(alloc, answer, file, given);
+                add_part(alloc, answer, file, given);
                 Ok(())
             }
         }
     }
 }
 
-// Adds the answer to what a case gives that takes no memory beside what is read.
-fn read(alloc: Global, answer: &mut Answer, file: &str, given: &[u8]) {
+// Adds the answer to what a case gives that is no whole file.
+fn add_part(alloc: Global, answer: &mut Answer, file: &str, given: &[u8]) {
     match file {
         "escapes.txt" => answer.add(as_text(given)),
         "places.txt" => bases::place(answer, as_text(given)),
         "java_words.txt" => bases::java_word(answer, as_text(given)),
         "reserved_words.txt" => protocols::reserved_word(answer, given),
         "tokens.txt" => protocols::tokens_of(alloc, answer, given),
-        "whole.txt" => protocols::whole(alloc, answer, given),
-        "printed.txt" => protocols::printed(alloc, answer, given),
-        "protocols.txt" | "bodies.txt" | "parts.txt" => protocols::judged(alloc, answer, given),
         "written.txt" => written::written(alloc, answer, given),
-        "trees.txt" => typestates::tree(alloc, answer, given),
         "numbered.txt" => typestates::numbered(alloc, answer, given),
-        "typestates.txt" | "states.txt" => typestates::judged(alloc, answer, given),
-        "generated.txt" => walks::generated(alloc, answer, given),
-        "label_calls.txt" => walks::label_call(alloc, answer, given),
         _ => answer.add("a file of no kind"),
     }
 }

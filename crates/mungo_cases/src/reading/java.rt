@@ -40,26 +40,18 @@ impl Answers for Java {
         given: &[u8],
     ) -> Result<(), Memory> {
         match file {
-            "java_trees.txt" => spelled::tree(alloc, answer, given),
-            "depths.txt" => spelled::verdict(alloc, answer, given),
-            "printed_again.txt" => printed::again(alloc, answer, given),
-            "workloads.txt" => workloads::laid_out(alloc, answer, given),
-            "workload_texts.txt" => workloads::text(alloc, answer, given),
-            _ => {
-                read(alloc, answer, file, given);
+            "java_tokens.txt" | "long_texts.txt" => {
+                tokens::tell(alloc, answer, file, given);
                 Ok(())
             }
+            "java_layouts.txt" => {
+                printed::layout(alloc, answer, given);
+                Ok(())
+            }
+            "java_trees.txt" | "depths.txt" => spelled::tell(alloc, answer, file, given),
+            "workloads.txt" => workloads::laid_out(alloc, answer, given),
+            "workload_texts.txt" => workloads::text(alloc, answer, given),
+            _ => sources::tell(alloc, answer, file, given),
         }
-    }
-}
-
-// Adds the answer to what a case gives that takes no memory beside what is read.
-fn read(alloc: Global, answer: &mut Answer, file: &str, given: &[u8]) {
-    match file {
-        "java_tokens.txt" => tokens::shown(alloc, answer, given),
-        "long_texts.txt" => tokens::size_of_text(alloc, answer, given),
-        "sources.txt" => sources::tree(alloc, answer, given),
-        "java_faults.txt" => sources::verdict(alloc, answer, given),
-        _ => printed::layout(alloc, answer, given),
     }
 }

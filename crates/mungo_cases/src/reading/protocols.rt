@@ -1,9 +1,13 @@
-//! Answers on the text of local protocols: tokens, faults, what is read and how it is printed.
+//! Answers on the text of local protocols: tokens, faults, what is read, how it is printed, and the
+//! typestates and APIs that are made of it.
 
 use crate::reading::bases::add_place;
+use crate::reading::walks::{add_api, typestate_text};
 use cases::Answer;
+use mg_text::Memory;
 use scr_lex::{reserved, tokens};
-use scr_read::{Local, ScrFault, Statement, print_local, read_local};
+use scr_read::{Local, Statement, print_local, read_local};
+use scr_trace::label_call_name;
 use scr_tree::{Token, TokenKind};
 use std::alloc::Global;
 
@@ -43,36 +47,33 @@ fn add_token(answer: &mut Answer, token: &Token) {
     answer.add("\n");
 }
 
-/// The protocol of a text.
-pub fn read(alloc: Global, given: &[u8]) -> Result<Local, ScrFault> {
-    read_local(alloc, 0, given)
-}
-
-/// That a protocol is read, or the fault.
-pub fn judged(alloc: Global, answer: &mut Answer, given: &[u8]) {
-    match read(alloc, given) {
-        Ok(_) => answer.add("read"),
-        Err(fault) => answer.fault(&fault),
-    }
-}
-
-/// The text of a protocol, or the fault.
-pub fn printed(alloc: Global, answer: &mut Answer, given: &[u8]) {
-    match read(alloc, given) {
-        Ok(local) => answer.made(print_local(alloc, &local)),
-        Err(fault) => answer.fault(&fault),
-    }
-}
-
-/// The file, name, role and number of roles of the protocol of the file of number 3, and its
-/// statements.
-pub fn whole(alloc: Global, answer: &mut Answer, given: &[u8]) {
+/// What is asked, by the file where the case stands, of the protocol of the file of number 3; or the
+/// fault.
+pub fn tell(alloc: Global, answer: &mut Answer, asked: &str, given: &[u8]) -> Result<(), Memory> {
     match read_local(alloc, 3, given) {
-        Ok(local) => add_whole(answer, &local),
-        Err(fault) => answer.fault(&fault),
+        Ok(local) => tell_read(alloc, answer, asked, &local),
+        Err(fault) => {
+            answer.fault(&fault);
+            Ok(())
+        }
     }
 }
 
+// What is asked of a protocol. Of those that are only judged it is enough that they are read.
+fn tell_read(alloc: Global, answer: &mut Answer, asked: &str, local: &Local) -> Result<(), Memory> {
+    match asked {
+        "whole.txt" => add_whole(answer, local),
+        "printed.txt" => answer.made(print_local(alloc, local)),
+        "generated.txt" => answer.made(typestate_text(alloc, local)),
+        // the answer to the first choice, which the role `C` makes
+        "label_calls.txt" => answer.made(label_call_name(alloc, local, 1, "C")),
+        "apis.txt" => add_api(alloc, answer, local)?,
+        _ => answer.add("read"),
+    }
+    Ok(())
+}
+
+// The file, name, role and number of roles of a protocol, and its statements.
 fn add_whole(answer: &mut Answer, local: &Local) {
     answer.tell(&(
         local.file(),

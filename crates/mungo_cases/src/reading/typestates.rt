@@ -12,27 +12,39 @@ fn read(alloc: Global, given: &[u8]) -> Result<Typestate, TsFault> {
     read_typestate(alloc, 0, given)
 }
 
-/// That a typestate is read, or the fault.
-pub fn judged(alloc: Global, answer: &mut Answer, given: &[u8]) {
+/// What is asked of a typestate, by the file where the case stands, or the fault.
+pub fn tell(alloc: Global, answer: &mut Answer, asked: &str, given: &[u8]) -> Result<(), Memory> {
     match read(alloc, given) {
-        Ok(_) => answer.add("read"),
-        Err(fault) => answer.fault(&fault),
+        Ok(typestate) => tell_read(alloc, answer, asked, &typestate),
+        Err(fault) => {
+            answer.fault(&fault);
+            Ok(())
+        }
     }
 }
 
-/// The same of the file of number 7, with the fault told whole.
+// What is asked of a typestate. Of those that are only judged it is enough that they are read.
+fn tell_read(
+    alloc: Global,
+    answer: &mut Answer,
+    asked: &str,
+    typestate: &Typestate,
+) -> Result<(), Memory> {
+    match asked {
+        "trees.txt" => add_tree(answer, typestate),
+        "layouts.txt" => add_layout(alloc, answer, typestate)?,
+        "reached.txt" => add_reached(alloc, answer, typestate)?,
+        _ => answer.add("read"),
+    }
+    Ok(())
+}
+
+/// The fault of the typestate of the file of number 7, told whole, where there is one.
 pub fn numbered(alloc: Global, answer: &mut Answer, given: &[u8]) {
     answer.tell(&read_typestate(alloc, 7, given).err());
 }
 
-/// A line for the name, for each state and for each method of a typestate, or the fault.
-pub fn tree(alloc: Global, answer: &mut Answer, given: &[u8]) {
-    match read(alloc, given) {
-        Ok(typestate) => add_tree(answer, &typestate),
-        Err(fault) => answer.fault(&fault),
-    }
-}
-
+// A line for the name, for each state and for each method of a typestate.
 fn add_tree(answer: &mut Answer, typestate: &Typestate) {
     answer.add(typestate.name.as_str());
     for state in typestate.states.as_slice() {
@@ -77,23 +89,13 @@ fn add_target(answer: &mut Answer, target: &Target) {
     }
 }
 
-/// The text of a typestate, if it is read as the same typestate, or the fault.
-pub fn laid_out(alloc: Global, answer: &mut Answer, given: &[u8]) -> Result<(), Memory> {
-    match read(alloc, given) {
-        Ok(typestate) => read_back(alloc, answer, &typestate),
-        Err(fault) => {
-            answer.fault(&fault);
-            Ok(())
-        }
-    }
-}
-
 /// The text of a typestate.
 pub fn printed(alloc: Global, typestate: &Typestate) -> Result<Text, Memory> {
     print_typestate(alloc, typestate)
 }
 
-fn read_back(alloc: Global, answer: &mut Answer, typestate: &Typestate) -> Result<(), Memory> {
+// The text of a typestate, if it is read as the same typestate, or the fault.
+fn add_layout(alloc: Global, answer: &mut Answer, typestate: &Typestate) -> Result<(), Memory> {
     let text = printed(alloc, typestate)?;
     let text = text.as_str();
     match read(alloc, text.as_bytes()) {
@@ -126,17 +128,7 @@ fn are_same(alloc: Global, one: &Typestate, other: &Typestate) -> Result<bool, M
     Ok(told(alloc, one)?.as_str() == told(alloc, other)?.as_str())
 }
 
-/// The states that calls lead to in the copy of a typestate, or the fault.
-pub fn reached(alloc: Global, answer: &mut Answer, given: &[u8]) -> Result<(), Memory> {
-    match read(alloc, given) {
-        Ok(typestate) => add_reached(alloc, answer, &typestate),
-        Err(fault) => {
-            answer.fault(&fault);
-            Ok(())
-        }
-    }
-}
-
+// The states that calls lead to in the copy of a typestate.
 fn add_reached(alloc: Global, answer: &mut Answer, typestate: &Typestate) -> Result<(), Memory> {
     let copy = copy_of(alloc, typestate)?;
     if are_same(alloc, typestate, &copy)? {

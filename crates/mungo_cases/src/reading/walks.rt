@@ -1,40 +1,22 @@
 //! Answers on what protocols offer call by call, their typestates and their APIs.
 
-use crate::reading::protocols::read;
 use crate::reading::typestates::printed;
 use cases::{Answer, files_of};
 use mg_text::{List, Memory, Text};
-use scr_read::Local;
-use scr_trace::{Call, Offer, Walk, label_call_name};
+use scr_read::{Local, read_local};
+use scr_trace::{Call, Offer, Walk};
 use std::alloc::Global;
 use stm_api::{ApiFile, api};
 use stm_gen::generate;
 
-/// The text of the typestate of a protocol, or the fault.
-pub fn generated(alloc: Global, answer: &mut Answer, given: &[u8]) {
-    match read(alloc, given) {
-        Ok(local) => answer.made(typestate_text(alloc, &local)),
-        Err(fault) => answer.fault(&fault),
-    }
-}
-
-fn typestate_text(alloc: Global, local: &Local) -> Result<Text, Memory> {
+/// The text of the typestate of a protocol.
+pub fn typestate_text(alloc: Global, local: &Local) -> Result<Text, Memory> {
     let typestate = generate(alloc, local)?;
     printed(alloc, &typestate)
 }
 
-/// The name and text of each file of the API of a protocol, or the fault.
-pub fn api_of(alloc: Global, answer: &mut Answer, given: &[u8]) -> Result<(), Memory> {
-    match read(alloc, given) {
-        Ok(local) => add_api(alloc, answer, &local),
-        Err(fault) => {
-            answer.fault(&fault);
-            Ok(())
-        }
-    }
-}
-
-fn add_api(alloc: Global, answer: &mut Answer, local: &Local) -> Result<(), Memory> {
+/// The name and text of each file of the API of a protocol.
+pub fn add_api(alloc: Global, answer: &mut Answer, local: &Local) -> Result<(), Memory> {
     for file in files_of_api(alloc, local)?.as_slice() {
         answer.pair(">>> ", file.name.as_str());
         answer.pair("\n", file.text.as_str());
@@ -44,15 +26,6 @@ fn add_api(alloc: Global, answer: &mut Answer, local: &Local) -> Result<(), Memo
 
 fn files_of_api(alloc: Global, local: &Local) -> Result<List<ApiFile>, Memory> {
     api(alloc, local)
-}
-
-/// The name of the call that answers the label of the first choice, which the role `C` makes, or
-/// the fault.
-pub fn label_call(alloc: Global, answer: &mut Answer, given: &[u8]) {
-    match read(alloc, given) {
-        Ok(local) => answer.made(label_call_name(alloc, &local, 1, "C")),
-        Err(fault) => answer.fault(&fault),
-    }
 }
 
 /// What a protocol offers, and for each call of the second file, a method and its label if there
@@ -67,7 +40,7 @@ pub fn walked(alloc: Global, answer: &mut Answer, given: &str) -> Result<(), Mem
 }
 
 fn add_walked(alloc: Global, answer: &mut Answer, text: &str, calls: &str) -> Result<(), Memory> {
-    match read(alloc, text.as_bytes()) {
+    match read_local(alloc, 0, text.as_bytes()) {
         Ok(local) => add_walk(alloc, answer, &local, calls),
         Err(fault) => {
             answer.fault(&fault);

@@ -16,18 +16,8 @@ pub(crate) fn layout(alloc: Global, answer: &mut Answer, source: &[u8]) {
     }
 }
 
-/// That the text of a source is read and printed as it is, or what is found in its place.
-pub(crate) fn again(alloc: Global, answer: &mut Answer, source: &[u8]) -> Result<(), Memory> {
-    match read_java(alloc, 0, source) {
-        Ok(file) => add_compared(alloc, answer, &file),
-        Err(fault) => {
-            faults::add_line(answer, &fault);
-            Ok(())
-        }
-    }
-}
-
-fn add_compared(alloc: Global, answer: &mut Answer, file: &File) -> Result<(), Memory> {
+/// That the text of a file is read and printed as it is, or what is found in its place.
+pub(crate) fn again(alloc: Global, answer: &mut Answer, file: &File) -> Result<(), Memory> {
     let text = print_file(alloc, file)?;
     let text = text.as_str();
     let mut again = Answer::new(alloc);

@@ -9,24 +9,21 @@ use jv_tree::{Sign, Token, TokenKind};
 use mg_text::{List, Memory, Place, Text};
 use std::alloc::Global;
 
-/// The tree of the file that words spell, or the fault.
-pub(crate) fn tree(alloc: Global, answer: &mut Answer, words: &[u8]) -> Result<(), Memory> {
+/// What is asked of the tree of the file that words spell, or the fault.
+pub(crate) fn tell(
+    alloc: Global,
+    answer: &mut Answer,
+    asked: &str,
+    words: &[u8],
+) -> Result<(), Memory> {
     let tokens = tokens_of(alloc, words)?;
     match parse_file(alloc, 0, tokens.as_slice()) {
-        Ok(file) => trees::add(alloc, answer, &file),
-        Err(fault) => faults::add_line(answer, &JavaFault::from(fault)),
+        Ok(file) => trees::tell(alloc, answer, asked, &file),
+        Err(fault) => {
+            faults::add_line(answer, &JavaFault::from(fault));
+            Ok(())
+        }
     }
-    Ok(())
-}
-
-/// That words spell a file, or the fault.
-pub(crate) fn verdict(alloc: Global, answer: &mut Answer, words: &[u8]) -> Result<(), Memory> {
-    let tokens = tokens_of(alloc, words)?;
-    match parse_file(alloc, 0, tokens.as_slice()) {
-        Ok(_) => answer.add("read"),
-        Err(fault) => faults::add_line(answer, &JavaFault::from(fault)),
-    }
-    Ok(())
 }
 
 // The tokens that words stand for.

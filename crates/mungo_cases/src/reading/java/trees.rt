@@ -1,19 +1,28 @@
-//! Trees as text.
+//! What is asked of the tree of a file.
 
+use crate::reading::java::printed;
 use cases::{Answer, told};
 use jv_tree::File;
 use mg_text::Memory;
 use std::alloc::Global;
 
-/// Adds the tree of a file, in which each place is written `FILE:LINE:COLUMN`.
-pub(crate) fn add(alloc: Global, answer: &mut Answer, file: &File) {
-    match told(alloc, file) {
-        Ok(whole) => add_tree(answer, whole.as_str()),
-        Err(Memory) => answer.fail(),
+/// What is asked of the tree of a file, by the file where the case stands: the tree, or that its text
+/// is read and printed as it is. Of most it is enough that they are read.
+pub(crate) fn tell(
+    alloc: Global,
+    answer: &mut Answer,
+    asked: &str,
+    file: &File,
+) -> Result<(), Memory> {
+    match asked {
+        "java_trees.txt" | "sources.txt" => add_tree(answer, told(alloc, file)?.as_str()),
+        "printed_again.txt" => printed::again(alloc, answer, file)?,
+        _ => answer.add("read"),
     }
+    Ok(())
 }
 
-// Adds a tree that is told whole.
+// Adds a tree that is told whole, in which each place is written `FILE:LINE:COLUMN`.
 fn add_tree(answer: &mut Answer, whole: &str) {
     let mut is_first = true;
     for part in whole.split("Place { ") {

@@ -80,7 +80,7 @@ fn printed_again(alloc: Global, name: &str, bytes: &[u8]) -> Result<String, Memo
     if name.ends_with(".java") {
         printed::layout(alloc, &mut again, bytes);
     } else {
-        protocols::printed(alloc, &mut again, bytes);
+        protocols::tell(alloc, &mut again, "printed.txt", bytes)?;
     }
     again.into_text()
 }
