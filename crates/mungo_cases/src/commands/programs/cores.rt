@@ -1,7 +1,7 @@
 //! The enums, classes and methods of a core, a line for each.
 
 use cases::Answer;
-use jv_core::{Core, CoreClass, CoreEnum, CoreField, CoreLoop, CoreMethod};
+use jv_core::{Core, CoreClass, CoreEnum, CoreField, CoreMethod};
 use mg_text::{Name, Names};
 
 /// Tells a line for each enum, class and method.
@@ -55,34 +55,26 @@ fn tell_field(answer: &mut Answer, names: &Names, field: &CoreField) {
 // A line for a method: where it begins and ends, the number of its class, its name, kind, result
 // and count of parameters, its slots, and its loops with their slots in scope.
 fn tell_method(answer: &mut Answer, names: &Names, method: &CoreMethod) {
+    let name = text_of(names, method.name);
+    let (class, params) = (method.class, method.params);
+    let (kind, result) = (method.kind, method.result);
     answer.line();
     answer.add("method ");
     answer.place(method.place);
     answer.add(" ");
     answer.place(method.end);
-    tell_head(answer, names, method);
+    write!(answer, " {class} {name} {kind:?} {result:?} {params}");
     for slot in method.slots.as_slice() {
         answer.pair(" ", text_of(names, slot.name));
         answer.add(":");
         answer.tell(&slot.ty);
     }
     for found in method.loops.as_slice() {
-        tell_loop(answer, found);
+        answer.add(" loop ");
+        answer.place(found.place);
+        answer.add(" ");
+        answer.tell(&found.scope.as_slice());
     }
-}
-
-fn tell_head(answer: &mut Answer, names: &Names, method: &CoreMethod) {
-    let name = text_of(names, method.name);
-    let (class, params) = (method.class, method.params);
-    let (kind, result) = (method.kind, method.result);
-    write!(answer, " {class} {name} {kind:?} {result:?} {params}");
-}
-
-fn tell_loop(answer: &mut Answer, found: &CoreLoop) {
-    answer.add(" loop ");
-    answer.place(found.place);
-    answer.add(" ");
-    answer.tell(&found.scope.as_slice());
 }
 
 // The text of a name.

@@ -5,7 +5,7 @@ use cases::{Answer, File};
 use jv_core::Core;
 use mg_text::Memory;
 use std::alloc::Global;
-use use_flow::{Context, Demand, Flow, Follows, Tables, contexts, flow, reads};
+use use_flow::{Context, Flow, Follows, Tables, contexts, flow, reads};
 use use_infer::infer;
 
 /// Tells a line for each context, in their order.
@@ -154,14 +154,10 @@ fn tell_flow(answer: &mut Answer, met: &Flow) {
         tell_set(answer, &out.set);
     }
     for demand in met.failed.as_slice() {
-        tell_failed(answer, demand);
+        answer.add("\n");
+        answer.tell(&demand.kind);
+        answer.pair(" ", demand.slot.as_str());
+        answer.add(" ");
+        answer.tell(&demand.element);
     }
-}
-
-fn tell_failed(answer: &mut Answer, demand: &Demand) {
-    answer.add("\n");
-    answer.tell(&demand.kind);
-    answer.pair(" ", demand.slot.as_str());
-    answer.add(" ");
-    answer.tell(&demand.element);
 }

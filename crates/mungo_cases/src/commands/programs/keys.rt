@@ -69,17 +69,26 @@ pub(crate) fn tell_key(answer: &mut Answer, key: TableKey) {
             class,
             state,
             field,
-        } => write!(answer, "F {class} {state} {field}:"),
-        TableKey::Param { context, param } => write!(answer, "P {context} {param}:"),
-        TableKey::Result { context } => write!(answer, "R {context}:"),
-        TableKey::Enter { method, field } => write!(answer, "E {method} {field}:"),
-        TableKey::Leave { method, field } => write!(answer, "L {method} {field}:"),
+        } => tell_numbers(answer, "F", &[class, state, field]),
+        TableKey::Param { context, param } => tell_numbers(answer, "P", &[context, param]),
+        TableKey::Result { context } => tell_numbers(answer, "R", &[context]),
+        TableKey::Enter { method, field } => tell_numbers(answer, "E", &[method, field]),
+        TableKey::Leave { method, field } => tell_numbers(answer, "L", &[method, field]),
         TableKey::Loop {
             context,
             number,
             slot,
-        } => write!(answer, "H {context} {number} {slot}:"),
+        } => tell_numbers(answer, "H", &[context, number, slot]),
     }
+}
+
+fn tell_numbers(answer: &mut Answer, kind: &str, numbers: &[u32]) {
+    answer.add(kind);
+    for number in numbers {
+        answer.add(" ");
+        answer.show(number);
+    }
+    answer.add(":");
 }
 
 /// Tells the members of a set.
