@@ -28,23 +28,28 @@ pub fn tell<R: Files + Print + AllocGlobal>(
     files: &[&str],
 ) -> Result<(), CasesFault> {
     for file in files {
-        tell_file(rt, answers, *file)?;
+        let cases = cases_in(rt, *file)?;
+        tell_cases(rt, answers, *file, cases.as_slice())?;
     }
     Ok(())
 }
 
-fn tell_file<R: Files + Print + AllocGlobal>(
+fn cases_in<R: Files + AllocGlobal>(rt: &R, file: &str) -> Result<Vec<Case>, CasesFault> {
+    let text = fs::read_to_string(rt, file)?;
+    cases_of(rt.alloc(), text.as_str())
+}
+
+fn tell_cases<R: Print + AllocGlobal>(
     rt: &R,
     answers: &impl Answers,
     file: &str,
+    cases: &[Case],
 ) -> Result<(), CasesFault> {
-    let text = fs::read_to_string(rt, file)?;
-    let cases = cases_of(rt.alloc(), text.as_str())?;
     let mut frame = None;
     let mut count: usize = 0;
-    for case in cases.as_slice() {
+    for case in cases {
         if case.name.as_str() == "frame" {
-            frame = str::from_utf8(case.given.as_slice()).ok();
+            frame = str::from_utf8(case.given.bytes.as_slice()).ok();
         } else {
             tell_case(rt, answers, file, frame, case)?;
             count = count.saturating_add(1);
@@ -61,7 +66,7 @@ fn tell_case<R: Print + AllocGlobal>(
     frame: Option<&str>,
     case: &Case,
 ) -> Result<(), CasesFault> {
-    let given = case.given.as_slice();
+    let given = case.given.bytes.as_slice();
     let answer = answer_to(rt.alloc(), answers, file, frame, given)?;
     if !case.wants(answer.as_str()) {
         let name = case.name.as_str();

@@ -9,15 +9,15 @@ use std::{fs, io};
 
 /// A call of a folder, and what it is to give.
 #[derive(Clone, Copy)]
-enum Call {
+enum Call<'a> {
     /// The file of this name, so many bytes of it at most, and those that are read.
-    Read(&'static str, usize, &'static str),
+    Read(&'a str, usize, &'a str),
     /// A file that isn't read.
-    NoRead(&'static str),
+    NoRead(&'a str),
     /// The file of this name, and what it holds then.
-    Write(&'static str, &'static str),
+    Write(&'a str, &'a str),
     /// A file that isn't written.
-    NoWrite(&'static str, &'static str),
+    NoWrite(&'a str, &'a str),
 }
 
 // Whether a folder gives these bytes of a file, or fails where there are none.
@@ -42,7 +42,7 @@ fn writes(alloc: Global, folder: &mut impl Folder, name: &str, text: &[u8], want
     }
 }
 
-fn gives(alloc: Global, folder: &mut impl Folder, call: Call) -> bool {
+fn gives(alloc: Global, folder: &mut impl Folder, call: Call<'_>) -> bool {
     match call {
         Call::Read(name, limit, text) => reads(alloc, folder, name, limit, Some(text.as_bytes())),
         Call::NoRead(name) => reads(alloc, folder, name, 9, None),
@@ -51,7 +51,7 @@ fn gives(alloc: Global, folder: &mut impl Folder, call: Call) -> bool {
     }
 }
 
-fn gives_all(alloc: Global, folder: &mut impl Folder, calls: &[Call]) -> bool {
+fn gives_all(alloc: Global, folder: &mut impl Folder, calls: &[Call<'_>]) -> bool {
     for call in calls {
         if !gives(alloc, folder, *call) {
             return false;
@@ -68,7 +68,7 @@ fn is_alone(names: &[Text], wanted: &str) -> bool {
 }
 
 // The call with the number 2 is to fail.
-const IN_MEMORY: [Call; 4] = [
+const IN_MEMORY: [Call<'static>; 4] = [
     Call::Read("a", 4, "hell"),
     Call::NoRead("b"),
     Call::NoWrite("a", "new"),
@@ -99,13 +99,13 @@ fn a_folder_in_memory_reads_writes_and_fails_as_listed(rt: HostRuntime) {
     }
 }
 
-const WRITTEN: [Call; 3] = [
+const WRITTEN: [Call<'static>; 3] = [
     Call::Write("mg_io_test_file", "hello"),
     Call::Read("mg_io_test_file", 4, "hell"),
     Call::Read("mg_io_test_file", 9, "hello"),
 ];
 
-const REMOVED: [Call; 3] = [
+const REMOVED: [Call<'static>; 3] = [
     Call::NoRead("mg_io_test_file"),
     Call::NoWrite("mg_io_no_folder/file", "x"),
     Call::NoRead("."),

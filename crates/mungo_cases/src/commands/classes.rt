@@ -56,10 +56,7 @@ fn fill(alloc: Global, line: &str, files: &mut FileList) -> Result<(), Memory> {
     let Some((name, count)) = line.split_once(' ') else {
         return Ok(());
     };
-    let mut bytes = Vec::new(alloc);
-    for _ in 0..number(count) {
-        bytes.push(0)?;
-    }
+    let bytes = vec![in alloc; 0; number(count)]?;
     files.add(alloc, name, bytes.as_slice())
 }
 
