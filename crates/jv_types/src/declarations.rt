@@ -49,23 +49,6 @@ fn found_by<'a>(condition: Condition, found: Option<Blamed<'a>>) -> Option<Found
     }
 }
 
-// Types and typestates whose names are declared twice.
-fn repeated_name<'a>(
-    alloc: Global,
-    decls: &[&'a Decl],
-    typestates: &'a [Typestate],
-    origins: &[u32],
-) -> Result<Option<Blamed<'a>>, Memory>
-    ensures { IfOk result (λ o. option_map blamed_of o ≡ option_or (repeat_type [] (map (λ d. decl_of d.now) decls.now))
-        (repeat_typestate [] typestates.now origins.now)) }
-{
-    let found = repeated_type(alloc, decls)?;
-    if found.is_some() {
-        return Ok(found);
-    }
-    repeated_typestate(alloc, typestates, origins)
-}
-
 // Names that are declared twice.
 fn early_fault<'a>(
     alloc: Global,
@@ -75,7 +58,11 @@ fn early_fault<'a>(
 ) -> Result<Option<Found<'a>>, Memory>
     ensures { IfOk result (λ o. option_map found_of o ≡ early_in (map (λ d. decl_of d.now) decls.now) typestates.now origins.now) }
 {
-    let found = repeated_name(alloc, decls, typestates, origins)?;
+    let found = repeated_type(alloc, decls)?;
+    if found.is_some() {
+        return Ok(found_by(Condition::DuplicateName, found));
+    }
+    let found = repeated_typestate(alloc, typestates, origins)?;
     if found.is_some() {
         return Ok(found_by(Condition::DuplicateName, found));
     }

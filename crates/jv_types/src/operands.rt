@@ -8,7 +8,7 @@ ghost use Rattle.jv_rules.specs.Typing.{operator_type};
 ghost use Rattle.jv_types.specs.inner.View.{type_seen};
 ghost use Rattle.jv_types.specs.inner.Judging.{is_this, misfit, misfits, added_misfit, compared_misfit, operand_misfit, at_place};
 
-use crate::value_type::{ValueType, fits, is_writable};
+use crate::value_type::{ValueType, fits};
 use jv_tree::{Expr, ExprKind, Op};
 use mg_text::Place;
 
@@ -52,15 +52,17 @@ pub(crate) fn misfit(taken: ValueType<'_>, expr: &Expr, given: ValueType<'_>) ->
     Some(expr.place)
 }
 
-// The place of a value that can't be written.
+/// The place of a value that can't be written.
 #[tactic(auto, using(crate::proofs::Seen::seen))]
 pub(crate) fn unwritable(expr: &Expr, given: ValueType<'_>) -> Option<Place>
     ensures { option_map at_place result ≡ misfit Writable (expr_of expr.now) (type_seen given.entry) }
 {
-    if is_writable(given) {
-        return None;
+    match given {
+        ValueType::Int => None,
+        ValueType::Boolean => None,
+        ValueType::Text => None,
+        _ => Some(expr.place),
     }
-    Some(expr.place)
 }
 
 /// The place of a value that is no variable of a class.

@@ -17,7 +17,6 @@ use std::alloc::Global;
 use ts_tree::{Method, State, Typestate};
 
 /// A typestate and the methods that its states offer.
-#[derive(Drop)]
 pub struct Protocol<'a> {
     pub of: &'a Typestate,
     // All of them, in the order of the states.
@@ -29,6 +28,18 @@ pub struct Protocol<'a> {
     ghost first: { offers_seen firsts.items ≡ firsts_among [] (offers_in of.now.states) } by { Prim.hlevel codes },
     ghost alike: { AreAlike (offers_in of.now.states) } by { Prim.hlevel codes },
     ghost named: { OffersAll (Some of.now) names },
+}
+
+// One call lets go of it.
+impl Drop for Protocol<'_> {
+    fn drop(self) {
+        let Protocol {
+            of: _,
+            offers: _,
+            firsts: _,
+            names: _,
+        } = self;
+    }
 }
 
 impl Protocol<'_> {

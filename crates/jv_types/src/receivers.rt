@@ -13,7 +13,7 @@ use crate::locals::Locals;
 use crate::operands::{is_this, no_variable};
 use crate::scope::Scope;
 use crate::value_type::ValueType;
-use crate::variable::{is_protocol, own_field, variable_type};
+use crate::variable::{own_field, variable_type};
 use jv_tree::{Expr, ExprKind, Field};
 use mg_text::Place;
 
@@ -32,7 +32,7 @@ pub(crate) fn calls_protocol(scope: &Scope<'_, '_>, locals: &Locals<'_>, name: &
     ensures { result ≡ is_protocol (scope_seen scope.now locals.now) name.now }
 {
     if is_own(scope, locals, name) {
-        return is_protocol(scope, name);
+        return scope.table.is_offered(scope.class, name);
     }
     false
 }
@@ -42,7 +42,7 @@ pub(crate) fn calls_helper(scope: &Scope<'_, '_>, locals: &Locals<'_>, name: &st
     ensures { result ≡ is_helper (scope_seen scope.now locals.now) name.now }
 {
     if is_own(scope, locals, name) {
-        return !is_protocol(scope, name);
+        return !scope.table.is_offered(scope.class, name);
     }
     false
 }
