@@ -10,7 +10,7 @@ ghost use Rattle.jv_types.specs.Tables.{program_in};
 ghost use Rattle.jv_types.specs.declared.demands.Demand.TheVariants as demands;
 ghost use Rattle.jv_types.specs.inner.Blaming.{blamed_of, noted};
 ghost use Rattle.jv_types.specs.inner.Declaring.{missing_method, missing_in_class, type_eq, types_eq, all_in};
-ghost use Rattle.jv_types.specs.inner.Declaring.{are_constants, are_labels_of, other_labels, breaks, breaks_it, broken_names};
+ghost use Rattle.jv_types.specs.inner.Declaring.{are_constants, are_labels_of, other_labels, breaks_it, broken_names};
 ghost use Rattle.jv_types.specs.inner.Declaring.{broken_by_name, broken_method, broken_in_class};
 ghost use Rattle.jv_types.specs.inner.Kept.{typestate_in};
 ghost use Rattle.jv_types.specs.inner.Offering.{offers_seen};
@@ -212,28 +212,6 @@ pub(crate) fn other_labels(
     }
 }
 
-// Whether a method breaks what is demanded of it.
-fn breaks(
-    alloc: Global,
-    table: &Table<'_>,
-    demand: Demand,
-    method: &MethodDecl,
-    demanded: &Method,
-) -> Result<bool, Memory>
-    ensures { IfOk result (λ b. b ≡ breaks (program_in table.now) demand (method_of method.now) (offer_of demanded.now)) }
-{
-    match demand {
-        Demand::OfSignature => {
-            let alike = both(
-                same_type(&demanded.result, &method.result),
-                same_types(demanded.params.as_slice(), method.params.as_slice()),
-            );
-            Ok(!alike)
-        }
-        Demand::OfLabels => other_labels(alloc, table, &method.result, &demanded.target),
-    }
-}
-
 // Whether the instance method of this name, where there is one, breaks what is demanded of it.
 fn breaks_it(
     alloc: Global,
@@ -251,7 +229,16 @@ fn breaks_it(
     if method.is_static {
         return Ok(false);
     }
-    breaks(alloc, table, demand, method, demanded)
+    match demand {
+        Demand::OfSignature => {
+            let alike = both(
+                same_type(&demanded.result, &method.result),
+                same_types(demanded.params.as_slice(), method.params.as_slice()),
+            );
+            Ok(!alike)
+        }
+        Demand::OfLabels => other_labels(alloc, table, &method.result, &demanded.target),
+    }
 }
 
 // Notes the names of the methods that break what is demanded of them.
