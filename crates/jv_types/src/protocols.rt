@@ -4,12 +4,11 @@ ghost use Rattle.std.specs.Prelude.{◌≡◌, [], ◌++◌, IfOk, OnOk, Some, m
 ghost use Rattle.std.specs.Coded.{codes};
 ghost use Rattle.std.specs.List.{list_any};
 ghost use Rattle.std.specs.Str.{bytes_eq};
-ghost use Rattle.mg_text.specs.Interned.{with_text};
 ghost use Rattle.ts_tree.specs.View.{method_of as offer_of, state_of};
 ghost use Rattle.jv_rules.specs.Program.{offers_in};
 ghost use Rattle.jv_types.specs.inner.Blaming.{noted};
 ghost use Rattle.jv_types.specs.inner.Entries.{OffersAll};
-ghost use Rattle.jv_types.specs.inner.Offering.{offers_seen, new_among, firsts_among, AreAlike};
+ghost use Rattle.jv_types.specs.inner.Offering.{offers_seen, firsts_among, AreAlike};
 
 use crate::blame::note;
 use mg_text::{Memory, Names};
@@ -72,23 +71,6 @@ fn offers_of<'a>(alloc: Global, states: &'a [State]) -> Result<Vec<&'a Method>, 
     Ok(all)
 }
 
-// Adds a method, where its name is new.
-fn add_first<'a>(
-    names: &mut Names,
-    firsts: &mut Vec<&'a Method>,
-    offer: &'a Method,
-) -> Result<(), Memory>
-    ensures names { OnOk result (names.new ≡ with_text names.old offer.now.name) }
-    ensures firsts { OnOk result (offers_seen firsts.new.items ≡ offers_seen firsts.old.items ++ new_among names.old (offer_of offer.now)) }
-{
-    let fresh = note(names, offer.name.as_str())?;
-    if !fresh {
-        return Ok(());
-    }
-    firsts.push(offer)?;
-    Ok(())
-}
-
 // The first method of each name that was not met, and these names.
 fn first_offers<'a>(
     alloc: Global,
@@ -100,7 +82,11 @@ fn first_offers<'a>(
 {
     let mut firsts = Vec::new(alloc);
     for offer in offers {
-        add_first(names, &mut firsts, offer)?;
+        let fresh = note(names, offer.name.as_str())?;
+        if !fresh {
+            continue;
+        }
+        firsts.push(*offer)?;
     }
     Ok(firsts)
 }
