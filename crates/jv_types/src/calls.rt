@@ -17,7 +17,7 @@ use crate::ends::either;
 use crate::judged::{Checked, Wrong};
 use crate::locals::Locals;
 use crate::name_table::Table;
-use crate::receivers::{calls_helper, calls_protocol, field_named, field_of, receiver_misfit};
+use crate::receivers::{field_named, field_of, own_call, receiver_misfit};
 use crate::scope::Scope;
 use crate::signature::{Params, Signature};
 use crate::value_type::ValueType;
@@ -153,13 +153,14 @@ pub(crate) fn end_call<'a>(
     requires { AreChecked (scope_seen scope.now locals.now) (exprs_of (map expr_of args.now)) given.now }
     ensures { Judges (scope_seen scope.now locals.now) (Call place name.now (exprs_of (map expr_of args.now))) result }
 {
+    let own = own_call(scope, locals, name);
     let site = Site {
         place,
         name,
         receiver: None,
-        is_own: calls_protocol(scope, locals, name),
+        is_own: own.is_protocol,
         field: None,
-        helper: calls_helper(scope, locals, name),
+        helper: own.is_helper,
     };
     let signature = called(scope, locals, name);
     end_method(scope, locals, site, signature, args, given)
@@ -199,13 +200,14 @@ pub(crate) fn end_method_call<'a>(
 {
     match receiver {
         Receiver::Own => {
+            let own = own_call(scope, locals, name);
             let site = Site {
                 place,
                 name,
                 receiver: None,
-                is_own: calls_protocol(scope, locals, name),
+                is_own: own.is_protocol,
                 field: None,
-                helper: calls_helper(scope, locals, name),
+                helper: own.is_helper,
             };
             let signature = called_on_this(scope, locals, name);
             end_method(scope, locals, site, signature, args, given)

@@ -23,14 +23,14 @@ returns-in-Own c =
       place = c.args.place;
       name = c.args.name;
       receiver = None;
-      is_own = c.calls_protocol.result;
+      is_own = c.own_call-own.result.is_protocol;
       field =
           None;
-      helper = c.calls_helper.result;
+      helper = c.own_call-own.result.is_helper;
     } in
     let e = MethodCall c.args.place of c.args.name.now args in
     c.end_method.ensures e (subst (λ (o : Option Signature). IsSite s e site o args) (sym c.called_on_this-signature.ensures)
-    (own_site s site args of own refl c.calls_protocol.ensures refl c.calls_helper.ensures))
+    (own_site s site args of own refl c.own_call-own.ensures.protocol refl c.own_call-own.ensures.helper))
 
 -- `x.name(..)`
 pub returns-in-Named : goal.returns-in-Named
