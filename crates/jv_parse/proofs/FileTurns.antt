@@ -1,6 +1,7 @@
 -- The turns of the loops that read parameters, names, paths, imports and declarations.
-use Rattle.std.proofs.Common.{◌≡◌, List, [], ◌∷◌, Some, None, refl, ap}
-use Rattle.std.specs.Prelude.{codes}
+use Rattle.std.proofs.Common.{◌≡◌, List, [], ◌∷◌, length, true, false, Some, None, refl, ap, arith}
+use Rattle.std.specs.Prelude.{◌==◌, codes}
+use Rattle.std.proofs.lemmas.Bool.{eqb-true}
 use Rattle.mg_text.specs.Call.{Name}
 use Rattle.mg_text.specs.declared.place.Place.{Place}
 use Rattle.mg_read.specs.Reader.{all_of}
@@ -68,3 +69,11 @@ imports_start ts = record { front = []; left = Left-init (is_word (codes "import
 
 pub decls_start : (ts : List Token) → Left is_some_token decl_at [] ts (decls_at ts)
 decls_start ts = Left-init is_some_token decl_at ts
+
+pub tokens_left : (ts : List Token) → (length ts == 0) ≡ false → is_some_token ts ≡ true
+tokens_left [] e = absurd cc
+tokens_left (t ∷ ts) e = refl
+
+pub none_left : (ts : List Token) → (length ts == 0) ≡ true → is_some_token ts ≡ false
+none_left [] e = refl
+none_left (t ∷ ts) e = let none : length (t ∷ ts) ≡ 0 = eqb-true (length (t ∷ ts)) 0 e in absurd (omega arith)

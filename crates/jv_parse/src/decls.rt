@@ -11,7 +11,7 @@ ghost use Rattle.jv_reading.specs.Files.{text_at, annotation_at, is_more_names, 
 use crate::halt::Halt;
 use crate::members::{Members, members_of};
 use crate::modifiers::{Modifiers, after_mods};
-use crate::tokens::{is_named, is_sign, is_word, name_of, sign_of, word_of};
+use crate::tokens::{is_named, is_sign, is_word, name_of, past_sign, sign_of, word_of};
 use jv_tree::{Class, Decl, Enum, Sign, Token, TokenKind};
 use mg_text::{List, Text};
 use std::alloc::Global;
@@ -36,8 +36,7 @@ fn text_of(tokens: &[Token]) -> Result<(Text, &[Token]), Halt>
 fn annotation_of(tokens: &[Token]) -> Result<(Option<Text>, &[Token]), Halt>
     ensures { Gives (λ x. (x.0, x.1.now)) result (annotation_at tokens.now) }
 {
-    if is_sign(tokens, Sign::At) {
-        let (_, rest) = sign_of(tokens, Sign::At)?;
+    if let Some((_, rest)) = past_sign(tokens, Sign::At) {
         let (_, rest) = word_of(rest, "Typestate")?;
         let (_, rest) = sign_of(rest, Sign::OpenParen)?;
         let (text, rest) = text_of(rest)?;
@@ -90,8 +89,8 @@ fn next_name_of(tokens: &[Token]) -> Result<(Text, &[Token]), Halt>
 fn names_of(alloc: Global, tokens: &[Token]) -> Result<(List<Text>, &[Token]), Halt>
     ensures { Gives (λ x. (x.0.items, x.1.now)) result (names_at tokens.now) }
 {
-    let mut names = List::new(alloc);
     let (_, first, mut rest) = name_of(tokens)?;
+    let mut names = List::new(alloc);
     names.push(first)?;
     'more: while is_more_names(rest) {
         let (name, after) = next_name_of(rest)?;

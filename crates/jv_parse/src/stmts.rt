@@ -11,7 +11,7 @@ ghost use Rattle.jv_reading.specs.Stmts.{while_with, do_with, loop_with, labelle
 use crate::assigns::{ReadStmt, assign_of, cond_of, ended_of, is_assign, local_of};
 use crate::evaluations::evaluation_of;
 use crate::halt::Halt;
-use crate::tokens::{is_named, is_sign, is_word, name_of, sign_of, word_of};
+use crate::tokens::{is_named, is_sign, is_word, name_of, past_sign, past_word, sign_of, word_of};
 use jv_tree::{Group, Sign, Stmt, StmtKind, Token};
 use mg_text::{List, Place, Text};
 use std::alloc::Global;
@@ -66,8 +66,7 @@ fn is_label(tokens: &[Token]) -> bool
 fn case_of(tokens: &[Token]) -> Result<(Option<Text>, &[Token]), Halt>
     ensures { Gives (λ x. (x.0, x.1.now)) result (case_at tokens.now) }
 {
-    if is_word(tokens, "default") {
-        let (_, rest) = word_of(tokens, "default")?;
+    if let Some((_, rest)) = past_word(tokens, "default") {
         let (_, rest) = sign_of(rest, Sign::Colon)?;
         return Ok((None, rest));
     }
@@ -81,8 +80,8 @@ fn case_of(tokens: &[Token]) -> Result<(Option<Text>, &[Token]), Halt>
 fn cases_of(alloc: Global, tokens: &[Token]) -> Result<(List<Option<Text>>, &[Token]), Halt>
     ensures { Gives (λ x. (x.0.items, x.1.now)) result (cases_at tokens.now) }
 {
-    let mut labels = List::new(alloc);
     let (first, mut rest) = case_of(tokens)?;
+    let mut labels = List::new(alloc);
     labels.push(first)?;
     'more: while is_case(rest) {
         let (label, after) = case_of(rest)?;
@@ -131,8 +130,7 @@ fn return_of(alloc: Global, tokens: &[Token], levels: u8) -> ReadStmt<'_>
     ensures { Gives (λ x. (stmt_of x.0, x.1.now)) result (return_at levels tokens.now) }
 {
     let (place, rest) = word_of(tokens, "return")?;
-    if is_sign(rest, Sign::Semicolon) {
-        let (_, rest) = sign_of(rest, Sign::Semicolon)?;
+    if let Some((_, rest)) = past_sign(rest, Sign::Semicolon) {
         let kind = StmtKind::Return(None);
         return Ok((Stmt { place, kind }, rest));
     }
@@ -237,8 +235,7 @@ fn if_of(alloc: Global, tokens: &[Token], levels: u8) -> ReadStmt<'_>
     let (place, rest) = word_of(tokens, "if")?;
     let (test, rest) = cond_of(alloc, rest, levels)?;
     let (body, rest) = inner_of(alloc, rest, levels)?;
-    if is_word(rest, "else") {
-        let (_, rest) = word_of(rest, "else")?;
+    if let Some((_, rest)) = past_word(rest, "else") {
         let (other, rest) = inner_of(alloc, rest, levels)?;
         let kind = StmtKind::If(Box::into_inner(test), body, Some(other));
         return Ok((Stmt { place, kind }, rest));

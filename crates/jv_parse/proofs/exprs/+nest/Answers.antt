@@ -71,12 +71,12 @@ arguments_of-returns-in_err-rest-clause-read t c =
     rw (p.1, p.2) (arguments_unopened c.in_err-rest.field-0.0 c.args.room c.args.levels c.args.tokens.now (omega arith)
     c.in_err-rest.ensures)
 
-pub arguments_of-returns-then-is_sign-clause-read : goal.arguments_of-returns-then-is_sign-clause-read
-arguments_of-returns-then-is_sign-clause-read t c =
+pub arguments_of-returns-in-Some-clause-read : goal.arguments_of-returns-in-Some-clause-read
+arguments_of-returns-in-Some-clause-read t c =
     rw c.new.ensures
-    (arguments_empty c.args.room c.args.levels c.args.tokens.now c.in_ok-rest.field-0-0 c.in_ok-rest-2.field-0-0 c.in_ok-rest.rest.now
-    c.in_ok-rest-2.rest.now (omega arith)
-    c.in_ok-rest.ensures (sym c.is_sign.ensures ∙ c.if-is_sign.true) c.in_ok-rest-2.ensures)
+    (arguments_empty c.args.room c.args.levels c.args.tokens.now c.in_ok-rest.field-0-0 c.in-Some.field-0-0 c.in_ok-rest.rest.now
+    c.in-Some.rest.now (omega arith)
+    c.in_ok-rest.ensures (sym c.in-Some.ensures.comes) (sym c.in-Some.ensures.it))
 
 pub arguments_of-returns-in_err-args-clause-read : goal.arguments_of-returns-in_err-args-clause-read
 arguments_of-returns-in_err-args-clause-read t c =
@@ -84,21 +84,21 @@ arguments_of-returns-in_err-args-clause-read t c =
     rw (p.1, p.2)
     (arguments_unread c.in_err-args.field-0.0 c.args.room c.args.levels c.args.tokens.now c.in_ok-rest.field-0-0 c.in_ok-rest.rest.now
     (omega arith)
-    c.in_ok-rest.ensures (sym c.is_sign.ensures ∙ c.if-is_sign.false) c.in_err-args.ensures.read)
+    c.in_ok-rest.ensures (sym c.in_default.ensures.comes) c.in_err-args.ensures.read)
 
-pub arguments_of-returns-in_err-rest-3-clause-read : goal.arguments_of-returns-in_err-rest-3-clause-read
-arguments_of-returns-in_err-rest-3-clause-read t c =
-    let p = err_from_is_err_and c.from_residual-in_err-rest-3.result c.from_residual-in_err-rest-3.ensures.1 in
+pub arguments_of-returns-in_err-rest-2-clause-read : goal.arguments_of-returns-in_err-rest-2-clause-read
+arguments_of-returns-in_err-rest-2-clause-read t c =
+    let p = err_from_is_err_and c.from_residual-in_err-rest-2.result c.from_residual-in_err-rest-2.ensures.1 in
     rw (p.1, p.2)
-    (arguments_unclosed c.in_err-rest-3.field-0.0 c.args.room c.args.levels c.args.tokens.now c.in_ok-rest.field-0-0 c.in_ok-rest.rest.now
+    (arguments_unclosed c.in_err-rest-2.field-0.0 c.args.room c.args.levels c.args.tokens.now c.in_ok-rest.field-0-0 c.in_ok-rest.rest.now
     c.in_ok-args.rest.now (map expr_of c.in_ok-args.args.items) (omega arith)
-    c.in_ok-rest.ensures (sym c.is_sign.ensures ∙ c.if-is_sign.false) c.in_ok-args.ensures.read c.in_err-rest-3.ensures)
+    c.in_ok-rest.ensures (sym c.in_default.ensures.comes) c.in_ok-args.ensures.read c.in_err-rest-2.ensures)
 
 pub arguments_of-returns-clause-read : goal.arguments_of-returns-clause-read
 arguments_of-returns-clause-read t c =
-    arguments_done c.args.room c.args.levels c.args.tokens.now c.in_ok-rest.field-0-0 c.in_ok-rest-3.field-0-0 c.in_ok-rest.rest.now
-    c.in_ok-args.rest.now c.in_ok-rest-3.rest.now (map expr_of c.in_ok-args.args.items) (omega arith)
-    c.in_ok-rest.ensures (sym c.is_sign.ensures ∙ c.if-is_sign.false) c.in_ok-args.ensures.read c.in_ok-rest-3.ensures
+    arguments_done c.args.room c.args.levels c.args.tokens.now c.in_ok-rest.field-0-0 c.in_ok-rest-2.field-0-0 c.in_ok-rest.rest.now
+    c.in_ok-args.rest.now c.in_ok-rest-2.rest.now (map expr_of c.in_ok-args.args.items) (omega arith)
+    c.in_ok-rest.ensures (sym c.in_default.ensures.comes) c.in_ok-args.ensures.read c.in_ok-rest-2.ensures
 
 -- ---- parentheses
 
