@@ -4,9 +4,8 @@
 ghost use Rattle.std.specs.Prelude.{◌≡◌, ◌≤◌, Some, IfOk, option_map};
 ghost use Rattle.jv_tree.specs.Sugar.{compound, counter, changed};
 ghost use Rattle.jv_tree.specs.Depth.{depth};
-ghost use Rattle.jv_tree.specs.View.{expr_of, stmt_of, stmt_kind_of};
+ghost use Rattle.jv_tree.specs.View.{expr_of, stmt_of};
 ghost use Rattle.jv_parse.specs.inner.Changes.{plain_at, counted_at, compounded_at};
-ghost use Rattle.jv_parse.specs.inner.Found.{found};
 ghost use Rattle.jv_parse.specs.inner.Gives.{Gives};
 ghost use Rattle.jv_reading.specs.Stmts.{cond_at, ended_at, after_final, type_at, local_at, target_at, compound_at, counter_at};
 ghost use Rattle.jv_reading.specs.Stmts.{is_compound, is_counter, is_change, is_name_change, is_field_change, is_assign, assigned};
@@ -21,19 +20,10 @@ use std::alloc::Global;
 use ts_tree::TypeName;
 
 // A statement, and the tokens after it.
-pub(crate) type ReadStmt<'a> = Result<(Box<Stmt>, &'a [Token]), Halt>;
+pub(crate) type ReadStmt<'a> = Result<(Stmt, &'a [Token]), Halt>;
 
 // How many parentheses may be open at once.
 pub(crate) const MOST_OPEN: u16 = 400;
-
-// A statement of this kind at a place, in front of tokens that are left.
-#[tactic(auto, using(jv_tree::proofs::ViewLaws::views))]
-pub(crate) fn made(alloc: Global, place: Place, kind: StmtKind, rest: &[Token]) -> ReadStmt<'_>
-    ensures { Gives (λ x. (stmt_of x.0.value, x.1.now)) result (found (stmt_kind_of kind place) rest.now) }
-{
-    let stmt = Box::new(alloc, Stmt { place, kind })?;
-    Ok((stmt, rest))
-}
 
 // "(" expr ")"
 #[tactic(auto, unfolding(jv_reading::specs::Stmts::cond_at))]
@@ -103,14 +93,14 @@ pub(crate) fn type_of(tokens: &[Token]) -> Result<(TypeName, &[Token]), Halt>
 // [ "final" ] type name "=" expr ";"
 #[tactic(auto, using(jv_tree::proofs::ViewLaws::views), unfolding(jv_reading::specs::Stmts::local_at, jv_reading::specs::Stmts::declared_at))]
 pub(crate) fn local_of(alloc: Global, tokens: &[Token], levels: u8) -> ReadStmt<'_>
-    ensures { Gives (λ x. (stmt_of x.0.value, x.1.now)) result (local_at levels tokens.now) }
+    ensures { Gives (λ x. (stmt_of x.0, x.1.now)) result (local_at levels tokens.now) }
 {
     let (ty, rest) = type_of(after_final(tokens))?;
     let (place, name, rest) = name_of(rest)?;
     let (_, rest) = sign_of(rest, Sign::Assign)?;
     let (value, _, rest) = ended_of(alloc, rest, levels)?;
     let kind = StmtKind::Local(ty, name, Box::into_inner(value));
-    made(alloc, place, kind, rest)
+    Ok((Stmt { place, kind }, rest))
 }
 
 // The operator of `t op= e`.
@@ -241,7 +231,6 @@ fn target_of(alloc: Global, tokens: &[Token]) -> Read<'_>
 // An assignment, where its parts are at most so deep.
 #[tactic(auto, using(jv_tree::proofs::ViewLaws::views))]
 fn assigned(
-    alloc: Global,
     place: Place,
     target: (Box<Expr>, u8),
     value: (Box<Expr>, u8),
@@ -250,14 +239,13 @@ fn assigned(
 ) -> ReadStmt<'_>
     requires target_deep { target.1 ≡ depth (expr_of target.0.value) }
     requires value_deep { value.1 ≡ depth (expr_of value.0.value) }
-    ensures { Gives (λ x. (stmt_of x.0.value, x.1.now)) result
-        (assigned levels place (expr_of target.0.value) (expr_of value.0.value) rest.now) }
+    ensures { Gives (λ x. (stmt_of x.0, x.1.now)) result (assigned levels place (expr_of target.0.value) (expr_of value.0.value) rest.now) }
 {
     if target.1 > levels || value.1 > levels {
         return Err(Halt::Syntax { left: rest.len() });
     }
     let kind = StmtKind::Assign(Box::into_inner(target.0), Box::into_inner(value.0));
-    made(alloc, place, kind, rest)
+    Ok((Stmt { place, kind }, rest))
 }
 
 // A target that an operator changes. It is read once more, as the operator's operand.
@@ -275,7 +263,7 @@ fn changed<'a>(
     requires target_deep { target.1 ≡ depth (expr_of target.0.value) }
     requires read { option_map (λ x. x.0) (target_at from.now) ≡ Some (expr_of target.0.value) }
     requires value_deep { value.1 ≡ depth (expr_of value.0.value) }
-    ensures { Gives (λ x. (stmt_of x.0.value, x.1.now)) result
+    ensures { Gives (λ x. (stmt_of x.0, x.1.now)) result
         (assigned levels place (expr_of target.0.value) (changed op (expr_of target.0.value) (expr_of value.0.value)) rest.now) }
 {
     let parts = target.1.max(value.1);
@@ -283,23 +271,23 @@ fn changed<'a>(
         return Err(Halt::Syntax { left: rest.len() });
     }
     let (operand, _, _) = target_of(alloc, from)?;
-    let sum = Expr {
+    let made = Expr {
         place: target.0.place,
         kind: ExprKind::Binary(op, operand, value.0),
     };
-    let sum = Box::new(alloc, sum)?;
-    assigned(alloc, place, target, (sum, parts + 1), rest, levels)
+    let made = Box::new(alloc, made)?;
+    assigned(place, target, (made, parts + 1), rest, levels)
 }
 
 // expr ";" behind a target and "=".
 #[tactic(auto, using(jv_tree::proofs::ViewLaws::views))]
 fn plain_of(alloc: Global, target: (Box<Expr>, u8), tokens: &[Token], levels: u8) -> ReadStmt<'_>
     requires { target.1 ≡ depth (expr_of target.0.value) }
-    ensures { Gives (λ x. (stmt_of x.0.value, x.1.now)) result (plain_at levels (expr_of target.0.value) tokens.now) }
+    ensures { Gives (λ x. (stmt_of x.0, x.1.now)) result (plain_at levels (expr_of target.0.value) tokens.now) }
 {
     let place = target.0.place;
     let (value, deep, rest) = ended_of(alloc, tokens, levels)?;
-    assigned(alloc, place, target, (value, deep), rest, levels)
+    assigned(place, target, (value, deep), rest, levels)
 }
 
 // ";" behind a target and `++` or `--`, or behind both in the other order.
@@ -315,7 +303,7 @@ fn counted_of<'a>(
 ) -> ReadStmt<'a>
     requires target_deep { target.1 ≡ depth (expr_of target.0.value) }
     requires read { option_map (λ x. x.0) (target_at from.now) ≡ Some (expr_of target.0.value) }
-    ensures { Gives (λ x. (stmt_of x.0.value, x.1.now)) result (counted_at levels place op (expr_of target.0.value) tokens.now) }
+    ensures { Gives (λ x. (stmt_of x.0, x.1.now)) result (counted_at levels place op (expr_of target.0.value) tokens.now) }
 {
     let (_, rest) = sign_of(tokens, Sign::Semicolon)?;
     let one = Expr {
@@ -338,7 +326,7 @@ fn compounded_of<'a>(
 ) -> ReadStmt<'a>
     requires target_deep { target.1 ≡ depth (expr_of target.0.value) }
     requires read { option_map (λ x. x.0) (target_at from.now) ≡ Some (expr_of target.0.value) }
-    ensures { Gives (λ x. (stmt_of x.0.value, x.1.now)) result (compounded_at levels op (expr_of target.0.value) tokens.now) }
+    ensures { Gives (λ x. (stmt_of x.0, x.1.now)) result (compounded_at levels op (expr_of target.0.value) tokens.now) }
 {
     let place = target.0.place;
     let (value, deep, rest) = ended_of(alloc, tokens, levels)?;
@@ -356,7 +344,7 @@ fn change_of<'a>(
 ) -> ReadStmt<'a>
     requires target_deep { target.1 ≡ depth (expr_of target.0.value) }
     requires read { option_map (λ x. x.0) (target_at from.now) ≡ Some (expr_of target.0.value) }
-    ensures { Gives (λ x. (stmt_of x.0.value, x.1.now)) result (change_at levels (expr_of target.0.value) tokens.now) }
+    ensures { Gives (λ x. (stmt_of x.0, x.1.now)) result (change_at levels (expr_of target.0.value) tokens.now) }
 {
     if let Some((_, rest)) = past_sign(tokens, Sign::Assign) {
         return plain_of(alloc, target, rest, levels);
@@ -374,7 +362,7 @@ fn change_of<'a>(
 // An assignment. Its target is read twice where an operator changes it.
 #[tactic(auto, unfolding(jv_reading::specs::Stmts::assign_at))]
 pub(crate) fn assign_of(alloc: Global, tokens: &[Token], levels: u8) -> ReadStmt<'_>
-    ensures { Gives (λ x. (stmt_of x.0.value, x.1.now)) result (assign_at levels tokens.now) }
+    ensures { Gives (λ x. (stmt_of x.0, x.1.now)) result (assign_at levels tokens.now) }
 {
     if let Some((place, op, rest)) = counter_of(tokens) {
         let (target, deep, after) = target_of(alloc, rest)?;

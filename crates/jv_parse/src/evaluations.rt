@@ -1,21 +1,20 @@
 //! Reads expressions as statements: calls, `new`, and what is printed.
 
-ghost use Rattle.std.specs.Prelude.{◌≡◌, ◌≤◌, ◌+◌, ◌&&◌, codes, leb, length, map, max, nat_eq, suc};
+ghost use Rattle.std.specs.Prelude.{◌≡◌, ◌≤◌, ◌+◌, ◌&&◌, Some, codes, leb, length, map, max, nat_eq, option_map, suc};
 ghost use Rattle.std.specs.Str.{bytes_eq};
 ghost use Rattle.jv_tree.specs.Sugar.{is_out};
 ghost use Rattle.jv_tree.specs.Depth.{depth};
 ghost use Rattle.jv_tree.specs.Source.{MethodCall};
 ghost use Rattle.jv_tree.specs.View.{expr_of, exprs_of, stmt_of};
-ghost use Rattle.jv_parse.specs.inner.Found.{found_if};
 ghost use Rattle.jv_parse.specs.inner.Gives.{Gives};
 ghost use Rattle.jv_reading.specs.Stmts.{evaluated, evaluation_at};
 ghost use Rattle.jv_parse.specs.inner.Evaluations.{is_variable, is_leaf, eval_if, print_if};
 
-use crate::assigns::{MOST_OPEN, ReadStmt, made};
+use crate::assigns::{MOST_OPEN, ReadStmt};
 use crate::exprs::post_of;
 use crate::halt::Halt;
 use crate::tokens::sign_of;
-use jv_tree::{Expr, ExprKind, Sign, StmtKind, Token};
+use jv_tree::{Expr, ExprKind, Sign, Stmt, StmtKind, Token};
 use mg_text::{List, Place, Text};
 use std::alloc::Global;
 
@@ -89,23 +88,15 @@ fn is_leaf(expr: &Expr) -> bool
 
 // A statement that evaluates a call, where it is at most so deep.
 #[tactic(auto, using(crate::proofs::Evaluating::kinds))]
-fn eval(
-    alloc: Global,
-    place: Place,
-    expr: Expr,
-    deep: u8,
-    levels: u8,
-    rest: &[Token],
-) -> ReadStmt<'_>
+fn eval(place: Place, expr: Expr, deep: u8, levels: u8) -> Option<Stmt>
     requires { deep ≡ depth (expr_of expr) }
-    ensures { Gives (λ x. (stmt_of x.0.value, x.1.now)) result (found_if (eval_if levels place (expr_of expr)) rest.now) }
+    ensures { option_map stmt_of result ≡ eval_if levels place (expr_of expr) }
 {
     if deep > levels {
-        return Err(Halt::Syntax {
-            left: rest.len() + 1,
-        });
+        return None;
     }
-    made(alloc, place, StmtKind::Eval(expr), rest)
+    let kind = StmtKind::Eval(expr);
+    Some(Stmt { place, kind })
 }
 
 // Whether what is printed is at most so deep. Its call is one deeper, or three deep where it holds
@@ -123,23 +114,15 @@ fn is_within(value: &Expr, call: u8, levels: u8) -> bool
 
 // A statement that prints, where it is at most so deep.
 #[tactic(auto, using(crate::proofs::Evaluating::printing))]
-fn print(
-    alloc: Global,
-    place: Place,
-    value: Expr,
-    call: u8,
-    levels: u8,
-    rest: &[Token],
-) -> ReadStmt<'_>
+fn print(place: Place, value: Expr, call: u8, levels: u8) -> Option<Stmt>
     requires { call ≡ suc (max 2 (max (depth (expr_of value)) 0)) }
-    ensures { Gives (λ x. (stmt_of x.0.value, x.1.now)) result (found_if (print_if levels place (expr_of value)) rest.now) }
+    ensures { option_map stmt_of result ≡ print_if levels place (expr_of value) }
 {
     if !is_within(&value, call, levels) {
-        return Err(Halt::Syntax {
-            left: rest.len() + 1,
-        });
+        return None;
     }
-    made(alloc, place, StmtKind::Print(value), rest)
+    let kind = StmtKind::Print(value);
+    Some(Stmt { place, kind })
 }
 
 // Whether a call of this method prints one thing.
@@ -152,7 +135,6 @@ fn prints(receiver: &Expr, name: &str, args: &[Expr]) -> bool
 // A method's call as a statement.
 #[tactic(auto, using(crate::proofs::Evaluating::kinds))]
 fn method_call(
-    alloc: Global,
     place: Place,
     at: Place,
     receiver: Box<Expr>,
@@ -160,50 +142,38 @@ fn method_call(
     args: List<Expr>,
     deep: u8,
     levels: u8,
-    rest: &[Token],
-) -> ReadStmt<'_>
+) -> Option<Stmt>
     requires { deep ≡ depth (MethodCall at (expr_of receiver.value) name (exprs_of (map expr_of args.items))) }
-    ensures { Gives (λ x. (stmt_of x.0.value, x.1.now)) result
-        (found_if (evaluated levels place (MethodCall at (expr_of receiver.value) name (exprs_of (map expr_of args.items)))) rest.now) }
+    ensures { option_map stmt_of result ≡ evaluated levels place
+        (MethodCall at (expr_of receiver.value) name (exprs_of (map expr_of args.items))) }
 {
     if prints(&receiver, name.as_str(), args.as_slice()) {
         let mut items = args.into_vec();
-        return match items.pop() {
-            Some(value) => print(alloc, place, value, deep, levels, rest),
-            None => Err(Halt::Syntax {
-                left: rest.len() + 1,
-            }),
-        };
+        let value = items.pop()?;
+        return print(place, value, deep, levels);
     }
     let kind = ExprKind::MethodCall(receiver, name, args);
-    eval(alloc, place, Expr { place: at, kind }, deep, levels, rest)
+    eval(place, Expr { place: at, kind }, deep, levels)
 }
 
-// The statement of an expression, which begins at a place.
+// What the statement of an expression is, which begins at a place.
 #[tactic(auto, using(crate::proofs::Evaluating::kinds))]
-fn evaluated(
-    alloc: Global,
-    place: Place,
-    expr: Box<Expr>,
-    deep: u8,
-    levels: u8,
-    rest: &[Token],
-) -> ReadStmt<'_>
+fn evaluated(place: Place, expr: Box<Expr>, deep: u8, levels: u8) -> Option<Stmt>
     requires { deep ≡ depth (expr_of expr.value) }
-    ensures { Gives (λ x. (stmt_of x.0.value, x.1.now)) result (found_if (evaluated levels place (expr_of expr.value)) rest.now) }
+    ensures { option_map stmt_of result ≡ evaluated levels place (expr_of expr.value) }
 {
     let Expr { place: at, kind } = Box::into_inner(expr);
     match kind {
         ExprKind::MethodCall(receiver, name, args) => {
-            method_call(alloc, place, at, receiver, name, args, deep, levels, rest)
+            method_call(place, at, receiver, name, args, deep, levels)
         }
         ExprKind::Call(name, args) => {
             let kind = ExprKind::Call(name, args);
-            eval(alloc, place, Expr { place: at, kind }, deep, levels, rest)
+            eval(place, Expr { place: at, kind }, deep, levels)
         }
         ExprKind::New(name) => {
             let kind = ExprKind::New(name);
-            eval(alloc, place, Expr { place: at, kind }, deep, levels, rest)
+            eval(place, Expr { place: at, kind }, deep, levels)
         }
         ExprKind::Int(_)
         | ExprKind::Truth(_)
@@ -214,9 +184,7 @@ fn evaluated(
         | ExprKind::Member(_, _)
         | ExprKind::Neg(_)
         | ExprKind::Not(_)
-        | ExprKind::Binary(_, _, _) => Err(Halt::Syntax {
-            left: rest.len() + 1,
-        }),
+        | ExprKind::Binary(_, _, _) => None,
     }
 }
 
@@ -224,13 +192,16 @@ fn evaluated(
 #[tactic(auto, unfolding(jv_reading::specs::Stmts::evaluation_at))]
 pub(crate) fn evaluation_of(alloc: Global, tokens: &[Token], levels: u8) -> ReadStmt<'_>
     requires { levels ≤ 200 }
-    ensures { Gives (λ x. (stmt_of x.0.value, x.1.now)) result (evaluation_at levels tokens.now) }
+    ensures { Gives (λ x. (stmt_of x.0, x.1.now)) result (evaluation_at levels tokens.now) }
 {
     let Some((first, _)) = tokens.split_first() else {
         return Err(Halt::Syntax { left: 0 });
     };
     let place = first.place;
     let (expr, deep, rest) = post_of(alloc, tokens, MOST_OPEN, levels + 2)?;
-    let (_, rest) = sign_of(rest, Sign::Semicolon)?;
-    evaluated(alloc, place, expr, deep, levels, rest)
+    let (_, after) = sign_of(rest, Sign::Semicolon)?;
+    match evaluated(place, expr, deep, levels) {
+        Some(stmt) => Ok((stmt, after)),
+        None => Err(Halt::Syntax { left: rest.len() }),
+    }
 }

@@ -8,7 +8,7 @@ ghost use Rattle.jv_reading.specs.Stmts.{is_typed, is_decl, is_case, goes_on, ca
 ghost use Rattle.jv_reading.specs.Stmts.{empty_at, is_label, loop_place, loop_label, stmt_at, item_with, items_with, block_with, if_with};
 ghost use Rattle.jv_reading.specs.Stmts.{while_with, do_with, loop_with, labelled_with, group_with, groups_with, switch_with, simple_with};
 
-use crate::assigns::{ReadStmt, assign_of, cond_of, ended_of, is_assign, local_of, made};
+use crate::assigns::{ReadStmt, assign_of, cond_of, ended_of, is_assign, local_of};
 use crate::evaluations::evaluation_of;
 use crate::halt::Halt;
 use crate::tokens::{is_named, is_sign, is_word, name_of, past_sign, past_word, sign_of, word_of};
@@ -106,59 +106,59 @@ fn jump_of(tokens: &[Token]) -> Result<(Option<Text>, &[Token]), Halt>
 }
 
 #[tactic(auto, using(jv_tree::proofs::ViewLaws::views), unfolding(jv_reading::specs::Stmts::break_at))]
-fn break_of(alloc: Global, tokens: &[Token]) -> ReadStmt<'_>
-    ensures { Gives (λ x. (stmt_of x.0.value, x.1.now)) result (break_at tokens.now) }
+fn break_of(tokens: &[Token]) -> ReadStmt<'_>
+    ensures { Gives (λ x. (stmt_of x.0, x.1.now)) result (break_at tokens.now) }
 {
     let (place, rest) = word_of(tokens, "break")?;
     let (label, rest) = jump_of(rest)?;
     let kind = StmtKind::Break(label);
-    made(alloc, place, kind, rest)
+    Ok((Stmt { place, kind }, rest))
 }
 
 #[tactic(auto, using(jv_tree::proofs::ViewLaws::views), unfolding(jv_reading::specs::Stmts::continue_at))]
-fn continue_of(alloc: Global, tokens: &[Token]) -> ReadStmt<'_>
-    ensures { Gives (λ x. (stmt_of x.0.value, x.1.now)) result (continue_at tokens.now) }
+fn continue_of(tokens: &[Token]) -> ReadStmt<'_>
+    ensures { Gives (λ x. (stmt_of x.0, x.1.now)) result (continue_at tokens.now) }
 {
     let (place, rest) = word_of(tokens, "continue")?;
     let (label, rest) = jump_of(rest)?;
     let kind = StmtKind::Continue(label);
-    made(alloc, place, kind, rest)
+    Ok((Stmt { place, kind }, rest))
 }
 
 #[tactic(auto, using(jv_tree::proofs::ViewLaws::views), unfolding(jv_reading::specs::Stmts::return_at))]
 fn return_of(alloc: Global, tokens: &[Token], levels: u8) -> ReadStmt<'_>
-    ensures { Gives (λ x. (stmt_of x.0.value, x.1.now)) result (return_at levels tokens.now) }
+    ensures { Gives (λ x. (stmt_of x.0, x.1.now)) result (return_at levels tokens.now) }
 {
     let (place, rest) = word_of(tokens, "return")?;
     if let Some((_, rest)) = past_sign(rest, Sign::Semicolon) {
         let kind = StmtKind::Return(None);
-        return made(alloc, place, kind, rest);
+        return Ok((Stmt { place, kind }, rest));
     }
     let (value, _, rest) = ended_of(alloc, rest, levels)?;
     let kind = StmtKind::Return(Some(Box::into_inner(value)));
-    made(alloc, place, kind, rest)
+    Ok((Stmt { place, kind }, rest))
 }
 
 #[tactic(auto, using(jv_tree::proofs::ViewLaws::views), unfolding(jv_reading::specs::Stmts::empty_at))]
-fn empty_of(alloc: Global, tokens: &[Token]) -> ReadStmt<'_>
-    ensures { Gives (λ x. (stmt_of x.0.value, x.1.now)) result (empty_at tokens.now) }
+fn empty_of(tokens: &[Token]) -> ReadStmt<'_>
+    ensures { Gives (λ x. (stmt_of x.0, x.1.now)) result (empty_at tokens.now) }
 {
     let (place, rest) = sign_of(tokens, Sign::Semicolon)?;
     let kind = StmtKind::Empty;
-    made(alloc, place, kind, rest)
+    Ok((Stmt { place, kind }, rest))
 }
 
 // A statement that holds no other one.
 #[tactic(auto, unfolding(jv_reading::specs::Stmts::simple_with))]
 fn simple_of(alloc: Global, tokens: &[Token], levels: u8) -> ReadStmt<'_>
     requires { levels ≤ 200 }
-    ensures { Gives (λ x. (stmt_of x.0.value, x.1.now)) result (simple_with levels (stmt_at levels) tokens.now) }
+    ensures { Gives (λ x. (stmt_of x.0, x.1.now)) result (simple_with levels (stmt_at levels) tokens.now) }
 {
     if is_word(tokens, "break") {
-        return break_of(alloc, tokens);
+        return break_of(tokens);
     }
     if is_word(tokens, "continue") {
-        return continue_of(alloc, tokens);
+        return continue_of(tokens);
     }
     if is_word(tokens, "return") {
         return return_of(alloc, tokens, levels);
@@ -174,7 +174,7 @@ fn simple_of(alloc: Global, tokens: &[Token], levels: u8) -> ReadStmt<'_>
 #[tactic(auto, unfolding(jv_reading::specs::Stmts::item_with))]
 fn item_of(alloc: Global, tokens: &[Token], levels: u8) -> ReadStmt<'_>
     requires { levels ≤ 200 }
-    ensures { Gives (λ x. (stmt_of x.0.value, x.1.now)) result (item_with levels (stmt_at levels) tokens.now) }
+    ensures { Gives (λ x. (stmt_of x.0, x.1.now)) result (item_with levels (stmt_at levels) tokens.now) }
 {
     if is_decl(tokens) {
         return local_of(alloc, tokens, levels.saturating_sub(1));
@@ -196,7 +196,7 @@ pub(crate) fn items_of(
     let mut rest = tokens;
     'items: while goes_on(rest) {
         let (stmt, after) = item_of(alloc, rest, levels)?;
-        stmts.push(Box::into_inner(stmt))?;
+        stmts.push(stmt)?;
         rest = after;
     }
     Ok((stmts, rest))
@@ -206,31 +206,42 @@ pub(crate) fn items_of(
 #[tactic(auto, using(jv_tree::proofs::ViewLaws::views), unfolding(jv_reading::specs::Stmts::block_with))]
 fn block_of(alloc: Global, tokens: &[Token], levels: u8) -> ReadStmt<'_>
     requires { levels ≤ 200 }
-    ensures { Gives (λ x. (stmt_of x.0.value, x.1.now)) result (block_with levels (stmt_at levels) tokens.now) }
+    ensures { Gives (λ x. (stmt_of x.0, x.1.now)) result (block_with levels (stmt_at levels) tokens.now) }
 {
     let (place, rest) = sign_of(tokens, Sign::OpenBrace)?;
     let (body, rest) = items_of(alloc, rest, levels)?;
     let (end, rest) = sign_of(rest, Sign::CloseBrace)?;
     let kind = StmtKind::Block(body, end);
-    made(alloc, place, kind, rest)
+    Ok((Stmt { place, kind }, rest))
+}
+
+// A statement that stands in another one.
+#[cycle(nest_stmts)]
+fn inner_of(alloc: Global, tokens: &[Token], levels: u8) -> Result<(Box<Stmt>, &[Token]), Halt>
+    requires { levels ≤ 200 }
+    ensures { Gives (λ x. (stmt_of x.0.value, x.1.now)) result (stmt_at levels tokens.now) }
+{
+    let (stmt, rest) = stmt_of(alloc, tokens, levels)?;
+    let stmt = Box::new(alloc, stmt)?;
+    Ok((stmt, rest))
 }
 
 #[cycle(nest_stmts)]
 #[tactic(auto, using(jv_tree::proofs::ViewLaws::views), unfolding(jv_reading::specs::Stmts::if_with, jv_reading::specs::Stmts::else_with))]
 fn if_of(alloc: Global, tokens: &[Token], levels: u8) -> ReadStmt<'_>
     requires { levels ≤ 200 }
-    ensures { Gives (λ x. (stmt_of x.0.value, x.1.now)) result (if_with levels (stmt_at levels) tokens.now) }
+    ensures { Gives (λ x. (stmt_of x.0, x.1.now)) result (if_with levels (stmt_at levels) tokens.now) }
 {
     let (place, rest) = word_of(tokens, "if")?;
     let (test, rest) = cond_of(alloc, rest, levels)?;
-    let (body, rest) = stmt_of(alloc, rest, levels)?;
+    let (body, rest) = inner_of(alloc, rest, levels)?;
     if let Some((_, rest)) = past_word(rest, "else") {
-        let (other, rest) = stmt_of(alloc, rest, levels)?;
+        let (other, rest) = inner_of(alloc, rest, levels)?;
         let kind = StmtKind::If(Box::into_inner(test), body, Some(other));
-        return made(alloc, place, kind, rest);
+        return Ok((Stmt { place, kind }, rest));
     }
     let kind = StmtKind::If(Box::into_inner(test), body, None);
-    made(alloc, place, kind, rest)
+    Ok((Stmt { place, kind }, rest))
 }
 
 // Where a loop with this first token begins, and its label.
@@ -254,30 +265,30 @@ fn while_of(
     levels: u8,
 ) -> ReadStmt<'_>
     requires { levels ≤ 200 }
-    ensures { Gives (λ x. (stmt_of x.0.value, x.1.now)) result (while_with levels (stmt_at levels) label tokens.now) }
+    ensures { Gives (λ x. (stmt_of x.0, x.1.now)) result (while_with levels (stmt_at levels) label tokens.now) }
 {
     let (start, rest) = word_of(tokens, "while")?;
     let (test, rest) = cond_of(alloc, rest, levels)?;
-    let (body, rest) = stmt_of(alloc, rest, levels)?;
+    let (body, rest) = inner_of(alloc, rest, levels)?;
     let (place, name) = labelled(start, label);
     let kind = StmtKind::While(name, Box::into_inner(test), body);
-    made(alloc, place, kind, rest)
+    Ok((Stmt { place, kind }, rest))
 }
 
 #[cycle(nest_stmts)]
 #[tactic(auto, using(jv_tree::proofs::ViewLaws::views), unfolding(jv_reading::specs::Stmts::do_with))]
 fn do_of(alloc: Global, tokens: &[Token], label: Option<(Place, Text)>, levels: u8) -> ReadStmt<'_>
     requires { levels ≤ 200 }
-    ensures { Gives (λ x. (stmt_of x.0.value, x.1.now)) result (do_with levels (stmt_at levels) label tokens.now) }
+    ensures { Gives (λ x. (stmt_of x.0, x.1.now)) result (do_with levels (stmt_at levels) label tokens.now) }
 {
     let (start, rest) = word_of(tokens, "do")?;
-    let (body, rest) = stmt_of(alloc, rest, levels)?;
+    let (body, rest) = inner_of(alloc, rest, levels)?;
     let (_, rest) = word_of(rest, "while")?;
     let (test, rest) = cond_of(alloc, rest, levels)?;
     let (_, rest) = sign_of(rest, Sign::Semicolon)?;
     let (place, name) = labelled(start, label);
     let kind = StmtKind::Do(name, body, Box::into_inner(test));
-    made(alloc, place, kind, rest)
+    Ok((Stmt { place, kind }, rest))
 }
 
 #[cycle(nest_stmts)]
@@ -289,7 +300,7 @@ fn loop_of(
     levels: u8,
 ) -> ReadStmt<'_>
     requires { levels ≤ 200 }
-    ensures { Gives (λ x. (stmt_of x.0.value, x.1.now)) result (loop_with levels (stmt_at levels) label tokens.now) }
+    ensures { Gives (λ x. (stmt_of x.0, x.1.now)) result (loop_with levels (stmt_at levels) label tokens.now) }
 {
     if is_word(tokens, "while") {
         return while_of(alloc, tokens, label, levels);
@@ -332,7 +343,7 @@ fn groups_of(alloc: Global, tokens: &[Token], levels: u8) -> Result<(List<Group>
 #[tactic(auto, using(jv_tree::proofs::ViewLaws::views), unfolding(jv_reading::specs::Stmts::switch_with))]
 fn switch_of(alloc: Global, tokens: &[Token], levels: u8) -> ReadStmt<'_>
     requires { levels ≤ 200 }
-    ensures { Gives (λ x. (stmt_of x.0.value, x.1.now)) result (switch_with levels (stmt_at levels) tokens.now) }
+    ensures { Gives (λ x. (stmt_of x.0, x.1.now)) result (switch_with levels (stmt_at levels) tokens.now) }
 {
     let (place, rest) = word_of(tokens, "switch")?;
     let (value, rest) = cond_of(alloc, rest, levels)?;
@@ -340,7 +351,7 @@ fn switch_of(alloc: Global, tokens: &[Token], levels: u8) -> ReadStmt<'_>
     let (groups, rest) = groups_of(alloc, rest, levels)?;
     let (end, rest) = sign_of(rest, Sign::CloseBrace)?;
     let kind = StmtKind::Switch(Box::into_inner(value), groups, end);
-    made(alloc, place, kind, rest)
+    Ok((Stmt { place, kind }, rest))
 }
 
 // A statement that is at most so deep.
@@ -348,7 +359,7 @@ fn switch_of(alloc: Global, tokens: &[Token], levels: u8) -> ReadStmt<'_>
 #[tactic(auto, unfolding(jv_reading::specs::Stmts::stmt_at, jv_reading::specs::Stmts::stmt_with, jv_reading::specs::Stmts::labelled_with))]
 fn stmt_of(alloc: Global, tokens: &[Token], levels: u8) -> ReadStmt<'_>
     requires { levels ≤ 200 }
-    ensures { Gives (λ x. (stmt_of x.0.value, x.1.now)) result (stmt_at levels tokens.now) }
+    ensures { Gives (λ x. (stmt_of x.0, x.1.now)) result (stmt_at levels tokens.now) }
 {
     if levels == 0 {
         return Err(Halt::Syntax { left: tokens.len() });
@@ -358,7 +369,7 @@ fn stmt_of(alloc: Global, tokens: &[Token], levels: u8) -> ReadStmt<'_>
         return block_of(alloc, tokens, inside);
     }
     if is_sign(tokens, Sign::Semicolon) {
-        return empty_of(alloc, tokens);
+        return empty_of(tokens);
     }
     if is_word(tokens, "if") {
         return if_of(alloc, tokens, inside);

@@ -1,10 +1,6 @@
-use Rattle.std.proofs.Common.{◌≡◌, false, Option, ap, ◌∙◌, subst}
-use Rattle.jv_tree.specs.Source.{Stmt}
-use Rattle.jv_tree.specs.View.{stmt_of}
+use Rattle.std.proofs.Common.{◌≡◌, false, ap, ◌∙◌}
 use Rattle.jv_tree.proofs.ViewLaws.{expr_of-is, kind-MethodCall}
 use Rattle.jv_parse.specs.inner.Evaluations.{eval_if}
-use Rattle.jv_parse.specs.inner.Found.{found_if}
-use Rattle.jv_parse.specs.inner.Gives.{Gives}
 use Rattle.jv_parse.proofs.Evaluating.{does_print, call_is, prints_are}
 use Rattle.jv_parse.proofs.evaluations.method_call.Goals as goal
 
@@ -15,7 +11,6 @@ returns c =
     c.args.args.items
     c.prints.ensures c.if-prints.false c.deref.ensures c.as_str.ensures c.as_slice.ensures.items
     in
-    subst (λ (s : Option Stmt). Gives (λ x. (stmt_of x.0.value, x.1.now)) c.eval.result (found_if s c.args.rest.now))
-    (ap (eval_if c.args.levels c.args.place) (expr_of-is _ ∙ kind-MethodCall c.args.receiver c.args.name c.args.args c.args.at)
-    ∙ call_is c.args.levels c.args.place c.args.at c.args.receiver.value c.args.name c.args.args.items stays)
-    c.eval.ensures
+    c.eval.ensures ∙ ap (eval_if c.args.levels c.args.place) (expr_of-is _ ∙ kind-MethodCall c.args.receiver c.args.name c.args.args
+    c.args.at)
+    ∙ call_is c.args.levels c.args.place c.args.at c.args.receiver.value c.args.name c.args.args.items stays

@@ -20,15 +20,15 @@ items_of-returns-in_err-stmt t c =
     (sym c.goes_on.ensures ∙ c.items-test.true) c.in_err-stmt.ensures c.items.invariant)
 
 pub items_of-items-smaller : goal.items_of-items-smaller
-items_of-items-smaller t c = item_at_shorter c.args.levels c.items.rest.now (stmt_of c.in_ok-stmt.stmt.value) c.in_ok-stmt.after.now
+items_of-items-smaller t c = item_at_shorter c.args.levels c.items.rest.now (stmt_of c.in_ok-stmt.stmt) c.in_ok-stmt.after.now
     c.in_ok-stmt.ensures
 
 pub items_of-items-preserved : goal.items_of-items-preserved
 items_of-items-preserved t c =
-    let one = c.in_ok-stmt.stmt.value in
+    let one = c.in_ok-stmt.stmt in
     let shorter = item_at_shorter c.args.levels c.items.rest.now (stmt_of one) c.in_ok-stmt.after.now c.in_ok-stmt.ensures in
     let e : map stmt_of c.push.new.self.items ≡ map stmt_of c.items.stmts.items ++ stmt_of one ∷ [] =
-    rw (c.in_ok-push.ensures.ok, c.into_inner.ensures) (map_push _ c.items.stmts.items one) in
+    rw c.in_ok-push.ensures.ok (map_push _ c.items.stmts.items one) in
     rw e (Left-more goes_on (item_with c.args.levels (stmt_at c.args.levels)) (map stmt_of c.items.stmts.items) c.items.rest.now
     (stmt_of one) c.in_ok-stmt.after.now (items_with c.args.levels (stmt_at c.args.levels) c.args.tokens.now)
     (sym c.goes_on.ensures ∙ c.items-test.true) c.in_ok-stmt.ensures shorter c.items.invariant)

@@ -18,6 +18,9 @@ decreases-items_of l = 10 * l.levels + 2
 abbrev pub decreases-block_of : goal.decreases-block_of
 decreases-block_of l = 10 * l.levels + 3
 
+abbrev pub decreases-inner_of : goal.decreases-inner_of
+decreases-inner_of l = 10 * l.levels + 1
+
 abbrev pub decreases-if_of : goal.decreases-if_of
 decreases-if_of l = 10 * l.levels + 2
 
