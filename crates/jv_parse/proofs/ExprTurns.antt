@@ -84,6 +84,11 @@ unfolding inner_at expr_at binary_at
 inner_is zero d h = absurd (omega arith)
 inner_is (suc m) d h = let e : suc m - 1 ≡ m = omega arith in rw e refl
 
+pub next_arg_is : (m d : ℕ) (p : Place) (ts us : List Token) → sign_at signs.Comma ts ≡ Some (p, us) →
+    next_arg_with (expr_at m d) ts ≡ binary_at m 6 d us
+unfolding next_arg_with expr_at
+next_arg_is m d p ts us h = rw h refl
+
 pub arg_shorter : (m d : ℕ) (ts : List Token) (x : Expr) (us : List Token) → next_arg_with (expr_at m d) ts ≡ Some (x, us) →
     length us < length ts
 unfolding inner_at expr_at binary_at

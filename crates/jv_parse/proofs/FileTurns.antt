@@ -9,7 +9,7 @@ use Rattle.mg_read.proofs.Loop.{Left, Left-start, Left-init, with_front}
 use Rattle.jv_tree.specs.declared.tree.Param.{Param}
 use Rattle.jv_tree.specs.declared.token.Sign.TheVariants as signs
 use Rattle.jv_tree.specs.declared.token.Token.{Token}
-use Rattle.jv_reading.specs.Base.{is_sign, is_word, name_at}
+use Rattle.jv_reading.specs.Base.{sign_at, is_sign, is_word, name_at}
 use Rattle.jv_reading.specs.Files.{param_at, next_param_at, params_at, is_more_names, next_name_at, names_at, is_more_steps, next_step_at}
 use Rattle.jv_reading.specs.Files.{path_at, import_at, is_some_token, decl_at}
 use Rattle.jv_parse.specs.declared.halt.Halt.{Halt}
@@ -30,6 +30,10 @@ pub params_fail : (e : Halt) (ts : List Token) → Fails e (param_at ts) → Fai
 unfolding params_at
 params_fail halts.Memory ts h = tt
 params_fail (halts.Syntax left) ts h = rw h refl
+
+pub next_param_is : (p : Place) (ts us : List Token) → sign_at signs.Comma ts ≡ Some (p, us) → next_param_at ts ≡ param_at us
+unfolding next_param_at
+next_param_is p ts us h = rw h refl
 
 -- ---- names of an enum
 

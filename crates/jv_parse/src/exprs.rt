@@ -10,7 +10,7 @@ ghost use Rattle.jv_tree.specs.View.{expr_of, kind_of, exprs_of};
 ghost use Rattle.jv_parse.specs.inner.Found.{found};
 ghost use Rattle.jv_parse.specs.inner.Gives.{Gives};
 ghost use Rattle.jv_reading.specs.Base.{sign_at, fits};
-ghost use Rattle.jv_reading.specs.Exprs.{args_with, next_arg_with, arguments_at, closed_at, negative_at, named_at, word_primary_at};
+ghost use Rattle.jv_reading.specs.Exprs.{args_with, arguments_at, closed_at, negative_at, named_at, word_primary_at};
 ghost use Rattle.jv_reading.specs.Exprs.{new_with, literal, primary_at, tail_at, post_at, is_negation, unary_at, operator, op_at, op_found};
 ghost use Rattle.jv_reading.specs.Exprs.{is_op, joined_at, binary_at, expr_at};
 
@@ -202,24 +202,13 @@ fn args_of(alloc: Global, tokens: &[Token], room: u16, levels: u8) -> ReadArgs<'
     let (first, mut deepest, mut rest) = chain_of(alloc, tokens, room, levels, LOOSEST)?;
     let mut args = List::new(alloc);
     args.push(Box::into_inner(first))?;
-    'more: while is_sign(rest, Sign::Comma) {
-        let (arg, deep, after) = next_arg_of(alloc, rest, room, levels)?;
+    'more: while let Some((_, next)) = past_sign(rest, Sign::Comma) {
+        let (arg, deep, after) = chain_of(alloc, next, room, levels, LOOSEST)?;
         args.push(Box::into_inner(arg))?;
         deepest = deepest.max(deep);
         rest = after;
     }
     Ok((args, deepest, rest))
-}
-
-// "," expr
-#[cycle(nest)]
-#[tactic(auto, unfolding(jv_reading::specs::Exprs::next_arg_with, jv_reading::specs::Exprs::expr_at))]
-fn next_arg_of(alloc: Global, tokens: &[Token], room: u16, levels: u8) -> Read<'_>
-    ensures read { Gives (λ x. (expr_of x.0.value, x.2.now)) result (next_arg_with (expr_at room levels) tokens.now) }
-    ensures deep { IfOk result (λ x. x.1 ≡ depth (expr_of x.0.value)) }
-{
-    let (_, rest) = sign_of(tokens, Sign::Comma)?;
-    chain_of(alloc, rest, room, levels, LOOSEST)
 }
 
 // "(" [args] ")"

@@ -1,7 +1,7 @@
 //! Reads a file: its package, its imports and its declarations.
 //! Packages and imports are not kept.
 
-ghost use Rattle.std.specs.Prelude.{◌≡◌, map, codes};
+ghost use Rattle.std.specs.Prelude.{◌≡◌, Some, IfSome, is_some, map, codes};
 ghost use Rattle.jv_tree.specs.View.{decl_of, file_of};
 ghost use Rattle.jv_parse.specs.inner.Gives.{Gives};
 ghost use Rattle.jv_parse.specs.inner.Rests.{rest_of, imports_at, decls_at};
@@ -9,30 +9,20 @@ ghost use Rattle.jv_reading.specs.Files.{is_more_steps, next_step_at, path_at, p
 
 use crate::decls::decl_of;
 use crate::halt::Halt;
-use crate::tokens::{
-    after_name, is_named, is_sign, is_word, past_sign, past_word, sign_of, word_of,
-};
+use crate::tokens::{after_name, is_word, past_name, past_sign, past_word, sign_of, word_of};
 use jv_tree::{Decl, File, Sign, Token};
 use mg_text::List;
 use std::alloc::Global;
 
-// Whether "." and a name come next.
-fn is_more_steps(tokens: &[Token]) -> bool
-    ensures { result ≡ is_more_steps tokens.now }
-{
-    let Some((_, rest)) = tokens.split_first() else {
-        return false;
-    };
-    is_sign(tokens, Sign::Dot) && is_named(rest)
-}
-
-// "." name
+// The tokens behind "." and a name, where these come next.
 #[tactic(auto, unfolding(jv_reading::specs::Files::next_step_at))]
-fn next_step_of(tokens: &[Token]) -> Result<&[Token], Halt>
-    ensures { Gives (λ x. x.now) result (rest_of (next_step_at tokens.now)) }
+fn past_step(tokens: &[Token]) -> Option<&[Token]>
+    ensures it { IfSome result (λ r. rest_of (next_step_at tokens.now) ≡ Some r.now) }
+    ensures comes { is_some result ≡ is_more_steps tokens.now }
 {
-    let (_, rest) = sign_of(tokens, Sign::Dot)?;
-    after_name(rest)
+    let (_, rest) = past_sign(tokens, Sign::Dot)?;
+    let (_, _, rest) = past_name(rest)?;
+    Some(rest)
 }
 
 // path = name { "." name }
@@ -40,8 +30,7 @@ fn path_of(tokens: &[Token]) -> Result<&[Token], Halt>
     ensures { Gives (λ x. x.now) result (rest_of (path_at tokens.now)) }
 {
     let mut rest = after_name(tokens)?;
-    'steps: while is_more_steps(rest) {
-        let after = next_step_of(rest)?;
+    'steps: while let Some(after) = past_step(rest) {
         rest = after;
     }
     Ok(rest)

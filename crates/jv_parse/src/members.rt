@@ -6,7 +6,7 @@ ghost use Rattle.jv_tree.specs.Files.{fields_among, methods_among};
 ghost use Rattle.jv_tree.specs.View.{expr_of, field_of, method_of};
 ghost use Rattle.jv_parse.specs.inner.Gives.{Gives};
 ghost use Rattle.jv_parse.specs.inner.Members.{behind_of, behind_at, value_at, member_of, sorted_at, sorted_members};
-ghost use Rattle.jv_reading.specs.Files.{result_at, param_at, next_param_at, params_at, is_args, args_at, params_of_at, is_void, is_main};
+ghost use Rattle.jv_reading.specs.Files.{result_at, param_at, params_at, is_args, args_at, params_of_at, is_void, is_main};
 ghost use Rattle.jv_reading.specs.Files.{member_at};
 
 use crate::assigns::{after_final, ended_of, type_of};
@@ -68,15 +68,6 @@ fn param_of(tokens: &[Token]) -> Result<(Param, &[Token]), Halt>
     Ok((Param { place, ty, name }, rest))
 }
 
-// "," param
-#[tactic(auto, unfolding(jv_reading::specs::Files::next_param_at))]
-fn next_param_of(tokens: &[Token]) -> Result<(Param, &[Token]), Halt>
-    ensures { Gives (λ x. (x.0, x.1.now)) result (next_param_at tokens.now) }
-{
-    let (_, rest) = sign_of(tokens, Sign::Comma)?;
-    param_of(rest)
-}
-
 // param { "," param }
 fn params_of(alloc: Global, tokens: &[Token]) -> Result<(List<Param>, &[Token]), Halt>
     ensures { Gives (λ x. (x.0.items, x.1.now)) result (params_at tokens.now) }
@@ -84,8 +75,8 @@ fn params_of(alloc: Global, tokens: &[Token]) -> Result<(List<Param>, &[Token]),
     let (first, mut rest) = param_of(tokens)?;
     let mut params = List::new(alloc);
     params.push(first)?;
-    'more: while is_sign(rest, Sign::Comma) {
-        let (param, after) = next_param_of(rest)?;
+    'more: while let Some((_, next)) = past_sign(rest, Sign::Comma) {
+        let (param, after) = param_of(next)?;
         params.push(param)?;
         rest = after;
     }

@@ -1,11 +1,12 @@
 //! Reads one token: a sign, a word or a name, and tells which words are names.
 
-ghost use Rattle.std.specs.Prelude.{◌≡◌, is_some, option_map};
+ghost use Rattle.std.specs.Prelude.{◌≡◌, IfSome, is_some, option_map};
 ghost use Rattle.jv_tree.specs.Tokens.{is_name};
 ghost use Rattle.jv_tree.specs.Expressions.{starts_number};
 ghost use Rattle.jv_parse.specs.inner.Gives.{Gives};
 ghost use Rattle.jv_parse.specs.inner.Rests.{rest_of};
 ghost use Rattle.jv_reading.specs.Base.{sign_at, is_sign, word_at, is_word, name_at, is_named};
+ghost use Rattle.jv_reading.specs.Files.{behind};
 
 use crate::halt::Halt;
 use jv_tree::{Sign, Token, TokenKind};
@@ -22,6 +23,7 @@ pub(crate) fn is_name(word: &str) -> bool
 pub(crate) fn past_sign(tokens: &[Token], sign: Sign) -> Option<(Place, &[Token])>
     ensures it { option_map (λ x. (x.0, x.1.now)) result ≡ sign_at sign tokens.now }
     ensures comes { is_some result ≡ is_sign sign tokens.now }
+    ensures rest { IfSome result (λ x. x.1.now ≡ behind tokens.now) }
 {
     let (first, rest) = tokens.split_first()?;
     match &first.kind {
@@ -89,7 +91,7 @@ pub(crate) fn is_word(tokens: &[Token], word: &str) -> bool
 }
 
 // The place of a name, the name and the tokens after it, where one comes next.
-fn past_name(tokens: &[Token]) -> Option<(Place, &Text, &[Token])>
+pub(crate) fn past_name(tokens: &[Token]) -> Option<(Place, &Text, &[Token])>
     ensures it { option_map (λ x. ((x.0, x.1.now), x.2.now)) result ≡ name_at tokens.now }
     ensures comes { is_some result ≡ is_named tokens.now }
 {

@@ -7,12 +7,12 @@ use Rattle.jv_tree.specs.declared.token.Sign.TheVariants as signs
 use Rattle.jv_tree.specs.declared.token.Token.{Token}
 use Rattle.ts_tree.specs.declared.parts.TypeName.{TypeName}
 use Rattle.jv_tree.specs.declared.tree.Param.{Param}
-use Rattle.jv_tree.specs.Source.{Expr, Stmts, Field, Method, Class}
+use Rattle.jv_tree.specs.Source.{Expr, Stmts, Field, Method, Class, Enum}
 use Rattle.jv_tree.specs.Files.{Member, FieldMember, MethodMember, fields_among, methods_among}
 use Rattle.jv_tree.specs.View.{stmt_of, stmts_of, field_of, method_of}
 use Rattle.jv_reading.specs.Base.{sign_at, is_sign, word_at, name_at}
 use Rattle.jv_reading.specs.Stmts.{ended_at, items_at}
-use Rattle.jv_reading.specs.Files.{after_mods, class_words, annotation_at, params_of_at, not_closed, member_at}
+use Rattle.jv_reading.specs.Files.{after_mods, class_words, annotation_at, params_of_at, not_closed, member_at, names_at, past}
 use Rattle.jv_parse.specs.declared.members.Behind.{Behind as KeptBehind}
 use Rattle.jv_parse.specs.declared.members.Member.{Member as KeptMember}
 use Rattle.jv_parse.specs.declared.members.Member.TheVariants as kept
@@ -84,3 +84,12 @@ class_read ts = do
   name ← name_at start.1
   members ← sorted_members name.1
   Some (record { place = name.0.0; name = name.0.1; typestate = typestate.0; fields = members.0.0; methods = members.0.1 }, members.1)
+
+-- name "{" name { "," name } [ "," ] [ ";" ] "}", behind "enum"
+abbrev pub named_enum_at : Reader Token Enum
+named_enum_at ts = do
+  name ← name_at ts
+  opening ← sign_at signs.OpenBrace name.1
+  names ← names_at opening.1
+  end ← sign_at signs.CloseBrace (past signs.Semicolon (past signs.Comma names.1))
+  Some (record { place = name.0.0; name = name.0.1; constants = names.0 }, end.1)

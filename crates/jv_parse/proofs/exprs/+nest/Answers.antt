@@ -9,7 +9,7 @@ use Rattle.jv_reading.specs.Base.{is_sign}
 use Rattle.jv_reading.specs.Exprs.{next_arg_with, args_with, tail_at, post_at, is_op, joined_at, binary_at, expr_at}
 use Rattle.jv_parse.proofs.Turns.{Growing-more, Growing-done, Growing-fails}
 use Rattle.jv_parse.proofs.ExprTurns.{Left-fails, post_start, post_fails, tail_at_shorter, chain_start, chain_fails, chain_is}
-use Rattle.jv_parse.proofs.ExprTurns.{joined_at_shorter, arg_shorter, args_start, args_fails, depth_push, arguments_zero}
+use Rattle.jv_parse.proofs.ExprTurns.{joined_at_shorter, next_arg_is, arg_shorter, args_start, args_fails, depth_push, arguments_zero}
 use Rattle.jv_parse.proofs.ExprTurns.{arguments_unopened, arguments_empty, arguments_unread, arguments_unclosed, arguments_done}
 use Rattle.jv_parse.proofs.ExprTurns.{closed_zero, closed_unread, closed_unclosed, closed_done}
 use Rattle.jv_parse.proofs.exprs.+nest.Goals as goal
@@ -33,34 +33,39 @@ args_of-more-init t c =
 pub args_of-returns-in_err-arg-clause-read : goal.args_of-returns-in_err-arg-clause-read
 args_of-returns-in_err-arg-clause-read t c =
     let p = err_from_is_err_and c.from_residual-in_err-arg.result c.from_residual-in_err-arg.ensures.1 in
-    let goes = sym c.is_sign.ensures ∙ c.more-test.true in
+    let next = next_arg_is c.args.room c.args.levels c.in-Some.field-0-0 c.more.rest.now c.in-Some.next.now (sym c.in-Some.ensures.it) in
     rw (p.1, p.2)
     (Left-fails (is_sign signs.Comma) (next_arg_with (expr_at c.args.room c.args.levels)) c.in_err-arg.field-0.0
     (map expr_of c.more.args.items) c.more.rest.now
-    (args_with (expr_at c.args.room c.args.levels) c.args.tokens.now) goes c.in_err-arg.ensures.read c.more.invariant.0)
+    (args_with (expr_at c.args.room c.args.levels) c.args.tokens.now) (sym c.in-Some.ensures.comes) (rw next c.in_err-arg.ensures.read)
+    c.more.invariant.0)
 
 pub args_of-more-smaller : goal.args_of-more-smaller
-args_of-more-smaller t c = arg_shorter c.args.room c.args.levels c.more.rest.now (expr_of c.in_ok-arg.arg.value) c.in_ok-arg.after.now
-    c.in_ok-arg.ensures.read
+args_of-more-smaller t c =
+    let next = next_arg_is c.args.room c.args.levels c.in-Some.field-0-0 c.more.rest.now c.in-Some.next.now (sym c.in-Some.ensures.it) in
+    arg_shorter c.args.room c.args.levels c.more.rest.now (expr_of c.in_ok-arg.arg.value) c.in_ok-arg.after.now
+    (next ∙ c.in_ok-arg.ensures.read)
 
 pub args_of-more-preserved : goal.args_of-more-preserved
 args_of-more-preserved t c =
     let arg = c.in_ok-arg.arg.value in
-    let goes = sym c.is_sign.ensures ∙ c.more-test.true in
-    let shorter = arg_shorter c.args.room c.args.levels c.more.rest.now (expr_of arg) c.in_ok-arg.after.now c.in_ok-arg.ensures.read in
+    let next = next_arg_is c.args.room c.args.levels c.in-Some.field-0-0 c.more.rest.now c.in-Some.next.now (sym c.in-Some.ensures.it) in
+    let read = next ∙ c.in_ok-arg.ensures.read in
+    let shorter = arg_shorter c.args.room c.args.levels c.more.rest.now (expr_of arg) c.in_ok-arg.after.now read in
     let e : map expr_of c.push-in-more.new.self.items ≡ map expr_of c.more.args.items ++ expr_of arg ∷ [] =
     rw (c.in_ok-push-2.ensures.ok, c.into_inner-in-more.ensures) (map_push _ c.more.args.items arg) in
     let deep = depth_push (map expr_of c.more.args.items) (expr_of arg) in (
       rw e (Left-more (is_sign signs.Comma) (next_arg_with (expr_at c.args.room c.args.levels)) (map expr_of c.more.args.items)
           c.more.rest.now (expr_of arg) c.in_ok-arg.after.now
-          (args_with (expr_at c.args.room c.args.levels) c.args.tokens.now) goes c.in_ok-arg.ensures.read shorter c.more.invariant.0),
+          (args_with (expr_at c.args.room c.args.levels) c.args.tokens.now) (sym c.in-Some.ensures.comes) read shorter
+          c.more.invariant.0),
       rw (e, deep, ← c.more.invariant.1, ← c.in_ok-arg.ensures.deep) c.max-deepest.ensures,
     )
 
 pub args_of-returns-clause-read : goal.args_of-returns-clause-read
 args_of-returns-clause-read t c =
     Left-done (is_sign signs.Comma) (next_arg_with (expr_at c.args.room c.args.levels)) (map expr_of c.more.args.items) c.more.rest.now
-    (args_with (expr_at c.args.room c.args.levels) c.args.tokens.now) (sym c.is_sign.ensures ∙ c.more-test.false) c.more.invariant.0
+    (args_with (expr_at c.args.room c.args.levels) c.args.tokens.now) (sym c.in_default.ensures.comes) c.more.invariant.0
 
 pub arguments_of-returns-then-room-eq0-clause-read : goal.arguments_of-returns-then-room-eq0-clause-read
 arguments_of-returns-then-room-eq0-clause-read t c = arguments_zero c.args.room c.args.levels c.args.tokens.now c.if-room-eq0.true
