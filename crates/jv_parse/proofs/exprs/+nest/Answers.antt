@@ -52,8 +52,8 @@ args_of-more-preserved t c =
     let next = next_arg_is c.args.room c.args.levels c.in-Some.field-0-0 c.more.rest.now c.in-Some.next.now (sym c.in-Some.ensures.it) in
     let read = next ∙ c.in_ok-arg.ensures.read in
     let shorter = arg_shorter c.args.room c.args.levels c.more.rest.now (expr_of arg) c.in_ok-arg.after.now read in
-    let e : map expr_of c.push-in-more.new.self.items ≡ map expr_of c.more.args.items ++ expr_of arg ∷ [] =
-    rw (c.in_ok-push-2.ensures.ok, c.into_inner-in-more.ensures) (map_push _ c.more.args.items arg) in
+    let e : map expr_of c.push-in-Some.new.self.items ≡ map expr_of c.more.args.items ++ expr_of arg ∷ [] =
+    rw (c.in_ok-push-2.ensures.ok, c.into_inner-in-Some.ensures) (map_push _ c.more.args.items arg) in
     let deep = depth_push (map expr_of c.more.args.items) (expr_of arg) in (
       rw e (Left-more (is_sign signs.Comma) (next_arg_with (expr_at c.args.room c.args.levels)) (map expr_of c.more.args.items)
           c.more.rest.now (expr_of arg) c.in_ok-arg.after.now
