@@ -20,6 +20,7 @@ use Rattle.jv_parse.specs.declared.halt.Halt.TheVariants as halts
 use Rattle.jv_parse.specs.inner.Gives.{Fails}
 use Rattle.jv_parse.specs.inner.Members.{behind_at, method_from, value_at, field_from, sorted, sorted_at, sorted_members, class_read}
 use Rattle.jv_parse.proofs.ExprTurns.{Left-fails}
+use Rattle.jv_parse.proofs.Walks.{in_front}
 
 fields-append : (xs ys : List Member) → fields_among (xs ++ ys) ≡ fields_among xs ++ fields_among ys
 fields-append [] ys = refl
@@ -72,12 +73,6 @@ sorting_done fields methods ts total stops s =
 
 -- ---- a method and a field
 
--- a step more in front
-behind : {A B C : Type 0} (o : Option A) (f : A → Option B) (h : A → Option C) (g : B → Option C) → ((x : A) → h x ≡ (f x >>= g))
-    → (o >>= h) ≡ ((o >>= f) >>= g)
-behind None f h g e = refl
-behind (Some x) f h g e = e x
-
 either : {B C : Type 0} (b : Bool) (x y : Option C) (u v : Option B) (g : B → Option C) → x ≡ (u >>= g) → y ≡ (v >>= g)
     → (if b then x else y) ≡ ((if b then u else v) >>= g)
 either true x y u v g e f = e
@@ -88,17 +83,17 @@ pub method_is : (st : Bool) (ty : TypeName) (p : Place) (n : Name) (ts : List To
 unfolding method_at behind_at
 method_is st ty p n ts =
     let g = method_from st ty p n in
-    behind (sign_at signs.OpenParen ts) _ _ g (λ a. behind (params_of_at (is_main st ty n) a.1) _ _ g (λ ps.
-    behind (sign_at signs.CloseParen ps.1) _ _ g (λ c. behind (sign_at signs.OpenBrace c.1) _ _ g (λ s.
-    behind (items_at 200 s.1) _ _ g (λ b. behind (sign_at signs.CloseBrace b.1) _ _ g (λ e. refl))))))
+    in_front (sign_at signs.OpenParen ts) _ _ g (λ a. in_front (params_of_at (is_main st ty n) a.1) _ _ g (λ ps.
+    in_front (sign_at signs.CloseParen ps.1) _ _ g (λ c. in_front (sign_at signs.OpenBrace c.1) _ _ g (λ s.
+    in_front (items_at 200 s.1) _ _ g (λ b. in_front (sign_at signs.CloseBrace b.1) _ _ g (λ e. refl))))))
 
 pub field_is : (ty : TypeName) (p : Place) (n : Name) (ts : List Token) → field_at ty p n ts ≡ (value_at ts >>= field_from ty p n)
 unfolding field_at value_at
 field_is ty p n ts =
     let g = field_from ty p n in
     either (is_sign signs.Assign ts) _ _ _ _ g
-    (behind (sign_at signs.Assign ts) _ _ g (λ a. behind (ended_at 200 a.1) _ _ g (λ e. refl)))
-    (behind (sign_at signs.Semicolon ts) _ _ g (λ a. refl))
+    (in_front (sign_at signs.Assign ts) _ _ g (λ a. in_front (ended_at 200 a.1) _ _ g (λ e. refl)))
+    (in_front (sign_at signs.Semicolon ts) _ _ g (λ a. refl))
 
 -- ---- a class
 

@@ -1,5 +1,6 @@
 pub mod Gives
 pub mod Found
+pub mod Loops
 pub mod Changes
 pub mod Evaluations
 pub mod Modifiers

@@ -4,15 +4,16 @@
 ghost use Rattle.std.specs.Prelude.{◌≡◌, ◌≤◌, Some, map};
 ghost use Rattle.jv_tree.specs.View.{expr_of, stmt_of, group_of};
 ghost use Rattle.jv_parse.specs.inner.Gives.{Gives};
+ghost use Rattle.jv_parse.specs.inner.Loops.{while_at, do_at};
 ghost use Rattle.jv_reading.specs.Stmts.{is_typed, is_decl, is_case, goes_on, case_at, cases_at, jump_at, break_at, continue_at, return_at};
 ghost use Rattle.jv_reading.specs.Stmts.{empty_at, is_label, loop_place, loop_label, stmt_at, item_with, items_with, block_with, if_with};
-ghost use Rattle.jv_reading.specs.Stmts.{while_with, do_with, loop_with, labelled_with, group_with, groups_with, switch_with, simple_with};
+ghost use Rattle.jv_reading.specs.Stmts.{loop_with, labelled_with, group_with, groups_with, switch_with, simple_with};
 
 use crate::assigns::{ReadStmt, assign_of, cond_of, ended_of, is_assign, local_of};
 use crate::evaluations::evaluation_of;
 use crate::halt::Halt;
 use crate::tokens::{is_named, is_sign, is_word, name_of, past_sign, past_word, sign_of, word_of};
-use jv_tree::{Group, Sign, Stmt, StmtKind, Token};
+use jv_tree::{Expr, Group, Sign, Stmt, StmtKind, Token};
 use mg_text::{List, Place, Text};
 use std::alloc::Global;
 
@@ -244,6 +245,10 @@ fn if_of(alloc: Global, tokens: &[Token], levels: u8) -> ReadStmt<'_>
     Ok((Stmt { place, kind }, rest))
 }
 
+// A loop without its label: the place of its first token, its test and its body, and the tokens
+// after it.
+type ReadLoop<'a> = Result<(Place, Box<Expr>, Box<Stmt>, &'a [Token]), Halt>;
+
 // Where a loop with this first token begins, and its label.
 fn labelled(start: Place, label: Option<(Place, Text)>) -> (Place, Option<Text>)
     ensures place { result.0 ≡ loop_place start label }
@@ -255,44 +260,35 @@ fn labelled(start: Place, label: Option<(Place, Text)>) -> (Place, Option<Text>)
     }
 }
 
-// A loop behind its label, where it has one: the place of the label, and its name.
 #[cycle(nest_stmts)]
-#[tactic(auto, using(jv_tree::proofs::ViewLaws::views), unfolding(jv_reading::specs::Stmts::while_with))]
-fn while_of(
-    alloc: Global,
-    tokens: &[Token],
-    label: Option<(Place, Text)>,
-    levels: u8,
-) -> ReadStmt<'_>
+#[tactic(auto, unfolding(crate::specs::inner::Loops::while_at))]
+fn while_of(alloc: Global, tokens: &[Token], levels: u8) -> ReadLoop<'_>
     requires { levels ≤ 200 }
-    ensures { Gives (λ x. (stmt_of x.0, x.1.now)) result (while_with levels (stmt_at levels) label tokens.now) }
+    ensures { Gives (λ x. ((x.0, (expr_of x.1.value, stmt_of x.2.value)), x.3.now)) result (while_at levels (stmt_at levels) tokens.now) }
 {
     let (start, rest) = word_of(tokens, "while")?;
     let (test, rest) = cond_of(alloc, rest, levels)?;
     let (body, rest) = inner_of(alloc, rest, levels)?;
-    let (place, name) = labelled(start, label);
-    let kind = StmtKind::While(name, Box::into_inner(test), body);
-    Ok((Stmt { place, kind }, rest))
+    Ok((start, test, body, rest))
 }
 
 #[cycle(nest_stmts)]
-#[tactic(auto, using(jv_tree::proofs::ViewLaws::views), unfolding(jv_reading::specs::Stmts::do_with))]
-fn do_of(alloc: Global, tokens: &[Token], label: Option<(Place, Text)>, levels: u8) -> ReadStmt<'_>
+#[tactic(auto, unfolding(crate::specs::inner::Loops::do_at))]
+fn do_of(alloc: Global, tokens: &[Token], levels: u8) -> ReadLoop<'_>
     requires { levels ≤ 200 }
-    ensures { Gives (λ x. (stmt_of x.0, x.1.now)) result (do_with levels (stmt_at levels) label tokens.now) }
+    ensures { Gives (λ x. ((x.0, (expr_of x.1.value, stmt_of x.2.value)), x.3.now)) result (do_at levels (stmt_at levels) tokens.now) }
 {
     let (start, rest) = word_of(tokens, "do")?;
     let (body, rest) = inner_of(alloc, rest, levels)?;
     let (_, rest) = word_of(rest, "while")?;
     let (test, rest) = cond_of(alloc, rest, levels)?;
     let (_, rest) = sign_of(rest, Sign::Semicolon)?;
-    let (place, name) = labelled(start, label);
-    let kind = StmtKind::Do(name, body, Box::into_inner(test));
-    Ok((Stmt { place, kind }, rest))
+    Ok((start, test, body, rest))
 }
 
+// A loop behind its label, where it has one: the place of the label, and its name.
 #[cycle(nest_stmts)]
-#[tactic(auto, unfolding(jv_reading::specs::Stmts::loop_with))]
+#[tactic(auto, using(jv_tree::proofs::ViewLaws::views, crate::proofs::StmtTurns::while_is, crate::proofs::StmtTurns::do_is), unfolding(jv_reading::specs::Stmts::loop_with))]
 fn loop_of(
     alloc: Global,
     tokens: &[Token],
@@ -303,9 +299,15 @@ fn loop_of(
     ensures { Gives (λ x. (stmt_of x.0, x.1.now)) result (loop_with levels (stmt_at levels) label tokens.now) }
 {
     if is_word(tokens, "while") {
-        return while_of(alloc, tokens, label, levels);
+        let (start, test, body, rest) = while_of(alloc, tokens, levels)?;
+        let (place, name) = labelled(start, label);
+        let kind = StmtKind::While(name, Box::into_inner(test), body);
+        return Ok((Stmt { place, kind }, rest));
     }
-    do_of(alloc, tokens, label, levels)
+    let (start, test, body, rest) = do_of(alloc, tokens, levels)?;
+    let (place, name) = labelled(start, label);
+    let kind = StmtKind::Do(name, body, Box::into_inner(test));
+    Ok((Stmt { place, kind }, rest))
 }
 
 #[cycle(nest_stmts)]
