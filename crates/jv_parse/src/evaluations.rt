@@ -93,6 +93,7 @@ fn eval(place: Place, expr: Expr, deep: u8, levels: u8) -> Option<Stmt>
     ensures { option_map stmt_of result ≡ eval_if levels place (expr_of expr) }
 {
     if deep > levels {
+        drop(expr);
         return None;
     }
     let kind = StmtKind::Eval(expr);
@@ -119,6 +120,7 @@ fn print(place: Place, value: Expr, call: u8, levels: u8) -> Option<Stmt>
     ensures { option_map stmt_of result ≡ print_if levels place (expr_of value) }
 {
     if !is_within(&value, call, levels) {
+        drop(value);
         return None;
     }
     let kind = StmtKind::Print(value);
