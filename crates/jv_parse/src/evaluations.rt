@@ -186,7 +186,10 @@ fn evaluated(place: Place, expr: Box<Expr>, deep: u8, levels: u8) -> Option<Stmt
         | ExprKind::Member(_, _)
         | ExprKind::Neg(_)
         | ExprKind::Not(_)
-        | ExprKind::Binary(_, _, _) => None,
+        | ExprKind::Binary(_, _, _) => {
+            drop(kind);
+            None
+        }
     }
 }
 

@@ -3,9 +3,10 @@
 
 ghost use Rattle.std.specs.Prelude.{◌≡◌, ◌≤◌, Some, map};
 ghost use Rattle.jv_tree.specs.View.{expr_of, stmt_of, group_of};
+ghost use Rattle.jv_parse.specs.inner.Behind.{break_behind, continue_behind, return_behind};
 ghost use Rattle.jv_parse.specs.inner.Gives.{Gives};
 ghost use Rattle.jv_parse.specs.inner.Loops.{while_at, do_at};
-ghost use Rattle.jv_reading.specs.Stmts.{is_typed, is_decl, is_case, goes_on, case_at, cases_at, jump_at, break_at, continue_at, return_at};
+ghost use Rattle.jv_reading.specs.Stmts.{is_typed, is_decl, is_case, goes_on, case_at, cases_at, jump_at};
 ghost use Rattle.jv_reading.specs.Stmts.{empty_at, is_label, loop_place, loop_label, stmt_at, item_with, items_with, block_with, if_with};
 ghost use Rattle.jv_reading.specs.Stmts.{loop_with, labelled_with, group_with, groups_with, switch_with, simple_with};
 
@@ -106,36 +107,36 @@ fn jump_of(tokens: &[Token]) -> Result<(Option<Text>, &[Token]), Halt>
     Ok((None, rest))
 }
 
-#[tactic(auto, using(jv_tree::proofs::ViewLaws::views), unfolding(jv_reading::specs::Stmts::break_at))]
-fn break_of(tokens: &[Token]) -> ReadStmt<'_>
-    ensures { Gives (λ x. (stmt_of x.0, x.1.now)) result (break_at tokens.now) }
+// What stands behind "break" at this place.
+#[tactic(auto, using(jv_tree::proofs::ViewLaws::views))]
+fn break_of(place: Place, tokens: &[Token]) -> ReadStmt<'_>
+    ensures { Gives (λ x. (stmt_of x.0, x.1.now)) result (break_behind place tokens.now) }
 {
-    let (place, rest) = word_of(tokens, "break")?;
-    let (label, rest) = jump_of(rest)?;
+    let (label, rest) = jump_of(tokens)?;
     let kind = StmtKind::Break(label);
     Ok((Stmt { place, kind }, rest))
 }
 
-#[tactic(auto, using(jv_tree::proofs::ViewLaws::views), unfolding(jv_reading::specs::Stmts::continue_at))]
-fn continue_of(tokens: &[Token]) -> ReadStmt<'_>
-    ensures { Gives (λ x. (stmt_of x.0, x.1.now)) result (continue_at tokens.now) }
+// What stands behind "continue" at this place.
+#[tactic(auto, using(jv_tree::proofs::ViewLaws::views))]
+fn continue_of(place: Place, tokens: &[Token]) -> ReadStmt<'_>
+    ensures { Gives (λ x. (stmt_of x.0, x.1.now)) result (continue_behind place tokens.now) }
 {
-    let (place, rest) = word_of(tokens, "continue")?;
-    let (label, rest) = jump_of(rest)?;
+    let (label, rest) = jump_of(tokens)?;
     let kind = StmtKind::Continue(label);
     Ok((Stmt { place, kind }, rest))
 }
 
-#[tactic(auto, using(jv_tree::proofs::ViewLaws::views), unfolding(jv_reading::specs::Stmts::return_at))]
-fn return_of(alloc: Global, tokens: &[Token], levels: u8) -> ReadStmt<'_>
-    ensures { Gives (λ x. (stmt_of x.0, x.1.now)) result (return_at levels tokens.now) }
+// What stands behind "return" at this place.
+#[tactic(auto, using(jv_tree::proofs::ViewLaws::views))]
+fn return_of(alloc: Global, place: Place, tokens: &[Token], levels: u8) -> ReadStmt<'_>
+    ensures { Gives (λ x. (stmt_of x.0, x.1.now)) result (return_behind levels place tokens.now) }
 {
-    let (place, rest) = word_of(tokens, "return")?;
-    if let Some((_, rest)) = past_sign(rest, Sign::Semicolon) {
+    if let Some((_, rest)) = past_sign(tokens, Sign::Semicolon) {
         let kind = StmtKind::Return(None);
         return Ok((Stmt { place, kind }, rest));
     }
-    let (value, _, rest) = ended_of(alloc, rest, levels)?;
+    let (value, _, rest) = ended_of(alloc, tokens, levels)?;
     let kind = StmtKind::Return(Some(Box::into_inner(value)));
     Ok((Stmt { place, kind }, rest))
 }
@@ -150,19 +151,19 @@ fn empty_of(tokens: &[Token]) -> ReadStmt<'_>
 }
 
 // A statement that holds no other one.
-#[tactic(auto, unfolding(jv_reading::specs::Stmts::simple_with))]
+#[tactic(auto, unfolding(jv_reading::specs::Stmts::simple_with, jv_reading::specs::Stmts::break_at, jv_reading::specs::Stmts::continue_at, jv_reading::specs::Stmts::return_at))]
 fn simple_of(alloc: Global, tokens: &[Token], levels: u8) -> ReadStmt<'_>
     requires { levels ≤ 200 }
     ensures { Gives (λ x. (stmt_of x.0, x.1.now)) result (simple_with levels (stmt_at levels) tokens.now) }
 {
-    if is_word(tokens, "break") {
-        return break_of(tokens);
+    if let Some((place, rest)) = past_word(tokens, "break") {
+        return break_of(place, rest);
     }
-    if is_word(tokens, "continue") {
-        return continue_of(tokens);
+    if let Some((place, rest)) = past_word(tokens, "continue") {
+        return continue_of(place, rest);
     }
-    if is_word(tokens, "return") {
-        return return_of(alloc, tokens, levels);
+    if let Some((place, rest)) = past_word(tokens, "return") {
+        return return_of(alloc, place, rest, levels);
     }
     if is_assign(tokens) {
         return assign_of(alloc, tokens, levels);
