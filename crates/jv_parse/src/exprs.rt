@@ -158,11 +158,10 @@ fn new_of(alloc: Global, place: Place, tokens: &[Token], room: u16) -> Read<'_>
     ensures read { Gives (λ x. (expr_of x.0.value, x.2.now)) result (new_with room place tokens.now) }
     ensures deep { IfOk result (λ x. x.1 ≡ depth (expr_of x.0.value)) }
 {
+    let (_, name, rest) = name_of(tokens)?;
     if room == 0 {
-        let (_, _, rest) = name_of(tokens)?;
         return Err(Halt::Syntax { left: rest.len() });
     }
-    let (_, name, rest) = name_of(tokens)?;
     let (_, rest) = sign_of(rest, Sign::OpenParen)?;
     let (_, rest) = sign_of(rest, Sign::CloseParen)?;
     leaf(alloc, place, ExprKind::New(name), rest)

@@ -1,0 +1,8 @@
+use Rattle.std.proofs.lemmas.Result.{err_from_is_err_and}
+use Rattle.jv_parse.proofs.ExprTurns.{new_unnamed}
+use Rattle.jv_parse.proofs.exprs.new_of.Goals as goal
+
+pub returns-in_err-name-clause-read : goal.returns-in_err-name-clause-read
+returns-in_err-name-clause-read c =
+    let p = err_from_is_err_and c.from_residual.result c.from_residual.ensures.1 in
+    rw (p.1, p.2) (new_unnamed c.in_err-name.field-0.0 c.args.room c.args.place c.args.tokens.now c.in_err-name.ensures)
