@@ -1,3 +1,17 @@
+use Rattle.jv_reading.specs.Exprs.{arguments_at}
+use Rattle.jv_reading.specs.Exprs.{closed_at}
+use Rattle.jv_reading.specs.Exprs.{joined_with}
+use Rattle.jv_reading.specs.Exprs.{member_with}
+use Rattle.jv_reading.specs.Exprs.{named_at}
+use Rattle.jv_reading.specs.Exprs.{named_with}
+use Rattle.jv_reading.specs.Exprs.{primary_at}
+use Rattle.jv_reading.specs.Exprs.{primary_with}
+use Rattle.jv_reading.specs.Exprs.{signed_with}
+use Rattle.jv_reading.specs.Exprs.{tail_with}
+use Rattle.jv_reading.specs.Exprs.{unary_at}
+use Rattle.jv_reading.specs.Exprs.{unary_with}
+use Rattle.jv_reading.specs.Exprs.{word_primary_at}
+use Rattle.jv_tree.proofs.ViewLaws.{views}
 use Rattle.std.proofs.Common.{◌≡◌, ◌++◌, ◌∷◌, [], refl, sym, ◌∙◌, ◌-◌, arith}
 use Rattle.std.specs.Prelude.{map}
 use Rattle.std.proofs.lemmas.Result.{err_from_is_err_and}
@@ -222,3 +236,75 @@ chain_of-returns-clause-read t c =
     Growing-done (is_op (c.args.looseness - 1)) (joined_at c.args.room (c.args.looseness - 1) c.args.levels) (expr_of c.parts.left.value)
     c.parts.rest.now
     (binary_at c.args.room c.args.looseness c.args.levels c.args.tokens.now) (sym c.is_op.ensures ∙ c.parts-test.false) c.parts.invariant.0
+
+pub joined_of-fit-requires : goal.joined_of-fit-requires
+unfolding joined_at binary_at joined_with
+joined_of-fit-requires t c = grind (arith, views)
+
+pub joined_of-returns-clause-read : goal.joined_of-returns-clause-read
+unfolding joined_at binary_at joined_with
+joined_of-returns-clause-read t c = grind (arith, views)
+
+pub named_of-fit-requires : goal.named_of-fit-requires
+unfolding named_at arguments_at named_with
+named_of-fit-requires t c = grind (arith, views)
+
+pub named_of-leaf-requires : goal.named_of-leaf-requires
+unfolding named_at arguments_at named_with
+named_of-leaf-requires t c = grind (arith, views)
+
+pub named_of-returns-clause-read : goal.named_of-returns-clause-read
+unfolding named_at arguments_at named_with
+named_of-returns-clause-read t c = grind (arith, views)
+
+pub named_of-returns-then-is_sign-clause-read : goal.named_of-returns-then-is_sign-clause-read
+unfolding named_at arguments_at named_with
+named_of-returns-then-is_sign-clause-read t c = grind (arith, views)
+
+pub primary_of-leaf-requires : goal.primary_of-leaf-requires
+unfolding primary_at primary_with signed_with closed_at word_primary_at
+primary_of-leaf-requires t c = grind (arith, views)
+
+pub primary_of-leaf-requires-in-Text : goal.primary_of-leaf-requires-in-Text
+unfolding primary_at primary_with signed_with closed_at word_primary_at
+primary_of-leaf-requires-in-Text t c = grind (arith, views)
+
+pub primary_of-returns-else-number-gt2147483647-clause-read : goal.primary_of-returns-else-number-gt2147483647-clause-read
+unfolding primary_at primary_with signed_with closed_at word_primary_at
+primary_of-returns-else-number-gt2147483647-clause-read t c = grind (arith, views)
+
+pub primary_of-returns-in_ok-copy-in-Text-clause-read : goal.primary_of-returns-in_ok-copy-in-Text-clause-read
+unfolding primary_at primary_with signed_with closed_at word_primary_at
+primary_of-returns-in_ok-copy-in-Text-clause-read t c = grind (arith, views)
+
+pub tail_of-fit-requires : goal.tail_of-fit-requires
+unfolding tail_at arguments_at tail_with member_with
+tail_of-fit-requires t c = grind (arith, views)
+
+pub tail_of-fit-requires-2 : goal.tail_of-fit-requires-2
+unfolding tail_at arguments_at tail_with member_with
+tail_of-fit-requires-2 t c = grind (arith, views)
+
+pub tail_of-returns-clause-read : goal.tail_of-returns-clause-read
+unfolding tail_at arguments_at tail_with member_with
+tail_of-returns-clause-read t c = grind (arith, views)
+
+pub tail_of-returns-then-is_sign-clause-read : goal.tail_of-returns-then-is_sign-clause-read
+unfolding tail_at arguments_at tail_with member_with
+tail_of-returns-then-is_sign-clause-read t c = grind (arith, views)
+
+pub unary_of-fit-requires : goal.unary_of-fit-requires
+unfolding unary_at post_at unary_with
+unary_of-fit-requires t c = grind (arith, views)
+
+pub unary_of-fit-requires-in-Some-past_sign : goal.unary_of-fit-requires-in-Some-past_sign
+unfolding unary_at post_at unary_with
+unary_of-fit-requires-in-Some-past_sign t c = grind (arith, views)
+
+pub unary_of-returns-in-Some-clause-read : goal.unary_of-returns-in-Some-clause-read
+unfolding unary_at post_at unary_with
+unary_of-returns-in-Some-clause-read t c = grind (arith, views)
+
+pub unary_of-returns-in-Some-past_sign-clause-read : goal.unary_of-returns-in-Some-past_sign-clause-read
+unfolding unary_at post_at unary_with
+unary_of-returns-in-Some-past_sign-clause-read t c = grind (arith, views)

@@ -1,3 +1,6 @@
+use Rattle.std.proofs.Common.{arith}
+use Rattle.jv_reading.specs.Exprs.{literal}
+use Rattle.jv_tree.proofs.ViewLaws.{views}
 use Rattle.std.proofs.Common.{true, false, sym, ap, ◌∙◌}
 use Rattle.jv_tree.specs.Depth.{depth}
 use Rattle.jv_tree.proofs.ViewLaws.{expr_of-is, kind-Truth, kind-Null, kind-This}
@@ -14,3 +17,19 @@ returns-then-eq-3-clause-deep c = sym (ap depth (expr_of-is _ ∙ kind-Null c.ar
 
 pub returns-then-eq-4-clause-deep : goal.returns-then-eq-4-clause-deep
 returns-then-eq-4-clause-deep c = sym (ap depth (expr_of-is _ ∙ kind-This c.args.place))
+
+pub returns-then-eq-2-clause-read : goal.returns-then-eq-2-clause-read
+unfolding literal
+returns-then-eq-2-clause-read c = grind (arith, views)
+
+pub returns-then-eq-3-clause-read : goal.returns-then-eq-3-clause-read
+unfolding literal
+returns-then-eq-3-clause-read c = grind (arith, views)
+
+pub returns-then-eq-4-clause-read : goal.returns-then-eq-4-clause-read
+unfolding literal
+returns-then-eq-4-clause-read c = grind (arith, views)
+
+pub returns-then-eq-clause-read : goal.returns-then-eq-clause-read
+unfolding literal
+returns-then-eq-clause-read c = grind (arith, views)

@@ -1,0 +1,10 @@
+-- By `grind` at once, since a search finds nothing here.
+use Rattle.std.proofs.Common.{arith}
+use Rattle.jv_tree.proofs.ViewLaws.{views}
+use Rattle.jv_parse.proofs.exprs.negative_of.Goals as goal
+
+pub leaf-requires : goal.leaf-requires
+leaf-requires c = grind (arith, views)
+
+pub returns-clause-read : goal.returns-clause-read
+returns-clause-read c = grind (arith, views)
