@@ -1,26 +1,15 @@
-use Rattle.jv_reading.specs.Exprs.{arguments_at}
-use Rattle.jv_reading.specs.Exprs.{closed_at}
-use Rattle.jv_reading.specs.Exprs.{joined_with}
-use Rattle.jv_reading.specs.Exprs.{member_with}
-use Rattle.jv_reading.specs.Exprs.{named_at}
-use Rattle.jv_reading.specs.Exprs.{named_with}
-use Rattle.jv_reading.specs.Exprs.{primary_at}
-use Rattle.jv_reading.specs.Exprs.{primary_with}
-use Rattle.jv_reading.specs.Exprs.{signed_with}
-use Rattle.jv_reading.specs.Exprs.{tail_with}
-use Rattle.jv_reading.specs.Exprs.{unary_at}
-use Rattle.jv_reading.specs.Exprs.{unary_with}
-use Rattle.jv_reading.specs.Exprs.{word_primary_at}
-use Rattle.jv_tree.proofs.ViewLaws.{views}
 use Rattle.std.proofs.Common.{◌≡◌, ◌++◌, ◌∷◌, [], refl, sym, ◌∙◌, ◌-◌, arith}
 use Rattle.std.specs.Prelude.{map}
 use Rattle.std.proofs.lemmas.Result.{err_from_is_err_and}
 use Rattle.std.proofs.lemmas.List.{map_push}
 use Rattle.mg_read.proofs.Loop.{Left-more, Left-done}
+use Rattle.jv_tree.proofs.ViewLaws.{views}
 use Rattle.jv_tree.specs.declared.token.Sign.TheVariants as signs
 use Rattle.jv_tree.specs.View.{expr_of}
+use Rattle.jv_reading.specs.Exprs.{arguments_at, closed_at, joined_with, member_with, named_at, named_with, primary_at, primary_with}
+use Rattle.jv_reading.specs.Exprs.{signed_with, tail_with, unary_at, unary_with, word_primary_at, next_arg_with, args_with, tail_at}
+use Rattle.jv_reading.specs.Exprs.{post_at, is_op, joined_at, binary_at, expr_at}
 use Rattle.jv_reading.specs.Base.{is_sign}
-use Rattle.jv_reading.specs.Exprs.{next_arg_with, args_with, tail_at, post_at, is_op, joined_at, binary_at, expr_at}
 use Rattle.jv_parse.proofs.Turns.{Growing-more, Growing-done, Growing-fails}
 use Rattle.jv_parse.proofs.ExprTurns.{Left-fails, post_start, post_fails, tail_at_shorter, chain_start, chain_fails, chain_is}
 use Rattle.jv_parse.proofs.ExprTurns.{joined_at_shorter, next_arg_is, arg_shorter, args_start, args_fails, depth_push, arguments_zero}
