@@ -1,4 +1,5 @@
 use Rattle.std.proofs.Common.{◌≡◌, ◌++◌, ◌∷◌, [], refl, sym, ◌∙◌, ◌-◌, arith}
+use Rattle.std.proofs.lemmas.Grind.{common_steps}
 use Rattle.std.specs.Prelude.{map}
 use Rattle.std.proofs.lemmas.Result.{err_from_is_err_and}
 use Rattle.std.proofs.lemmas.List.{map_push}
@@ -6,9 +7,9 @@ use Rattle.mg_read.proofs.Loop.{Left-more, Left-done}
 use Rattle.jv_tree.proofs.ViewLaws.{views}
 use Rattle.jv_tree.specs.declared.token.Sign.TheVariants as signs
 use Rattle.jv_tree.specs.View.{expr_of}
-use Rattle.jv_reading.specs.Exprs.{arguments_at, closed_at, joined_with, member_with, named_at, named_with, primary_at, primary_with}
-use Rattle.jv_reading.specs.Exprs.{signed_with, tail_with, unary_at, unary_with, word_primary_at, next_arg_with, args_with, tail_at}
-use Rattle.jv_reading.specs.Exprs.{post_at, is_op, joined_at, binary_at, expr_at}
+use Rattle.jv_reading.specs.Exprs.{word_with, arguments_at, closed_at, joined_with, member_with, named_at, named_with, primary_at}
+use Rattle.jv_reading.specs.Exprs.{primary_with, signed_with, tail_with, unary_at, unary_with, word_primary_at, next_arg_with, args_with}
+use Rattle.jv_reading.specs.Exprs.{tail_at, post_at, is_op, joined_at, binary_at, expr_at}
 use Rattle.jv_reading.specs.Base.{is_sign}
 use Rattle.jv_parse.proofs.Turns.{Growing-more, Growing-done, Growing-fails}
 use Rattle.jv_parse.proofs.ExprTurns.{Left-fails, post_start, post_fails, tail_at_shorter, chain_start, chain_fails, chain_is}
@@ -297,3 +298,38 @@ unary_of-returns-in-Some-clause-read t c = grind (arith, views)
 pub unary_of-returns-in-Some-past_sign-clause-read : goal.unary_of-returns-in-Some-past_sign-clause-read
 unfolding unary_at post_at unary_with
 unary_of-returns-in-Some-past_sign-clause-read t c = grind (arith, views)
+
+pub arguments_of-returns-clause-deep : goal.arguments_of-returns-clause-deep
+arguments_of-returns-clause-deep t c = grind (arith, common_steps)
+
+pub primary_of-returns-else-eq-2-clause-read : goal.primary_of-returns-else-eq-2-clause-read
+unfolding primary_at primary_with signed_with closed_at word_primary_at
+primary_of-returns-else-eq-2-clause-read t c = grind (arith, views)
+
+pub primary_of-returns-in_default-clause-read : goal.primary_of-returns-in_default-clause-read
+unfolding primary_at primary_with signed_with closed_at word_primary_at
+primary_of-returns-in_default-clause-read t c = grind (arith, views)
+
+pub primary_of-returns-then-eq-2-clause-read : goal.primary_of-returns-then-eq-2-clause-read
+unfolding primary_at primary_with signed_with closed_at word_primary_at
+primary_of-returns-then-eq-2-clause-read t c = grind (arith, views)
+
+pub primary_of-returns-then-eq-clause-read : goal.primary_of-returns-then-eq-clause-read
+unfolding primary_at primary_with signed_with closed_at word_primary_at
+primary_of-returns-then-eq-clause-read t c = grind (arith, views)
+
+pub primary_of-returns-then-levels-eq0-clause-read : goal.primary_of-returns-then-levels-eq0-clause-read
+unfolding primary_at primary_with signed_with closed_at word_primary_at
+primary_of-returns-then-levels-eq0-clause-read t c = grind (arith, views)
+
+pub primary_of-returns-then-number-gt2147483647-clause-read : goal.primary_of-returns-then-number-gt2147483647-clause-read
+unfolding primary_at primary_with signed_with closed_at word_primary_at
+primary_of-returns-then-number-gt2147483647-clause-read t c = grind (arith, views)
+
+pub word_primary_of-returns-in-None-clause-read : goal.word_primary_of-returns-in-None-clause-read
+unfolding word_primary_at named_at word_with
+word_primary_of-returns-in-None-clause-read t c = grind (arith, views)
+
+pub word_primary_of-returns-in_ok-new-in-Some-clause-read : goal.word_primary_of-returns-in_ok-new-in-Some-clause-read
+unfolding word_primary_at named_at word_with
+word_primary_of-returns-in_ok-new-in-Some-clause-read t c = grind (arith, views)

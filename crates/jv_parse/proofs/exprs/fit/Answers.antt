@@ -8,3 +8,6 @@ returns-clause-deep c = grind (arith, views)
 
 pub returns-clause-read : goal.returns-clause-read
 returns-clause-read c = grind (arith, views)
+
+pub returns-then-parts-levels-clause-read : goal.returns-then-parts-levels-clause-read
+returns-then-parts-levels-clause-read c = grind (arith, views)

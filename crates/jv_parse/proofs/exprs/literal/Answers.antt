@@ -31,3 +31,7 @@ returns-then-eq-4-clause-read c = grind (arith, views)
 pub returns-then-eq-clause-read : goal.returns-then-eq-clause-read
 unfolding literal
 returns-then-eq-clause-read c = grind (arith, views)
+
+pub returns-clause-read : goal.returns-clause-read
+unfolding literal
+returns-clause-read c = grind (arith, views)

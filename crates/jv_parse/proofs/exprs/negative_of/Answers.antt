@@ -8,3 +8,6 @@ leaf-requires c = grind (arith, views)
 
 pub returns-clause-read : goal.returns-clause-read
 returns-clause-read c = grind (arith, views)
+
+pub returns-then-number-gt2147483648-clause-read : goal.returns-then-number-gt2147483648-clause-read
+returns-then-number-gt2147483648-clause-read c = grind (arith, views)

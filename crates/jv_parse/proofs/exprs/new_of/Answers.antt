@@ -17,3 +17,7 @@ leaf-requires c = grind (arith, views)
 pub returns-clause-read : goal.returns-clause-read
 unfolding new_with
 returns-clause-read c = grind (arith, views)
+
+pub returns-then-room-eq0-clause-read : goal.returns-then-room-eq0-clause-read
+unfolding new_with
+returns-then-room-eq0-clause-read c = grind (arith, views)
