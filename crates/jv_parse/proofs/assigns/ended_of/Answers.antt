@@ -1,4 +1,4 @@
--- By `grind` at once, since a search finds nothing here.
+-- By `grind` at once, which is shorter than a search.
 use Rattle.std.proofs.Common.{arith}
 use Rattle.std.proofs.lemmas.Grind.{common_steps}
 use Rattle.jv_reading.specs.Exprs.{expr_at}

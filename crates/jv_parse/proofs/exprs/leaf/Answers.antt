@@ -1,4 +1,4 @@
--- By `grind` at once, since a search finds nothing here.
+-- By `grind` at once, which is shorter than a search.
 use Rattle.std.proofs.Common.{arith}
 use Rattle.jv_tree.proofs.ViewLaws.{views}
 use Rattle.jv_parse.proofs.exprs.leaf.Goals as goal
