@@ -54,11 +54,12 @@ fn message_of<'a>(
     let (place, label, rest) = name_of(tokens)?;
     let (_, rest) = mark_of(rest, Mark::OpenParen)?;
     let (carried, rest) = payload_of(alloc, rest)?;
+    let payload = types.kind_of(carried.as_slice());
+    drop(carried);
     let (_, rest) = mark_of(rest, Mark::CloseParen)?;
     let (direction, rest) = direction_of(rest)?;
     let (_, peer, rest) = name_of(rest)?;
     let (_, rest) = mark_of(rest, Mark::Semicolon)?;
-    let payload = types.kind_of(carried.as_slice());
     let message = Message {
         place,
         direction,
