@@ -17,12 +17,23 @@ use scr_tree::Local;
 use std::alloc::Global;
 
 /// A walk along a local protocol, which stands somewhere in it.
-#[derive(Drop)]
 pub struct Walk<'a> {
     alloc: Global,
     local: &'a Local,
     laid: Laying<'a>,
     standing: Standing,
+}
+
+// One call lets go of it, wherever a function ends.
+impl Drop for Walk<'_> {
+    fn drop(self) {
+        let Walk {
+            alloc: _,
+            local: _,
+            laid: _,
+            standing: _,
+        } = self;
+    }
 }
 
 /// Why a walk can't take a call. In both cases it stands where it stood.
