@@ -5,9 +5,16 @@ use mg_text::{List, Place, Text};
 use ts_tree::TypeName;
 
 /// A file: its declarations, in the order of the text.
-#[derive(Debug, Drop)]
+#[derive(Debug)]
 pub struct File {
     pub decls: List<Decl>,
+}
+
+// One call lets go of it, wherever a function ends.
+impl Drop for File {
+    fn drop(self) {
+        let File { decls: _ } = self;
+    }
 }
 
 /// A declaration of a file.
