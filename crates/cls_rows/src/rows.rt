@@ -43,7 +43,14 @@ fn plain_row(
         Plain::Go(_) => Ok(Some(frame)),
         _ => {
             let trade = plain_trade(plain);
-            settle(scene.max_stack, stacks, frame, trade.takes, trade.gives, slot)
+            settle(
+                scene.max_stack,
+                stacks,
+                frame,
+                trade.takes,
+                trade.gives,
+                slot,
+            )
         }
     }
 }
@@ -234,7 +241,14 @@ pub fn row(
         } => call_row(scene, stacks, frame, calling, class, method, slot),
         Action::Use(built) => {
             let trade = built_trade(built);
-            settle(scene.max_stack, stacks, frame, trade.takes, trade.gives, slot)
+            settle(
+                scene.max_stack,
+                stacks,
+                frame,
+                trade.takes,
+                trade.gives,
+                slot,
+            )
         }
     }
 }
