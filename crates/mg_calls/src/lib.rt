@@ -58,18 +58,6 @@ pub fn read_calls<'a>(
         let place = Place::start(file);
         return Err(CallsFault::TooLarge { place });
     }
-    read_lines(alloc, file, bytes)
-}
-
-// The same where the file isn't too large.
-fn read_lines<'a>(
-    alloc: Global,
-    file: u32,
-    bytes: &'a [u8],
-) -> Result<List<CallLine<'a>>, CallsFault>
-    requires { length bytes.now ≤ 1048576 }
-    ensures { IsRead file bytes.now result }
-{
     let mut calls = List::new(alloc);
     let mut rest = Some(bytes);
     let mut line: u32 = 1;

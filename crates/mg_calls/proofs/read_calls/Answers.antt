@@ -1,14 +1,14 @@
-use Rattle.std.proofs.Common.{◌≡◌, ◌∙◌, ap, sym, map, option_map, Option, List, ℕ, refl}
+use Rattle.std.proofs.Common.{◌≡◌, ◌∙◌, ap, sym, map, option_map, Option, List, ℕ, refl, arith}
 use Rattle.mg_calls.specs.Answer.{call_of}
 use Rattle.mg_calls.proofs.FileLemmas.{at_text, first_bad, left_end, silent_step, call_step, smaller}
-use Rattle.mg_calls.proofs.read_lines.Goals as goal
-use Rattle.mg_calls.proofs.read_lines.Goals.{in-Nothing, in-Call+in_ok-push-in-Call}
+use Rattle.mg_calls.proofs.read_calls.Goals as goal
+use Rattle.mg_calls.proofs.read_calls.Goals.{in-Nothing, in-Call+in_ok-push-in-Call}
 
 pub returns-in-Bad : goal.returns-in-Bad
 returns-in-Bad c =
     let left = at_text c.args.file c.args.bytes.now c.loop-rest.rest c.in-Some.text c.loop-rest.line (map call_of c.loop-rest.calls.items)
     c.in-Some.is c.loop-rest.invariant in (
-      c.requires,
+      (omega (arith, c.if-bytes-gt-MAX_BYTES.false)),
       first_bad c.args.file c.args.bytes.now c.in-Some.text.now c.loop-rest.line (map call_of c.loop-rest.calls.items) left
           c.line_end-end.result c.line_end-end.ensures.value c.in-Bad.ensures,
     )
@@ -31,7 +31,7 @@ loop-rest-preserved c =
 
 pub returns : goal.returns
 returns c = (
-  c.requires,
+  (omega (arith, c.if-bytes-gt-MAX_BYTES.false)),
   left_end c.args.file c.args.bytes.now _ c.loop-rest.line (map call_of c.loop-rest.calls.items)
       (ap (option_map (λ b. b.now)) c.in_default.is) c.loop-rest.invariant,
 )
