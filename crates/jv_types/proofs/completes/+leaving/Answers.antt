@@ -1,4 +1,5 @@
-use Rattle.std.proofs.Common.{◌≡◌, ◌||◌, not, map, true, false, IfOk, OnOk, refl, sym, ap, subst, ◌∙◌}
+use Rattle.std.proofs.Common.{◌≡◌, ◌||◌, not, map, true, false, IfOk, OnOk, refl, sym, ap, subst, ◌∙◌, arith}
+use Rattle.std.proofs.lemmas.Grind.{common_steps}
 use Rattle.std.specs.Option.{option_map}
 use Rattle.jv_tree.specs.declared.tree.StmtKind.TheVariants as kinds
 use Rattle.jv_tree.specs.Source.{Return}
@@ -234,3 +235,15 @@ pub leave_groups-returns-clause-exits : goal.leave_groups-returns-clause-exits
 leave_groups-returns-clause-exits t c =
     (groups_done c.args.groups.now c.loop-group.group-index c.loop-group-test.false (groups_of (map group_of c.args.groups.now))
     (met_at c.args.exits.now) (met_at c.loop-group.exits) c.loop-group.last c.loop-group.invariant).1
+
+pub leave_stmt-returns-in_err-jumps-in-Do-clause-exits : goal.leave_stmt-returns-in_err-jumps-in-Do-clause-exits
+leave_stmt-returns-in_err-jumps-in-Do-clause-exits t c = grind (arith, common_steps)
+
+pub leave_stmt-returns-in_err-jumps-in-Do-clause-through : goal.leave_stmt-returns-in_err-jumps-in-Do-clause-through
+leave_stmt-returns-in_err-jumps-in-Do-clause-through t c = grind (arith, common_steps)
+
+pub leave_stmt-returns-in_err-jumps-in-While-clause-exits : goal.leave_stmt-returns-in_err-jumps-in-While-clause-exits
+leave_stmt-returns-in_err-jumps-in-While-clause-exits t c = grind (arith, common_steps)
+
+pub leave_stmt-returns-in_err-jumps-in-While-clause-through : goal.leave_stmt-returns-in_err-jumps-in-While-clause-through
+leave_stmt-returns-in_err-jumps-in-While-clause-through t c = grind (arith, common_steps)

@@ -19,7 +19,7 @@ returns-in-Err-check_tables-clause-fault c =
     (λ f. later_as c.args.files.now c.args.typestates.now c.args.origins.now c.in-Ok.ensures.fine (program_in c.in-Ok.table)
     c.in-Ok.ensures.program (Some f)) c.in-Err-check_tables.wrong c.in-Err-check_tables.ensures.fault)
 
-pub returns-in-Ok-check_tables-clause-fine : goal.returns-in-Ok-check_tables-clause-fine
-returns-in-Ok-check_tables-clause-fine c =
+pub returns-clause-fine : goal.returns-clause-fine
+returns-clause-fine c =
     later_as c.args.files.now c.args.typestates.now c.args.origins.now c.in-Ok.ensures.fine (program_in c.in-Ok.table)
     c.in-Ok.ensures.program None c.in-Ok-check_tables.ensures.fine

@@ -1,4 +1,5 @@
-use Rattle.std.proofs.Common.{refl, ap, ◌∙◌}
+use Rattle.std.proofs.Common.{refl, ap, ◌∙◌, arith}
+use Rattle.std.proofs.lemmas.Grind.{common_steps}
 use Rattle.mg_text.specs.Interned.{with_text}
 use Rattle.jv_types.specs.Tables.{program_in}
 use Rattle.jv_types.proofs.Offering.{name_is, differ_is, not_noted, now_noted, met_step, all_met}
@@ -31,3 +32,6 @@ loop-protocol-preserved c =
     ∙ ap (with_text c.loop-protocol.met) (name_is t c.typestate.inside.name c.typestate.inside.states.items c.typestate.view_is
     c.as_str.result.now c.as_str.ensures)))
     ∙ c.loop-protocol.invariant
+
+pub returns : goal.returns
+returns c = grind (arith, common_steps)

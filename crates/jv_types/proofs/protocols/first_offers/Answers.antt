@@ -1,4 +1,5 @@
-use Rattle.std.proofs.Common.{ap, ◌∙◌}
+use Rattle.std.proofs.Common.{ap, ◌∙◌, arith}
+use Rattle.std.proofs.lemmas.Grind.{common_steps}
 use Rattle.mg_text.specs.Interned.{with_text}
 use Rattle.ts_tree.specs.View.{method_of}
 use Rattle.jv_types.specs.inner.Offering.{offers_seen}
@@ -35,3 +36,9 @@ loop-offer-preserved c =
           c.in_ok-fresh.ensures.new c.if-not-fresh.false (seen_push _ _ c.offer-item.result c.in_ok-push.ensures.items))
           ∙ c.loop-offer.invariant.firsts;
     }
+
+pub returns-clause-firsts : goal.returns-clause-firsts
+returns-clause-firsts c = grind (arith, common_steps)
+
+pub returns-clause-names : goal.returns-clause-names
+returns-clause-names c = grind (arith, common_steps)

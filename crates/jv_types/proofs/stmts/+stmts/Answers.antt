@@ -1,4 +1,5 @@
-use Rattle.std.proofs.Common.{◌≡◌, ◌-◌, drop, length, map, Some, None, refl, sym, ap, subst, ◌∙◌}
+use Rattle.std.proofs.Common.{◌≡◌, ◌-◌, drop, length, map, Some, None, refl, sym, ap, subst, ◌∙◌, arith}
+use Rattle.std.proofs.lemmas.Grind.{common_steps}
 use Rattle.std.proofs.lemmas.Result.{err_from_is_err_and}
 use Rattle.jv_tree.specs.declared.tree.StmtKind.TheVariants as kinds
 use Rattle.jv_tree.specs.View.{expr_of, stmt_of, stmts_of, group_of, groups_of}
@@ -243,3 +244,20 @@ check_inner-returns-clause-told t c =
     c.args.label.now _ (c.within-within.ensures c.args.locals.now) c.label_text.ensures)
     c.check_stmt.ensures.told
 
+pub check_stmt-returns-in_err-check_choice-in-Switch-clause-kept : goal.check_stmt-returns-in_err-check_choice-in-Switch-clause-kept
+check_stmt-returns-in_err-check_choice-in-Switch-clause-kept t c = grind (arith, common_steps)
+
+pub check_stmt-returns-in_err-check_expr-in-Eval-clause-kept : goal.check_stmt-returns-in_err-check_expr-in-Eval-clause-kept
+check_stmt-returns-in_err-check_expr-in-Eval-clause-kept t c = grind (arith, common_steps)
+
+pub check_stmt-returns-in_err-check_inner-in-Do-clause-kept : goal.check_stmt-returns-in_err-check_inner-in-Do-clause-kept
+check_stmt-returns-in_err-check_inner-in-Do-clause-kept t c = grind (arith, common_steps)
+
+pub check_stmt-returns-in_err-check_loop-in-While-clause-kept : goal.check_stmt-returns-in_err-check_loop-in-While-clause-kept
+check_stmt-returns-in_err-check_loop-in-While-clause-kept t c = grind (arith, common_steps)
+
+pub check_stmt-returns-in_err-check_stmt-in-Some-clause-kept : goal.check_stmt-returns-in_err-check_stmt-in-Some-clause-kept
+check_stmt-returns-in_err-check_stmt-in-Some-clause-kept t c = grind (arith, common_steps)
+
+pub check_stmt-returns-in_err-check_value-in-If-clause-kept : goal.check_stmt-returns-in_err-check_value-in-If-clause-kept
+check_stmt-returns-in_err-check_value-in-If-clause-kept t c = grind (arith, common_steps)
