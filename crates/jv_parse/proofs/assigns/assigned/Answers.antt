@@ -5,3 +5,6 @@ use Rattle.jv_parse.proofs.assigns.assigned.Goals as goal
 
 pub returns : goal.returns
 returns c = grind (arith, views)
+
+pub returns-then-target-levels : goal.returns-then-target-levels
+returns-then-target-levels c = grind (arith, views)

@@ -7,3 +7,7 @@ use Rattle.jv_parse.proofs.assigns.change_of.Goals as goal
 pub returns-in-Some-counter_of : goal.returns-in-Some-counter_of
 unfolding change_at
 returns-in-Some-counter_of c = grind (arith, views)
+
+pub returns : goal.returns
+unfolding change_at
+returns c = grind (arith, views)

@@ -8,3 +8,6 @@ assigned-requires-clause-value_deep c = grind (arith, views)
 
 pub returns : goal.returns
 returns c = grind (arith, views)
+
+pub returns-then-parts-levels : goal.returns-then-parts-levels
+returns-then-parts-levels c = grind (arith, views)

@@ -7,3 +7,7 @@ use Rattle.jv_parse.proofs.decls.decl_of.Goals as goal
 pub returns : goal.returns
 unfolding decl_at enum_at
 returns c = grind (arith, class_is)
+
+pub returns-in-Some : goal.returns-in-Some
+unfolding decl_at enum_at
+returns-in-Some c = grind (arith, class_is)

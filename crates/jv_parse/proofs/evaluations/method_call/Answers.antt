@@ -17,3 +17,12 @@ returns c =
 
 pub eval-requires : goal.eval-requires
 eval-requires c = grind (arith, kinds)
+
+pub print-requires : goal.print-requires
+print-requires c = grind (arith, kinds)
+
+pub returns-in_err-value : goal.returns-in_err-value
+returns-in_err-value c = grind (arith, kinds)
+
+pub returns-then-prints : goal.returns-then-prints
+returns-then-prints c = grind (arith, kinds)

@@ -19,3 +19,7 @@ returns-in_err-value c = grind (arith, method_is, field_is)
 pub returns-then-is_sign : goal.returns-then-is_sign
 unfolding member_at member_with
 returns-then-is_sign c = grind (arith, method_is, field_is)
+
+pub returns-then-is_static : goal.returns-then-is_static
+unfolding member_at member_with
+returns-then-is_static c = grind (arith, method_is, field_is)

@@ -8,6 +8,7 @@ use Rattle.jv_tree.proofs.ViewLaws.{views}
 use Rattle.jv_tree.specs.View.{stmt_of, group_of}
 use Rattle.jv_reading.specs.Stmts.{block_with, else_with, if_with, labelled_with, loop_with, stmt_with, switch_with, is_case, goes_on}
 use Rattle.jv_reading.specs.Stmts.{stmt_at, item_with, items_with, group_with, groups_with}
+use Rattle.jv_parse.specs.inner.Loops.{do_at, while_at}
 use Rattle.jv_parse.proofs.StmtTurns.{do_is, while_is, items_start, groups_start, item_at_shorter, group_at_shorter}
 use Rattle.jv_parse.proofs.ExprTurns.{Left-fails}
 use Rattle.jv_parse.proofs.stmts.+nest_stmts.Goals as goal
@@ -113,3 +114,46 @@ stmt_of-returns-in_err-rest t c = grind (arith, common_steps)
 pub switch_of-returns : goal.switch_of-returns
 unfolding switch_with
 switch_of-returns t c = grind (arith, views)
+
+pub do_of-returns : goal.do_of-returns
+unfolding do_at
+do_of-returns t c = grind (arith, common_steps)
+
+pub group_of-returns-in_default : goal.group_of-returns-in_default
+unfolding group_with
+group_of-returns-in_default t c = grind (arith, views)
+
+pub inner_of-returns : goal.inner_of-returns
+inner_of-returns t c = grind (arith, common_steps)
+
+pub stmt_of-returns : goal.stmt_of-returns
+unfolding stmt_at stmt_with labelled_with
+stmt_of-returns t c = grind (arith, common_steps)
+
+pub stmt_of-returns-then-is_label : goal.stmt_of-returns-then-is_label
+unfolding stmt_at stmt_with labelled_with
+stmt_of-returns-then-is_label t c = grind (arith, common_steps)
+
+pub stmt_of-returns-then-is_sign : goal.stmt_of-returns-then-is_sign
+unfolding stmt_at stmt_with labelled_with
+stmt_of-returns-then-is_sign t c = grind (arith, common_steps)
+
+pub stmt_of-returns-then-is_sign-2 : goal.stmt_of-returns-then-is_sign-2
+unfolding stmt_at stmt_with labelled_with
+stmt_of-returns-then-is_sign-2 t c = grind (arith, common_steps)
+
+pub stmt_of-returns-then-is_word : goal.stmt_of-returns-then-is_word
+unfolding stmt_at stmt_with labelled_with
+stmt_of-returns-then-is_word t c = grind (arith, common_steps)
+
+pub stmt_of-returns-then-is_word-2 : goal.stmt_of-returns-then-is_word-2
+unfolding stmt_at stmt_with labelled_with
+stmt_of-returns-then-is_word-2 t c = grind (arith, common_steps)
+
+pub stmt_of-returns-then-is_word-4 : goal.stmt_of-returns-then-is_word-4
+unfolding stmt_at stmt_with labelled_with
+stmt_of-returns-then-is_word-4 t c = grind (arith, common_steps)
+
+pub while_of-returns : goal.while_of-returns
+unfolding while_at
+while_of-returns t c = grind (arith, common_steps)
