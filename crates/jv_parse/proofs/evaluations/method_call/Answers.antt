@@ -23,6 +23,3 @@ print-requires c = grind (arith, kinds)
 
 pub returns-in_err-value : goal.returns-in_err-value
 returns-in_err-value c = grind (arith, kinds)
-
-pub returns-then-prints : goal.returns-then-prints
-returns-then-prints c = grind (arith, kinds)

@@ -130,10 +130,6 @@ pub stmt_of-returns : goal.stmt_of-returns
 unfolding stmt_at stmt_with labelled_with
 stmt_of-returns t c = grind (arith, common_steps)
 
-pub stmt_of-returns-then-is_label : goal.stmt_of-returns-then-is_label
-unfolding stmt_at stmt_with labelled_with
-stmt_of-returns-then-is_label t c = grind (arith, common_steps)
-
 pub stmt_of-returns-then-is_sign : goal.stmt_of-returns-then-is_sign
 unfolding stmt_at stmt_with labelled_with
 stmt_of-returns-then-is_sign t c = grind (arith, common_steps)
