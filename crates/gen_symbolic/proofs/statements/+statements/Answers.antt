@@ -1,8 +1,8 @@
-use Rattle.std.proofs.Common.{arith, map, length, ◌∙◌}
+use Rattle.std.proofs.Common.{arith, ap, map, length, ◌∙◌}
 use Rattle.std.proofs.lemmas.Result.{on_ok_weaker}
 use Rattle.jv_core.specs.View.{expr_of, stmt_of, stmts_of}
 use Rattle.gen_expressions.specs.Held.{draft_in, method_in}
-use Rattle.gen_symbolic.specs.inner.Held.{around_of}
+use Rattle.gen_symbolic.specs.inner.Held.{around_of, with_slot}
 use Rattle.gen_symbolic.proofs.Stating.{written_more, groups_more, switch_is}
 use Rattle.gen_symbolic.proofs.statements.+statements.Goals as goal
 
@@ -26,9 +26,10 @@ statements-loop-stmt-preserved t c =
     written_more s.core.now (method_in s) (around_of c.args.around.now) c.args.locals.now c.loop-stmt.locals
     (stmts_of (map stmt_of c.args.stmts.now)) (draft_in s c.args.draft.now) (draft_in s c.loop-stmt.draft) c.args.stmts.now
     c.loop-stmt.stmt-index
-    c.loop-stmt.invariant c.stmt-item.result c.statement.new.locals c.declare_local.new.locals (draft_in s c.statement.new.draft)
+    c.loop-stmt.invariant c.stmt-item.result c.statement.new.locals c.declare.new.locals (draft_in s c.statement.new.draft)
     (omega arith)
-    c.stmt-item.is c.in_ok-statement.ensures.draft c.in_ok-statement.ensures.kept c.in_ok-declare_local.ensures
+    c.stmt-item.is c.in_ok-statement.ensures.draft c.in_ok-statement.ensures.kept
+    (c.in_ok-declare.ensures ∙ ap (λ o. with_slot o c.statement.new.locals) c.declared.ensures)
 
 pub switch-returns-clause-draft : goal.switch-returns-clause-draft
 switch-returns-clause-draft t c =
