@@ -40,10 +40,16 @@ pub enum Operand<'a> {
 }
 
 /// An instruction: its opcode, and what it works with. A constant of its own has the opcode of `ldc`.
-#[derive(Drop)]
 pub struct Symbolic<'a> {
     pub op: u8,
     pub operand: Operand<'a>,
+}
+
+// One call lets go of it, wherever a function ends.
+impl Drop for Symbolic<'_> {
+    fn drop(self) {
+        let Symbolic { op: _, operand: _ } = self;
+    }
 }
 
 /// The member that a method of `Session` is.
