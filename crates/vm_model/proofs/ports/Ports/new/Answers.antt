@@ -4,6 +4,3 @@ use Rattle.vm_model.proofs.ports.Ports.new.Goals as goal
 
 pub loop-preserved : goal.loop-preserved
 loop-preserved c = grind (arith, common_steps)
-
-pub returns : goal.returns
-returns c = grind (arith, common_steps)
