@@ -9,7 +9,7 @@ use Rattle.vm_model.specs.Program.{MethodOf, ClassOf}
 use Rattle.vm_model.specs.Links.{Flaw, Declared, Outline, field_made, lower, least, some_in}
 use Rattle.vm_load.specs.declared.fault.LoadFault.{LoadFault}
 use Rattle.vm_load.specs.declared.fault.LoadFault.TheVariants as faults
-use Rattle.vm_load.specs.Faults.{IsFlaw, Tells, flaw_of}
+use Rattle.vm_load.specs.Faults.{Tells, flaw_of}
 use Rattle.vm_load.proofs.Codes.{drop_whole}
 use Rattle.vm_load.proofs.Lower.{lower-none, lower-assoc, least-append}
 
@@ -22,14 +22,6 @@ told_flaw (faults.BadDescriptor name) wanted h m = sym h
 told_flaw (faults.NoCode name) wanted h m = sym h
 told_flaw faults.Memory wanted h m = absurd (m refl)
 
-is_flaw_of : (f : LoadFault) (flaw : Flaw) → IsFlaw f flaw → (f ≡ faults.Memory → ⊥) → flaw_of f ≡ Some flaw
-is_flaw_of (faults.DuplicateClass name) flaw h m = h
-is_flaw_of (faults.UnknownClass name) flaw h m = h
-is_flaw_of (faults.UnknownMember name) flaw h m = h
-is_flaw_of (faults.BadDescriptor name) flaw h m = h
-is_flaw_of (faults.NoCode name) flaw h m = h
-is_flaw_of faults.Memory flaw h m = absurd (m refl)
-
 -- what is noted of it
 pub noted_told : (r : Result (Unit {0}) Memory) (f : LoadFault) (best new wanted : Option Flaw) → Tells (Err f) wanted →
     OnOk r (new ≡ lower best (flaw_of f)) → IfOk r (λ _. f ≡ faults.Memory → ⊥) → OnOk r (new ≡ lower best wanted)
@@ -38,11 +30,6 @@ noted_told (Err x) f best new wanted h e m = tt
 
 pub noted_none : (best wanted : Option Flaw) → wanted ≡ None → best ≡ lower best wanted
 noted_none best wanted h = sym (lower-none best) ∙ ap (λ o. lower best o) (sym h)
-
-pub noted_flaw : (r : Result (Unit {0}) Memory) (f : LoadFault) (best new : Option Flaw) (flaw : Flaw) → IsFlaw f flaw →
-    OnOk r (new ≡ lower best (flaw_of f)) → IfOk r (λ _. f ≡ faults.Memory → ⊥) → OnOk r (new ≡ lower best (Some flaw))
-noted_flaw (Ok b) f best new flaw h e m = e ∙ ap (λ o. lower best o) (is_flaw_of f flaw h m)
-noted_flaw (Err x) f best new flaw h e m = tt
 
 module _ {A : Type 0} (xs : List A) (k : ℕ) (d : A) (lt : k < length xs) where
   cut : drop k xs ≡ get_or xs k d ∷ drop (k + 1) xs
