@@ -6,7 +6,7 @@ ghost use Rattle.use_rules.specs.Elements.{marked, none};
 ghost use Rattle.use_rules.specs.State.{joined};
 ghost use Rattle.use_flow.specs.inner.Values.{yes_of, no_of};
 
-use jv_core::Var;
+use jv_core::{CoreVar, Var};
 use mg_sets::StateSet;
 use mg_text::Memory;
 use std::alloc::Global;
@@ -38,6 +38,14 @@ pub(crate) struct Arguments {
 pub(crate) struct NullTest {
     pub variable: Var,
     pub holds: bool,
+}
+
+/// What a method is called on: a variable, the own object, or nothing.
+#[derive(Clone, Copy)]
+pub(crate) enum CallForm {
+    Protocol(CoreVar),
+    Helper,
+    Static,
 }
 
 impl Ways {

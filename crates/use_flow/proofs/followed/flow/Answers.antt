@@ -4,7 +4,7 @@ use Rattle.std.proofs.lemmas.Result.{IfOk-weaker}
 use Rattle.jv_core.specs.View.{method_of}
 use Rattle.use_flow.specs.View.{log_of}
 use Rattle.use_flow.proofs.Flowing.{flow_is}
-use Rattle.use_flow.proofs.followed.follow.Goals as goal
+use Rattle.use_flow.proofs.followed.flow.Goals as goal
 
 pub returns-clause-flows : goal.returns-clause-flows
 returns-clause-flows c =

@@ -2,7 +2,7 @@ use Rattle.std.proofs.Common.{◌≡◌, drop, map}
 use Rattle.jv_core.specs.View.{field_of}
 use Rattle.use_flow.specs.inner.Fields.{key_in}
 use Rattle.use_flow.specs.inner.Followed.{seen, with_fields_from}
-use Rattle.use_flow.proofs.scene.Scene.fill_these.Given as goal
+use Rattle.use_flow.proofs.scene.Scene.fill_fields.Given as goal
 
 abbrev pub invariant-loop-field : goal.invariant-loop-field
 invariant-loop-field l =
