@@ -1,13 +1,23 @@
 //! An answer as it is put together, piece by piece.
 
-use mg_text::{Memory, Place};
+use mg_text::{Memory, Place, Text};
 use std::alloc::Global;
 use std::fmt::{Debug, Display};
 
 /// The text of an answer so far.
-#[derive(Drop)]
+///
+/// What adds to it returns nothing. A piece for which memory lacks is left out, and `into_text` tells
+/// that memory lacked.
 pub struct Answer {
     text: String,
+    /// Whether memory ever lacked.
+    failed: bool,
+}
+
+impl Drop for Answer {
+    fn drop(self) {
+        let Answer { text: _, failed: _ } = self;
+    }
 }
 
 impl Answer {
@@ -15,91 +25,109 @@ impl Answer {
     pub fn new(alloc: Global) -> Answer {
         Answer {
             text: String::new(alloc),
+            failed: false,
         }
+    }
+
+    /// Takes down that memory lacked for what was to be added.
+    pub fn fail(&mut self) {
+        self.failed = true;
     }
 
     /// Adds a piece.
-    pub fn add(&mut self, piece: &str) -> Result<(), Memory> {
-        self.text.push_str(piece)?;
-        Ok(())
+    pub fn add(&mut self, piece: &str) {
+        if self.text.push_str(piece).is_err() {
+            self.failed = true;
+        }
     }
 
     /// Adds two pieces.
-    pub fn pair(&mut self, first: &str, second: &str) -> Result<(), Memory> {
-        self.add(first)?;
-        self.add(second)
+    pub fn pair(&mut self, first: &str, second: &str) {
+        self.add(first);
+        self.add(second);
     }
 
     /// Goes on to the next line, where there is one before.
-    pub fn line(&mut self) -> Result<(), Memory> {
-        if self.text.is_empty() {
-            return Ok(());
+    pub fn line(&mut self) {
+        if !self.text.is_empty() {
+            self.add("\n");
         }
-        self.add("\n")
+    }
+
+    /// Adds a text in a format. `write!` calls it.
+    pub fn write_fmt<T: Display + Drop>(&mut self, text: T) {
+        if self.text.write_fmt(text).is_err() {
+            self.failed = true;
+        }
     }
 
     /// Adds a value as it is shown.
-    pub fn show<T: Display>(&mut self, value: &T) -> Result<(), Memory> {
-        write!(self.text, "{value}")?;
-        Ok(())
+    pub fn show<T: Display>(&mut self, value: &T) {
+        write!(self, "{value}");
     }
 
     /// Adds a value as it is told whole.
-    pub fn tell<T: Debug>(&mut self, value: &T) -> Result<(), Memory> {
-        write!(self.text, "{value:?}")?;
-        Ok(())
+    pub fn tell<T: Debug>(&mut self, value: &T) {
+        write!(self, "{value:?}");
     }
 
     /// Adds a number in hexadecimal, of two digits at least.
-    pub fn hexadecimal(&mut self, number: u32) -> Result<(), Memory> {
-        write!(self.text, "{number:02x}")?;
-        Ok(())
+    pub fn hexadecimal(&mut self, number: u32) {
+        write!(self, "{number:02x}");
     }
 
     /// Adds a line and a column.
-    pub fn place(&mut self, place: Place) -> Result<(), Memory> {
-        self.show(&place.line)?;
-        self.add(":")?;
-        self.show(&place.column)
+    pub fn place(&mut self, place: Place) {
+        let Place { line, column, .. } = place;
+        write!(self, "{line}:{column}");
+    }
+
+    /// Adds a text, or fails where memory lacked to make it.
+    pub fn made(&mut self, text: Result<Text, Memory>) {
+        match text {
+            Ok(text) => self.add(text.as_str()),
+            Err(Memory) => self.fail(),
+        }
+    }
+
+    /// Adds a fault as `LINE:COLUMN: KIND NAME`, out of what it tells whole. The fault `Memory` has
+    /// no text: the answer fails.
+    pub fn fault<F: Debug>(&mut self, fault: &F) {
+        match told(*self.text.allocator(), fault) {
+            Ok(whole) => self.add_fault(whole.as_str()),
+            Err(Memory) => self.fail(),
+        }
+    }
+
+    // Adds a fault that is told whole.
+    fn add_fault(&mut self, whole: &str) {
+        if whole == "Memory" {
+            return self.fail();
+        }
+        self.pair(between(whole, "line: ", ","), ":");
+        self.pair(between(whole, "column: ", " "), ": ");
+        self.add(front(whole, " "));
+        let name = between(whole, "text: \"", "\"");
+        if !name.is_empty() {
+            self.pair(" ", name);
+        }
     }
 
     /// The whole text.
-    pub fn into_text(self) -> String {
-        let Answer { text } = self;
-        text
+    ///
+    /// # Errors
+    /// `Memory` where memory ever lacked.
+    pub fn into_text(self) -> Result<String, Memory> {
+        let Answer { text, failed } = self;
+        if failed { Err(Memory) } else { Ok(text) }
     }
-}
-
-/// A text as an answer.
-pub fn plain(alloc: Global, text: &str) -> Result<String, Memory> {
-    let mut answer = Answer::new(alloc);
-    answer.add(text)?;
-    Ok(answer.into_text())
 }
 
 /// A value told whole.
 pub fn told<T: Debug>(alloc: Global, value: &T) -> Result<String, Memory> {
     let mut answer = Answer::new(alloc);
-    answer.tell(value)?;
-    Ok(answer.into_text())
-}
-
-/// A fault as `LINE:COLUMN: KIND NAME`, out of what it tells whole.
-pub fn fault_text<F: Debug>(alloc: Global, fault: &F) -> Result<String, Memory> {
-    let whole = told(alloc, fault)?;
-    let whole = whole.as_str();
-    let mut answer = Answer::new(alloc);
-    answer.add(between(whole, "line: ", ","))?;
-    answer.add(":")?;
-    answer.add(between(whole, "column: ", " "))?;
-    answer.add(": ")?;
-    answer.add(front(whole, " "))?;
-    let name = between(whole, "text: \"", "\"");
-    if !name.is_empty() {
-        answer.add(" ")?;
-        answer.add(name)?;
-    }
-    Ok(answer.into_text())
+    answer.tell(value);
+    answer.into_text()
 }
 
 // What stands in a text between two others.

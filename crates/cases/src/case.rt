@@ -2,6 +2,7 @@
 
 ghost use Rattle.std.specs.Prelude.{◌≡◌, ◌↔◌, IsTrue};
 
+use crate::escapes::Spelled;
 use mg_text::Memory;
 use std::alloc::Global;
 
@@ -9,16 +10,16 @@ use std::alloc::Global;
 #[derive(Drop)]
 pub struct Case {
     pub name: String,
-    pub given: Vec<u8>,
-    pub wanted: Vec<u8>,
+    pub given: Spelled,
+    pub wanted: Spelled,
 }
 
 impl Case {
     /// Whether an answer is the wanted one.
     pub fn wants(&self, answer: &str) -> bool
-        ensures { IsTrue result ↔ (self.now.wanted.items ≡ answer.now) }
+        ensures { IsTrue result ↔ (self.now.wanted.bytes.items ≡ answer.now) }
     {
-        self.wanted.as_slice() == answer.as_bytes()
+        self.wanted.bytes.as_slice() == answer.as_bytes()
     }
 }
 

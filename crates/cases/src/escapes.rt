@@ -1,33 +1,127 @@
 //! What a line of a case spells: itself, but for what its backslashes begin.
-//! Each function appends to what was spelled before, and answers `None` or false where the form is wrong.
+//! What adds to the bytes answers `None` or false where the form is wrong.
 
-use std::alloc::AllocError;
+use std::alloc::{AllocError, Global};
 
-/// Appends what a line spells.
-pub fn spell(out: &mut Vec<u8>, line: &str) -> Result<bool, AllocError> {
-    let mut rest = line;
-    for _ in 0..line.len() {
-        let Some((front, behind)) = rest.split_once('\\') else {
-            break;
-        };
-        out.extend_from_slice(front.as_bytes())?;
-        rest = match spell_escape(out, behind)? {
-            Some(rest) => rest,
-            None => return Ok(false),
-        };
-    }
-    out.extend_from_slice(rest.as_bytes())?;
-    Ok(true)
+/// Bytes that lines spell.
+#[derive(Drop)]
+pub struct Spelled {
+    pub bytes: Vec<u8>,
+    /// Whether memory ever lacked for what was to be added.
+    failed: bool,
 }
 
-// Appends what stands behind a backslash, and answers the rest of the line.
-fn spell_escape<'a>(out: &mut Vec<u8>, text: &'a str) -> Result<Option<&'a str>, AllocError> {
-    match repeated_part(text) {
-        Some((part, rest)) => {
-            let is_spelled = spell_repeated(out, part)?;
-            Ok(is_spelled.then_some(rest))
+impl Spelled {
+    /// No bytes.
+    pub fn new(alloc: Global) -> Spelled {
+        Spelled {
+            bytes: Vec::new(alloc),
+            failed: false,
         }
-        None => spell_byte(out, text),
+    }
+
+    /// Adds bytes as they are.
+    pub fn add(&mut self, bytes: &[u8]) {
+        if self.bytes.extend_from_slice(bytes).is_err() {
+            self.failed = true;
+        }
+    }
+
+    /// Adds what a line spells, and answers whether it is in form.
+    ///
+    /// # Errors
+    /// Memory ever lacked.
+    pub fn spell(&mut self, line: &str) -> Result<bool, AllocError> {
+        let is_formed = self.add_line(line);
+        if self.failed {
+            return Err(AllocError);
+        }
+        Ok(is_formed)
+    }
+
+    fn add_line(&mut self, line: &str) -> bool {
+        let mut rest = line;
+        for _ in 0..line.len() {
+            let Some((front, behind)) = rest.split_once('\\') else {
+                break;
+            };
+            self.add(front.as_bytes());
+            rest = match self.add_escape(behind) {
+                Some(rest) => rest,
+                None => return false,
+            };
+        }
+        self.add(rest.as_bytes());
+        true
+    }
+
+    // Adds what stands behind a backslash, and answers the rest of the line.
+    fn add_escape<'a>(&mut self, text: &'a str) -> Option<&'a str> {
+        match repeated_part(text) {
+            Some((part, rest)) => self.add_repeated(part).then_some(rest),
+            None => self.add_byte(text),
+        }
+    }
+
+    fn add_repeated(&mut self, repeated: Repeated<'_>) -> bool {
+        for number in 0..repeated.count {
+            let is_formed = if repeated.is_numbered {
+                self.add_numbered(repeated.part, number)
+            } else {
+                self.add_part(repeated.part)
+            };
+            if !is_formed {
+                return false;
+            }
+        }
+        true
+    }
+
+    // Adds a part with a number in the place of each `@`.
+    fn add_numbered(&mut self, part: &str, number: u32) -> bool {
+        let Ok(number) = number.to_string(*self.bytes.allocator()) else {
+            self.failed = true;
+            return true;
+        };
+        for (place, piece) in part.split('@').enumerate() {
+            if place > 0 {
+                self.add(number.as_bytes());
+            }
+            if !self.add_part(piece) {
+                return false;
+            }
+        }
+        true
+    }
+
+    // Adds a part, in which nothing is repeated.
+    fn add_part(&mut self, part: &str) -> bool {
+        let mut rest = part;
+        for _ in 0..part.len() {
+            let Some((front, behind)) = rest.split_once('\\') else {
+                break;
+            };
+            self.add(front.as_bytes());
+            rest = match self.add_byte(behind) {
+                Some(rest) => rest,
+                None => return false,
+            };
+        }
+        self.add(rest.as_bytes());
+        true
+    }
+
+    // Adds the one byte or none that stands behind a backslash, and answers the rest of the line.
+    fn add_byte<'a>(&mut self, text: &'a str) -> Option<&'a str> {
+        for (sign, spelled) in ESCAPES {
+            if let Some(rest) = text.strip_prefix(sign) {
+                self.add(spelled);
+                return Some(rest);
+            }
+        }
+        let (byte, rest) = hexadecimal(text)?;
+        self.add(&[byte]);
+        Some(rest)
     }
 }
 
@@ -55,51 +149,6 @@ fn repeated_part(text: &str) -> Option<(Repeated<'_>, &str)> {
     Some((repeated, rest))
 }
 
-fn spell_repeated(out: &mut Vec<u8>, repeated: Repeated<'_>) -> Result<bool, AllocError> {
-    for number in 0..repeated.count {
-        let is_spelled = if repeated.is_numbered {
-            spell_numbered(out, repeated.part, number)?
-        } else {
-            spell_part(out, repeated.part)?
-        };
-        if !is_spelled {
-            return Ok(false);
-        }
-    }
-    Ok(true)
-}
-
-// Appends a part with a number in the place of each `@`.
-fn spell_numbered(out: &mut Vec<u8>, part: &str, number: u32) -> Result<bool, AllocError> {
-    let number = number.to_string(*out.allocator())?;
-    for (place, piece) in part.split('@').enumerate() {
-        if place > 0 {
-            out.extend_from_slice(number.as_bytes())?;
-        }
-        if !spell_part(out, piece)? {
-            return Ok(false);
-        }
-    }
-    Ok(true)
-}
-
-// Appends a part, in which nothing is repeated.
-fn spell_part(out: &mut Vec<u8>, part: &str) -> Result<bool, AllocError> {
-    let mut rest = part;
-    for _ in 0..part.len() {
-        let Some((front, behind)) = rest.split_once('\\') else {
-            break;
-        };
-        out.extend_from_slice(front.as_bytes())?;
-        rest = match spell_byte(out, behind)? {
-            Some(rest) => rest,
-            None => return Ok(false),
-        };
-    }
-    out.extend_from_slice(rest.as_bytes())?;
-    Ok(true)
-}
-
 const ESCAPES: [(char, &[u8]); 6] = [
     ('\\', b"\\"),
     ('n', b"\n"),
@@ -108,23 +157,6 @@ const ESCAPES: [(char, &[u8]); 6] = [
     ('0', b"\0"),
     ('-', b""),
 ];
-
-// Appends the one byte or none that stands behind a backslash, and answers the rest of the line.
-fn spell_byte<'a>(out: &mut Vec<u8>, text: &'a str) -> Result<Option<&'a str>, AllocError> {
-    for (sign, spelled) in ESCAPES {
-        if let Some(rest) = text.strip_prefix(sign) {
-            out.extend_from_slice(spelled)?;
-            return Ok(Some(rest));
-        }
-    }
-    match hexadecimal(text) {
-        Some((byte, rest)) => {
-            out.push(byte)?;
-            Ok(Some(rest))
-        }
-        None => Ok(None),
-    }
-}
 
 // The byte of the two digits behind an `x`, and what stands behind them.
 fn hexadecimal(text: &str) -> Option<(u8, &str)> {

@@ -22,6 +22,8 @@
 //! \[part*9]     the part 9 times; it may hold any of the above, but neither `]` nor a line's end
 //! \@[part*9]    the same with each `@` of the part written as the number of the time, from 0
 //! ```
+//!
+//! What is called `frame` is no case: what the cases behind it give stands in its text, at `BODY`.
 #![tactic(auto)]
 
 mod answer;
@@ -31,8 +33,7 @@ mod fault;
 mod reading;
 mod telling;
 
-pub use answer::{Answer, fault_text, plain, told};
-pub use case::{Case, File, files_of};
+pub use answer::{Answer, told};
+pub use case::{File, files_of};
 pub use fault::CasesFault;
-pub use reading::cases_of;
 pub use telling::{Answers, tell};

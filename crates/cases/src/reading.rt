@@ -1,7 +1,8 @@
 //! Reads the cases of a file, line by line.
 
-use crate::escapes::spell;
-use crate::{Case, CasesFault};
+use crate::CasesFault;
+use crate::case::Case;
+use crate::escapes::Spelled;
 use std::alloc::{AllocError, Global};
 
 /// What a line belongs to.
@@ -71,8 +72,8 @@ impl Reading {
         self.feeds = 0;
         self.cases.push(Case {
             name: String::from_str(alloc, name)?,
-            given: Vec::new(alloc),
-            wanted: Vec::new(alloc),
+            given: Spelled::new(alloc),
+            wanted: Spelled::new(alloc),
         })?;
         Ok(true)
     }
@@ -103,8 +104,8 @@ impl Reading {
         }
         self.feeds = 1;
         for _ in 0..feeds {
-            out.push(b'\n')?;
+            out.add(b"\n");
         }
-        spell(out, line)
+        out.spell(line)
     }
 }

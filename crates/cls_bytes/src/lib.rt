@@ -29,7 +29,7 @@ use mg_text::{Bytes, Memory};
 use std::alloc::Global;
 
 /// Why a class isn't written.
-#[derive(Clone, Copy, Debug, PartialEq, Eq)]
+#[derive(Clone, Copy)]
 pub enum WriteFault {
     /// The first code that can't be encoded is refused so.
     Code(CodeFault),

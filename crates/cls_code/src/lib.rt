@@ -25,7 +25,7 @@ use std::alloc::Global;
 pub const LONGEST: usize = 32767;
 
 /// Why instructions are no code, or bytes none. Offsets are counted in bytes from the start of the code.
-#[derive(Clone, Copy, Debug, PartialEq, Eq)]
+#[derive(Clone, Copy, Debug)]
 pub enum CodeFault {
     /// Over 32,767 bytes; the offset is 0.
     CodeTooLong { offset: u32 },

@@ -225,7 +225,7 @@ fn instr_at(alloc: Global, place: usize, bytes: &[u8]) -> Result<(Instr, usize),
 }
 
 /// Instructions, and the places at which they start.
-#[derive(Debug, Drop)]
+#[derive(Drop)]
 pub struct Placed {
     pub instrs: List<Instr>,
     pub starts: List<usize>,

@@ -109,7 +109,7 @@ fn put_instr(out: &mut Bytes, place: usize, instr: &Instr) -> Result<(), Memory>
 }
 
 /// Bytes of instructions, and the places at which these start.
-#[derive(Debug, Drop)]
+#[derive(Drop)]
 pub struct Written {
     pub bytes: Bytes,
     pub starts: List<usize>,

@@ -5,7 +5,7 @@ ghost use Rattle.cls_kinds.specs.Numbers.{joined, fits_in, is_plain};
 
 /// A kind of values: ints, texts, null, anything, and from 4 on the objects of a class, by the number
 /// of its name in a table whose first two names are those of `Object` and `PrintStream`.
-#[derive(Clone, Copy, Debug, PartialEq, Eq)]
+#[derive(Clone, Copy, PartialEq, Eq)]
 pub struct Kind(pub u32);
 
 impl Kind {

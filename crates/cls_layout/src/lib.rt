@@ -20,7 +20,7 @@ use std::alloc::Global;
 
 /// Why bytes are no class file. Fields stand from left to right as far as they can be laid out, and the first that is wrong decides.
 /// Offsets are those of fields, counted in bytes from the start of the file.
-#[derive(Clone, Copy, Debug, PartialEq, Eq)]
+#[derive(Clone, Copy, Debug)]
 pub enum ClassFault {
     /// The first four bytes aren't those of a class file.
     BadMagic { offset: u32 },

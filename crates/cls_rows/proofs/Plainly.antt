@@ -1,5 +1,5 @@
 -- What instructions take and give, one line for each that takes operands and gives one kind at most.
-use Rattle.std.proofs.Common.{◌≡◌, ℕ, ◌+◌, ◌-◌, Bool, List, [], ◌∷◌, length, map, Option, Some, refl, sym, ap, ◌∙◌, arith}
+use Rattle.std.proofs.Common.{◌≡◌, ℕ, ◌+◌, ◌-◌, Bool, List, [], ◌∷◌, length, map, Option, Some, refl, sym, ap, ◌∙◌, arith, Bor}
 use Rattle.std.specs.Prelude.{ℤ, codes}
 use Rattle.std.proofs.lemmas.List.{length-map}
 use Rattle.mg_text.specs.Call.{Name}
@@ -13,7 +13,13 @@ use Rattle.vm_model.specs.Actions.{Action, Operation, Comparison, Push, Pop, Com
 use Rattle.vm_model.specs.Actions.{Reference}
 use Rattle.vm_model.specs.Tests.{Needs, taking, needs, max_stack_in, number, text, Typed, Sorted}
 use Rattle.vm_model.specs.Tests as tests
+use Rattle.vm_actions.specs.declared.action.Sort.{Sort}
 use Rattle.vm_actions.specs.declared.action.Sort.TheVariants as sorts
+use Rattle.vm_actions.specs.declared.action.Constant.{Constant}
+use Rattle.vm_actions.specs.declared.action.Constant.TheVariants as constants
+use Rattle.vm_actions.specs.declared.action.Plain.{Plain}
+use Rattle.vm_actions.specs.declared.action.Plain.TheVariants as plains
+use Rattle.vm_actions.specs.Table.{constant_of, operation_of, comparison_of, plain_of}
 use Rattle.cls_verify.specs.Kinds.{Int, Text, Null, Instance, object}
 use Rattle.cls_verify.specs.Kinds as model
 use Rattle.cls_verify.specs.Rows.{Names, gives, locals_after, kind_of_value}
@@ -22,62 +28,10 @@ use Rattle.cls_kinds.specs.declared.kind.Kind.{Kind}
 use Rattle.cls_kinds.specs.Named.{AreNames, kind_of, kinds_of, or_unnamed}
 use Rattle.cls_rows.specs.declared.want.Want.{Want}
 use Rattle.cls_rows.specs.declared.want.Want.TheVariants as wants
+use Rattle.cls_rows.specs.Trades.{kind_number, int_want, text_want, object_want, stream_want, built_wants, built_kinds}
+use Rattle.cls_rows.specs.Trades.{constant_kind, plain_wants, plain_kinds, IsTrade}
 use Rattle.cls_rows.proofs.Alike.{AllAlike, any_alike, sort_alike, kind_alike}
 use Rattle.cls_rows.proofs.Settled.{IsPlain}
-
-abbrev pub kind_number : ℕ → Kind
-kind_number n = record { 0 = n }
-
-abbrev pub int_want : Want
-int_want = wants.Sorted sorts.Number
-
-abbrev pub text_want : Want
-text_want = wants.Of (kind_number 1)
-
-abbrev pub object_want : Want
-object_want = wants.Of (kind_number 4)
-
-abbrev pub stream_want : Want
-stream_want = wants.Of (kind_number 5)
-
--- what members of built-in classes take, and what they give
-abbrev pub built_wants : Built → List Want
-built_wants built.Init = object_want ∷ []
-built_wants built.Concat = text_want ∷ text_want ∷ []
-built_wants built.Equals = text_want ∷ object_want ∷ []
-built_wants built.ValueOfInt = int_want ∷ []
-built_wants built.ValueOfTruth = int_want ∷ []
-built_wants built.Out = []
-built_wants built.Println = stream_want ∷ text_want ∷ []
-built_wants built.Send = text_want ∷ text_want ∷ []
-built_wants built.SendInt = text_want ∷ text_want ∷ int_want ∷ []
-built_wants built.SendTruth = text_want ∷ text_want ∷ int_want ∷ []
-built_wants built.SendText = text_want ∷ text_want ∷ text_want ∷ []
-built_wants built.Look = text_want ∷ []
-built_wants built.Take = text_want ∷ text_want ∷ []
-built_wants built.TakeInt = text_want ∷ text_want ∷ []
-built_wants built.TakeTruth = text_want ∷ text_want ∷ []
-built_wants built.TakeText = text_want ∷ text_want ∷ []
-built_wants built.Refuse = text_want ∷ text_want ∷ []
-
-abbrev pub built_kinds : Built → List Kind
-built_kinds built.Init = []
-built_kinds built.Concat = kind_number 1 ∷ []
-built_kinds built.Equals = kind_number 0 ∷ []
-built_kinds built.ValueOfInt = kind_number 1 ∷ []
-built_kinds built.ValueOfTruth = kind_number 1 ∷ []
-built_kinds built.Out = kind_number 5 ∷ []
-built_kinds built.Println = []
-built_kinds built.Send = []
-built_kinds built.SendInt = []
-built_kinds built.SendTruth = []
-built_kinds built.SendText = []
-built_kinds built.Look = kind_number 1 ∷ []
-built_kinds built.Take = []
-built_kinds built.TakeInt = kind_number 0 ∷ []
-built_kinds built.TakeTruth = kind_number 0 ∷ []
-built_kinds built.TakeText = kind_number 1 ∷ []
-built_kinds built.Refuse = []
 
 module _ (names : List Name) (n : AreNames names) (p : Program) (class method : ℕ) (m : MethodOf) (there : method_at p class method
     ≡ Some m) where
@@ -216,3 +170,43 @@ module _ (names : List Name) (n : AreNames names) (p : Program) (class method : 
   built_plain built.Refuse =
       taking_plain (Use built.Refuse) (text_want ∷ text_want ∷ []) (text ∷ text ∷ []) ([]) (λ x. refl)
       (text_alike (text_want ∷ []) (text ∷ []) (text_alike ([]) ([]) tt)) tt (λ l t. refl) (λ l t. refl)
+
+  constant_said : (c : Constant) → kind_of names (constant_kind c) ≡ kind_of_value (constant_of c)
+  constant_said (constants.Int x) = refl
+  constant_said (constants.Text x) = refl
+  constant_said constants.Null = refl
+
+  pub trade_plain : (i : Plain) → IsTrade i → IsPlain names p class method m (plain_of i) (plain_wants i) (plain_kinds i)
+  trade_plain (plains.Push constant) t = push_plain (constant_of constant) (constant_kind constant) (constant_said constant)
+  trade_plain (plains.Load sort local) t = absurd t
+  trade_plain (plains.Store sort local) t = absurd t
+  trade_plain plains.Pop t = pop_plain
+  trade_plain plains.Double t = absurd t
+  trade_plain plains.Swap t = absurd t
+  trade_plain (plains.Compute operation) t = compute_plain (operation_of operation)
+  trade_plain plains.Negate t = negate_plain
+  trade_plain (plains.Increase local by) t = absurd t
+  trade_plain (plains.IfZero comparison target) t = if_zero_plain (comparison_of comparison) target
+  trade_plain (plains.IfBoth comparison target) t = if_both_plain (comparison_of comparison) target
+  trade_plain (plains.IfNull wanted target) t = if_null_plain wanted target
+  trade_plain (plains.Go target) t = absurd t
+  trade_plain (plains.Switch default low targets) t = switch_plain default low.now targets.now
+
+-- an instruction that is none of those that do more
+pub is_trade : (i : Plain) → ((sort : Sort) (local : ℕ) → i ≡ plains.Load sort local → ⊥) →
+    ((sort : Sort) (local : ℕ) → i ≡ plains.Store sort local → ⊥) → (i ≡ plains.Double → ⊥) → (i ≡ plains.Swap → ⊥) →
+    ((local : ℕ) (by : Bor ℤ) → i ≡ plains.Increase local by → ⊥) → ((target : ℕ) → i ≡ plains.Go target → ⊥) → IsTrade i
+is_trade (plains.Push constant) a b c d e f = tt
+is_trade (plains.Load sort local) a b c d e f = absurd (a sort local refl)
+is_trade (plains.Store sort local) a b c d e f = absurd (b sort local refl)
+is_trade plains.Pop a b c d e f = tt
+is_trade plains.Double a b c d e f = absurd (c refl)
+is_trade plains.Swap a b c d e f = absurd (d refl)
+is_trade (plains.Compute operation) a b c d e f = tt
+is_trade plains.Negate a b c d e f = tt
+is_trade (plains.Increase local by) a b c d e f = absurd (e local by refl)
+is_trade (plains.IfZero comparison target) a b c d e f = tt
+is_trade (plains.IfBoth comparison target) a b c d e f = tt
+is_trade (plains.IfNull wanted target) a b c d e f = tt
+is_trade (plains.Go target) a b c d e f = absurd (f target refl)
+is_trade (plains.Switch default low targets) a b c d e f = tt

@@ -1,4 +1,5 @@
 pub mod Wants
+pub mod Trades
 pub mod Settling
 pub mod Frames
 pub mod Changes

@@ -5,6 +5,7 @@ mod frame;
 mod locals;
 mod rows;
 mod settling;
+mod trades;
 mod want;
 
 pub use frame::{Frame, Scene};

@@ -7,7 +7,7 @@ ghost use Rattle.cls_kinds.specs.Stacks.{stack_at, Grows};
 ghost use Rattle.cls_rows.specs.Wants.{sorted};
 ghost use Rattle.cls_rows.specs.Changes.{CanRead, CanLoad, Loads, CanStore, Stores};
 
-use crate::frame::{Frame, Scene};
+use crate::frame::Frame;
 use crate::settling::settle_on;
 use crate::want::is_of_sort;
 use cls_kinds::{Kind, Stacks};
@@ -70,7 +70,7 @@ fn read(locals: &[Kind], sort: Sort, local: u8) -> Option<Kind>
 
 /// Pushes a local.
 pub(crate) fn load(
-    scene: Scene<'_>,
+    limit: usize,
     stacks: &mut Stacks,
     frame: Frame,
     sort: Sort,
@@ -78,16 +78,16 @@ pub(crate) fn load(
     slot: usize,
 ) -> Result<Option<Frame>, Memory>
     requires there { frame.operands < length stacks.old }
-    requires fits { length (stack_at stacks.old frame.operands) ≤ scene.max_stack }
+    requires fits { length (stack_at stacks.old frame.operands) ≤ limit }
     ensures grows { OnOk result (Grows stacks.old stacks.new) }
-    ensures loaded { IfOk result (λ o. MatchOption o (CanLoad stacks.old scene.entry.max_stack sort local frame → ⊥)
-        (λ g. Loads stacks.old stacks.new scene.entry.max_stack sort local frame g)) }
+    ensures loaded { IfOk result (λ o. MatchOption o (CanLoad stacks.old limit sort local frame → ⊥)
+        (λ g. Loads stacks.old stacks.new limit sort local frame g)) }
 {
     let Some(kind) = read(frame.locals.as_ref().as_slice(), sort, local) else {
         return Ok(None);
     };
     let below = frame.operands;
-    settle_on(scene, stacks, frame, below, Some(kind), slot)
+    settle_on(limit, stacks, frame, below, Some(kind), slot)
 }
 
 /// Takes the topmost operand into a local.

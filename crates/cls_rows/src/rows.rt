@@ -1,43 +1,24 @@
 //! A row for each action: what it takes, what it gives, and what it names.
 
 ghost use Rattle.std.specs.Prelude.{◌≡◌, ◌<◌, ◌≤◌, true, Some, length, slice_get, IfOk, OnOk, IfSome, IfNone};
-ghost use Rattle.std.specs.Prelude.{List};
-ghost use Rattle.mg_text.specs.Call.{Name as Named};
 ghost use Rattle.vm_model.specs.Actions as model;
-ghost use Rattle.vm_actions.specs.Table.{sort_of, calling_of, constant_of, plain_of, action_of};
+ghost use Rattle.vm_actions.specs.Table.{sort_of, calling_of, plain_of, action_of};
 ghost use Rattle.std.specs.Option.{option_map};
-ghost use Rattle.cls_verify.specs.Rows.{kind_of_value};
 ghost use Rattle.cls_kinds.specs.declared.kind.Kind.{Kind as Held};
 ghost use Rattle.cls_kinds.specs.Stacks.{stack_at, Grows};
-ghost use Rattle.cls_kinds.specs.Named.{kind_of};
 ghost use Rattle.cls_table.specs.declared.classes.MethodKinds.{MethodKinds as Method};
 ghost use Rattle.cls_rows.specs.Coming.{Comes, suits_in};
 
 use crate::frame::{Frame, Scene};
 use crate::locals::{increase, load, store};
 use crate::settling::{double, settle, settle_on, swap};
+use crate::trades::{built_trade, plain_trade};
 use crate::want::{Want, take_kinds};
 use cls_kinds::{Kind, Stacks};
 use cls_table::{ClassKinds, MethodKinds};
 use mg_text::Memory;
 use std::alloc::Global;
-use vm_actions::{Action, Calling, Constant, Plain, Sort};
-use vm_model::Built;
-
-const INT: Want = Want::Sorted(Sort::Number);
-
-const TEXT: Want = Want::Of(Kind::TEXT);
-
-/// The kind of a value that stands in the code.
-fn kind_of_constant(constant: Constant<'_>) -> Kind
-    ensures { (names : List Named) → kind_of names result ≡ kind_of_value (constant_of constant.entry) }
-{
-    match constant {
-        Constant::Int(_) => Kind::INT,
-        Constant::Text(_) => Kind::TEXT,
-        Constant::Null => Kind::NULL,
-    }
-}
+use vm_actions::{Action, Calling, Plain, Sort};
 
 /// An instruction that stays in its frame.
 fn plain_row(
@@ -54,26 +35,23 @@ fn plain_row(
     ensures comes { IfOk result (λ o. Comes scene.entry stacks.old stacks.new frame (plain_of plain.entry) o) }
 {
     match plain {
-        Plain::Push(constant) => {
-            let kind = kind_of_constant(constant);
-            settle(scene, stacks, frame, &[], Some(kind), slot)
-        }
-        Plain::Load(sort, local) => load(scene, stacks, frame, sort, local, slot),
+        Plain::Load(sort, local) => load(scene.max_stack, stacks, frame, sort, local, slot),
         Plain::Store(sort, local) => store(alloc, stacks, frame, sort, local),
-        Plain::Pop => settle(scene, stacks, frame, &[Want::Any], None, slot),
-        Plain::Double => double(scene, stacks, frame, slot),
-        Plain::Swap => swap(scene, stacks, frame, slot),
-        Plain::Compute(_) => settle(scene, stacks, frame, &[INT, INT], Some(Kind::INT), slot),
-        Plain::Negate => settle(scene, stacks, frame, &[INT], Some(Kind::INT), slot),
+        Plain::Double => double(scene.max_stack, stacks, frame, slot),
+        Plain::Swap => swap(scene.max_stack, stacks, frame, slot),
         Plain::Increase(local, _) => Ok(increase(frame, local)),
-        Plain::IfZero(_, _) => settle(scene, stacks, frame, &[INT], None, slot),
-        Plain::Switch { .. } => settle(scene, stacks, frame, &[INT], None, slot),
-        Plain::IfBoth(_, _) => settle(scene, stacks, frame, &[INT, INT], None, slot),
-        Plain::IfNull(_, _) => {
-            let wants = [Want::Sorted(Sort::Reference)];
-            settle(scene, stacks, frame, &wants, None, slot)
-        }
         Plain::Go(_) => Ok(Some(frame)),
+        _ => {
+            let trade = plain_trade(plain);
+            settle(
+                scene.max_stack,
+                stacks,
+                frame,
+                trade.takes,
+                trade.gives,
+                slot,
+            )
+        }
     }
 }
 
@@ -94,7 +72,7 @@ fn return_row(
         (None, None) => Ok(Some(frame)),
         (Some(sort), Some(kind)) => {
             let wants = [Want::Returned(sort, kind)];
-            settle(scene, stacks, frame, &wants, None, slot)
+            settle(scene.max_stack, stacks, frame, &wants, None, slot)
         }
         (None, Some(_)) | (Some(_), None) => Ok(None),
     }
@@ -132,7 +110,7 @@ fn read_row(
         return Ok(None);
     };
     let wants = [Want::Of(kept.kind)];
-    settle(scene, stacks, frame, &wants, Some(kind), slot)
+    settle(scene.max_stack, stacks, frame, &wants, Some(kind), slot)
 }
 
 /// Writes a field of the program's own class.
@@ -156,7 +134,7 @@ fn write_row(
         return Ok(None);
     };
     let wants = [Want::Of(kept.kind), Want::Of(kind)];
-    settle(scene, stacks, frame, &wants, None, slot)
+    settle(scene.max_stack, stacks, frame, &wants, None, slot)
 }
 
 /// Makes an object.
@@ -175,7 +153,7 @@ fn make_row(
     let Some(kept) = scene.program.class(class) else {
         return Ok(None);
     };
-    settle(scene, stacks, frame, &[], Some(kept.kind), slot)
+    settle(scene.max_stack, stacks, frame, &[], Some(kept.kind), slot)
 }
 
 /// Whether a method may be called so: on an object exactly where it isn't static, and then no
@@ -229,45 +207,7 @@ fn call_row(
     let Some(below) = take_kinds(stacks, frame.operands, called.takes.as_slice()) else {
         return Ok(None);
     };
-    settle_on(scene, stacks, frame, below, called.result, slot)
-}
-
-/// Uses a member of a built-in class.
-fn built_row(
-    scene: Scene<'_>,
-    stacks: &mut Stacks,
-    frame: Frame,
-    built: Built,
-    slot: usize,
-) -> Result<Option<Frame>, Memory>
-    requires there { frame.operands < length stacks.old }
-    requires fits { length (stack_at stacks.old frame.operands) ≤ scene.max_stack }
-    ensures grows { OnOk result (Grows stacks.old stacks.new) }
-    ensures comes { IfOk result (λ o. Comes scene.entry stacks.old stacks.new frame (model.Use built) o) }
-{
-    let object = Want::Of(Kind::OBJECT);
-    let stream = Want::Of(Kind::STREAM);
-    let int = Some(Kind::INT);
-    let text = Some(Kind::TEXT);
-    match built {
-        Built::Init => settle(scene, stacks, frame, &[object], None, slot),
-        Built::Concat => settle(scene, stacks, frame, &[TEXT, TEXT], text, slot),
-        Built::Equals => settle(scene, stacks, frame, &[TEXT, object], int, slot),
-        Built::ValueOfInt => settle(scene, stacks, frame, &[INT], text, slot),
-        Built::ValueOfTruth => settle(scene, stacks, frame, &[INT], text, slot),
-        Built::Out => settle(scene, stacks, frame, &[], Some(Kind::STREAM), slot),
-        Built::Println => settle(scene, stacks, frame, &[stream, TEXT], None, slot),
-        Built::Send => settle(scene, stacks, frame, &[TEXT, TEXT], None, slot),
-        Built::SendInt => settle(scene, stacks, frame, &[TEXT, TEXT, INT], None, slot),
-        Built::SendTruth => settle(scene, stacks, frame, &[TEXT, TEXT, INT], None, slot),
-        Built::SendText => settle(scene, stacks, frame, &[TEXT, TEXT, TEXT], None, slot),
-        Built::Look => settle(scene, stacks, frame, &[TEXT], text, slot),
-        Built::Take => settle(scene, stacks, frame, &[TEXT, TEXT], None, slot),
-        Built::TakeInt => settle(scene, stacks, frame, &[TEXT, TEXT], int, slot),
-        Built::TakeTruth => settle(scene, stacks, frame, &[TEXT, TEXT], int, slot),
-        Built::TakeText => settle(scene, stacks, frame, &[TEXT, TEXT], text, slot),
-        Built::Refuse => settle(scene, stacks, frame, &[TEXT, TEXT], None, slot),
-    }
+    settle_on(scene.max_stack, stacks, frame, below, called.result, slot)
 }
 
 /// What an instruction leaves of the kinds that it finds. None comes exactly where its row isn't
@@ -299,6 +239,16 @@ pub fn row(
             class,
             method,
         } => call_row(scene, stacks, frame, calling, class, method, slot),
-        Action::Use(built) => built_row(scene, stacks, frame, built, slot),
+        Action::Use(built) => {
+            let trade = built_trade(built);
+            settle(
+                scene.max_stack,
+                stacks,
+                frame,
+                trade.takes,
+                trade.gives,
+                slot,
+            )
+        }
     }
 }

@@ -3,7 +3,7 @@
 use mg_text::{Memory, Text};
 
 /// Why a program isn't verified.
-#[derive(Debug, Drop)]
+#[derive(Drop)]
 pub enum VerifyFault {
     /// This method has no typing, and it is the first such one, by the order of the classes and of
     /// their methods.

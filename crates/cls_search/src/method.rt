@@ -37,12 +37,12 @@ fn begun(alloc: Global, method: &LinkedMethod, kinds: &MethodKinds) -> Result<Fo
     requires some { 0 < length method.now.code.items }
     ensures { IfOk result (λ f. IsBegun (method_of method.now) kinds.now.takes.items f) }
 {
+    let row = first_row(alloc, method, kinds.takes.as_slice())?;
+    let locals = Rc::new(alloc, row)?;
     let count = method.code.len();
     let frames = no_frames(alloc, count)?;
     let waiting = Waiting::new(alloc, count)?;
     let stacks = Stacks::new(alloc, count.saturating_mul(2))?;
-    let row = first_row(alloc, method, kinds.takes.as_slice())?;
-    let locals = Rc::new(alloc, row)?;
     let mut found = Found {
         frames,
         waiting,

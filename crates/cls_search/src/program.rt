@@ -89,7 +89,9 @@ pub fn verify(alloc: Global, linked: &Linked) -> Result<(), VerifyFault>
 {
     let program = ProgramKinds::of(alloc, linked)?;
     let classes = linked.classes();
-    let first = first_place(alloc, &program, classes)?;
+    let first = first_place(alloc, &program, classes);
+    drop(program);
+    let first = first?;
     let Some(place) = first else {
         return Ok(());
     };

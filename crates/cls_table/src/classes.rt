@@ -40,11 +40,20 @@ pub struct ClassKinds {
 }
 
 /// A program in kinds.
-#[derive(Drop)]
 pub struct ProgramKinds {
     /// The names of classes, whose places number the kinds of objects.
     pub names: Names,
     pub classes: Vec<ClassKinds>,
+}
+
+// One call lets go of it, wherever a function ends.
+impl Drop for ProgramKinds {
+    fn drop(self) {
+        let ProgramKinds {
+            names: _,
+            classes: _,
+        } = self;
+    }
 }
 
 /// Counts one more, up to 2.

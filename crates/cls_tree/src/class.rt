@@ -56,7 +56,7 @@ pub struct Member {
 }
 
 /// A class file of version 49.0 (JVMS 4.1), with no interfaces.
-#[derive(Debug, Drop)]
+#[derive(Debug)]
 pub struct Class {
     pub pool: List<Const>,
     pub access: u16,
@@ -65,4 +65,19 @@ pub struct Class {
     pub fields: List<Member>,
     pub methods: List<Member>,
     pub attributes: List<Attr>,
+}
+
+// One call lets go of it, wherever a function ends.
+impl Drop for Class {
+    fn drop(self) {
+        let Class {
+            pool: _,
+            access: _,
+            this_class: _,
+            super_class: _,
+            fields: _,
+            methods: _,
+            attributes: _,
+        } = self;
+    }
 }

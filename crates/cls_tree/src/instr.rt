@@ -38,7 +38,7 @@ pub struct Instr {
 }
 
 /// What stands behind an opcode.
-#[derive(Clone, Copy, Debug, PartialEq, Eq)]
+#[derive(Clone, Copy, PartialEq, Eq)]
 pub enum Form {
     Nothing,
     /// A number of one byte.

@@ -5,7 +5,6 @@ use Rattle.jv_tree.specs.declared.tree.Op.{Op}
 use Rattle.jv_tree.specs.declared.tree.Op.TheVariants as ops
 use Rattle.jv_core.specs.declared.tree.Var.{Var}
 use Rattle.jv_core.specs.declared.tree.Var.TheVariants as vars
-use Rattle.jv_core.specs.declared.tree.CoreVar.{CoreVar}
 use Rattle.jv_core.specs.declared.program.CoreType.{CoreType}
 use Rattle.jv_core.specs.declared.program.CoreType.TheVariants as types
 use Rattle.jv_core.specs.Tree.{Expr, Int, Truth, Text, Null, Variable, Constant, Neg}
@@ -216,20 +215,11 @@ module _ (p : Program) (m : Method) where
   discard (Some types.Void) = skip
   discard _ = emit pop
 
-  abbrev pub binary_forms : (scope : List ℕ) → Op → (left right : Expr) → Forms
-  binary_forms scope o a b = binary o (compared a b) (forms scope a) (forms scope b) (type_of p m a) (type_of p m b)
-
   abbrev pub tested_binary : (scope : List ℕ) → Op → (left right : Expr) → (holds : Bool) → (label : ℕ) → Step
   tested_binary scope o a b = tested o (compared a b) (forms scope a) (forms scope b)
 
   abbrev pub summed : (scope : List ℕ) → (left right : Expr) → Step
   summed scope a b = plus (joins ops.Add (type_of p m a) (type_of p m b)) (forms scope a) (forms scope b) (type_of p m a) (type_of p m b)
-
-  abbrev pub called_on : (scope : List ℕ) → Var → (method : ℕ) → Exprs → Step
-  called_on scope x n args = variable scope x then arguments scope args then emit (invokevirtual (method_reference p n))
-
-  abbrev pub called_own : (scope : List ℕ) → (method : ℕ) → Exprs → Step
-  called_own scope n args = emit (aload 0) then arguments scope args then emit (invokespecial (method_reference p n))
 
   abbrev pub created : (class : ℕ) → Step
   created c = emit (new (class_name p c)) then emit dup then emit (invokespecial (init_of (class_name p c)))

@@ -5,7 +5,7 @@ ghost use Rattle.std.specs.Prelude.{◌≡◌, OnOk, not};
 ghost use Rattle.jv_core.specs.View.{expr_of};
 ghost use Rattle.gen_rules.specs.Templates.{compared};
 ghost use Rattle.gen_expressions.specs.Held.{draft_in, method_in};
-ghost use Rattle.gen_expressions.specs.Drafting.{emit, value, tested_binary, binary_forms, forms, jump, literal_jump, test, null_op};
+ghost use Rattle.gen_expressions.specs.Drafting.{emit, value, tested_binary, forms, jump, literal_jump, test, null_op};
 ghost use Rattle.gen_expressions.specs.Drafting.{compare_op, with_null, comparison, past};
 
 use crate::coder::{Coder, Draft};
@@ -90,25 +90,33 @@ impl<'a> Coder<'a> {
         ensures { OnOk result (draft_in self.now draft.new ≡ jump self.now.core.now (method_in self.now) locals.now
             (expr_of expr.now) holds label (draft_in self.now draft.old)) }
     {
-        match &expr.kind {
-            CoreExprKind::Truth(truth) => self.jump_literal(draft, *truth, holds, label),
-            CoreExprKind::Not(inner) => self.jump(draft, locals, inner, !holds, label),
-            CoreExprKind::Binary(op, left, right) => {
-                self.jump_operator(draft, locals, *op, left, right, holds, label)
-            }
-            CoreExprKind::Int(_) => self.jump_value(draft, locals, expr, holds, label),
-            CoreExprKind::Text(_) => self.jump_value(draft, locals, expr, holds, label),
-            CoreExprKind::Null => self.jump_value(draft, locals, expr, holds, label),
-            CoreExprKind::Var(_) => self.jump_value(draft, locals, expr, holds, label),
-            CoreExprKind::Constant { .. } => self.jump_value(draft, locals, expr, holds, label),
-            CoreExprKind::Neg(_) => self.jump_value(draft, locals, expr, holds, label),
-            CoreExprKind::Protocol { .. } => self.jump_value(draft, locals, expr, holds, label),
-            CoreExprKind::Helper { .. } => self.jump_value(draft, locals, expr, holds, label),
-            CoreExprKind::Static { .. } => self.jump_value(draft, locals, expr, holds, label),
-            CoreExprKind::Equals(_, _) => self.jump_value(draft, locals, expr, holds, label),
-            CoreExprKind::Concat(_, _) => self.jump_value(draft, locals, expr, holds, label),
-            CoreExprKind::Session { .. } => self.jump_value(draft, locals, expr, holds, label),
-            CoreExprKind::New(_) => self.jump_value(draft, locals, expr, holds, label),
+        match expr.kind {
+            CoreExprKind::Truth(truth) => self.jump_literal(draft, truth, holds, label),
+            CoreExprKind::Not(ref inner) => self.jump(draft, locals, inner, !holds, label),
+            CoreExprKind::Binary(op, ref left, ref right) => match op {
+                CoreOp::Add | CoreOp::Sub | CoreOp::Mul | CoreOp::Div | CoreOp::Rem => {
+                    self.jump_value(draft, locals, expr, holds, label)
+                }
+                CoreOp::Or | CoreOp::And | CoreOp::Eq | CoreOp::Ne => {
+                    self.jump_test(draft, locals, op, left, right, holds, label)
+                }
+                CoreOp::Lt | CoreOp::Le | CoreOp::Gt | CoreOp::Ge => {
+                    self.jump_test(draft, locals, op, left, right, holds, label)
+                }
+            },
+            CoreExprKind::Int(_)
+            | CoreExprKind::Text(_)
+            | CoreExprKind::Null
+            | CoreExprKind::Var(_)
+            | CoreExprKind::Constant { .. }
+            | CoreExprKind::Neg(_)
+            | CoreExprKind::Protocol { .. }
+            | CoreExprKind::Helper { .. }
+            | CoreExprKind::Static { .. }
+            | CoreExprKind::Equals(_, _)
+            | CoreExprKind::Concat(_, _)
+            | CoreExprKind::Session { .. }
+            | CoreExprKind::New(_) => self.jump_value(draft, locals, expr, holds, label),
         }
     }
 
@@ -128,16 +136,6 @@ impl<'a> Coder<'a> {
         Ok(())
     }
 
-    // A test of the value on top.
-    fn put_test(&self, draft: &mut Draft<'a>, holds: bool, label: u32) -> Result<(), Memory>
-        ensures { OnOk result (draft_in self.now draft.new ≡ emit (test holds label) (draft_in self.now draft.old)) }
-    {
-        if holds {
-            return self.put_jump(draft, IFNE, label);
-        }
-        self.put_jump(draft, IFEQ, label)
-    }
-
     // The value, and a test of it.
     #[cycle(expressions)]
     fn jump_value(
@@ -152,42 +150,15 @@ impl<'a> Coder<'a> {
             (value self.now.core.now (method_in self.now) locals.now (expr_of expr.now) (draft_in self.now draft.old))) }
     {
         self.value(draft, locals, expr)?;
-        self.put_test(draft, holds, label)
-    }
-
-    // An operator: its value is tested, or it is a test itself.
-    #[cycle(expressions)]
-    fn jump_operator(
-        &self,
-        draft: &mut Draft<'a>,
-        locals: &Locals,
-        op: CoreOp,
-        left: &'a CoreExpr,
-        right: &'a CoreExpr,
-        holds: bool,
-        label: u32,
-    ) -> Result<(), Memory>
-        ensures { OnOk result (draft_in self.now draft.new
-            ≡ (binary_forms self.now.core.now (method_in self.now) locals.now op (expr_of left.now) (expr_of right.now)).jump holds
-            label (draft_in self.now draft.old)) }
-    {
-        match op {
-            CoreOp::Add | CoreOp::Sub | CoreOp::Mul | CoreOp::Div | CoreOp::Rem => {
-                self.value_of_binary(draft, locals, op, left, right)?;
-                self.put_test(draft, holds, label)
-            }
-            CoreOp::Or | CoreOp::And | CoreOp::Eq | CoreOp::Ne => {
-                self.jump_binary(draft, locals, op, left, right, holds, label)
-            }
-            CoreOp::Lt | CoreOp::Le | CoreOp::Gt | CoreOp::Ge => {
-                self.jump_binary(draft, locals, op, left, right, holds, label)
-            }
+        if holds {
+            return self.put_jump(draft, IFNE, label);
         }
+        self.put_jump(draft, IFEQ, label)
     }
 
     /// A test with two operands.
     #[cycle(expressions)]
-    pub(crate) fn jump_binary(
+    pub(crate) fn jump_test(
         &self,
         draft: &mut Draft<'a>,
         locals: &Locals,

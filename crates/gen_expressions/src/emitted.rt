@@ -1,9 +1,9 @@
 //! Instructions for ints, texts, locals, fields and calls.
 
 ghost use Rattle.std.specs.Prelude.{◌≡◌, ◌≤◌, OnOk, pos};
-ghost use Rattle.gen_rules.specs.Symbolic.{push, push_truth, push_text, load, store, aload, is_reference, return_value, with_local};
-ghost use Rattle.gen_rules.specs.Symbolic.{Nothing, Field, Method};
-ghost use Rattle.gen_rules.specs.Members.{field_reference, method_reference};
+ghost use Rattle.gen_rules.specs.Symbolic.{push, push_truth, store, aload, is_reference, return_value, with_local};
+ghost use Rattle.gen_rules.specs.Symbolic.{Nothing, Field};
+ghost use Rattle.gen_rules.specs.Members.{field_reference};
 ghost use Rattle.gen_expressions.specs.Held.{draft_in, method_in};
 ghost use Rattle.gen_expressions.specs.Drafting.{emit, variable, store_in, text, discard};
 
@@ -15,7 +15,7 @@ use cls_tree::opcodes::{
     INVOKESTATIC, IRETURN, ISTORE, ISTORE_0, LDC, POP, SIPUSH,
 };
 use jv_core::{CoreType, Var};
-use mg_text::{Memory, Text};
+use mg_text::Memory;
 use vm_model::Built;
 
 // Whether values of a type are references.
@@ -79,13 +79,6 @@ impl<'a> Coder<'a> {
         self.put_int(draft, 0)
     }
 
-    /// Pushes a text.
-    pub(crate) fn put_text(&self, draft: &mut Draft<'a>, text: &'a Text) -> Result<(), Memory>
-        ensures { OnOk result (draft_in self.now draft.new ≡ emit (push_text text.now) (draft_in self.now draft.old)) }
-    {
-        self.put(draft, LDC, Operand::Text(text))
-    }
-
     // An instruction of a local, which has short forms for the first four.
     fn put_local(
         &self,
@@ -111,16 +104,6 @@ impl<'a> Coder<'a> {
         ensures { OnOk result (draft_in self.now draft.new ≡ emit (aload 0) (draft_in self.now draft.old)) }
     {
         self.put_plain(draft, ALOAD_0)
-    }
-
-    // Pushes a local of this type.
-    fn put_load(&self, draft: &mut Draft<'a>, ty: CoreType, local: u32) -> Result<(), Memory>
-        ensures { OnOk result (draft_in self.now draft.new ≡ emit (load ty local) (draft_in self.now draft.old)) }
-    {
-        if is_reference(ty) {
-            return self.put_local(draft, ALOAD_0, ALOAD, local);
-        }
-        self.put_local(draft, ILOAD_0, ILOAD, local)
     }
 
     /// A local of this type takes the value on top.
@@ -149,7 +132,10 @@ impl<'a> Coder<'a> {
         match of {
             Var::Slot(slot) => {
                 let local = locals.local_of(self.method.kind, slot)?;
-                self.put_load(draft, self.type_of_slot(slot), local)
+                if is_reference(self.type_of_slot(slot)) {
+                    return self.put_local(draft, ALOAD_0, ALOAD, local);
+                }
+                self.put_local(draft, ILOAD_0, ILOAD, local)
             }
             Var::Field(field) => {
                 self.put_own(draft)?;
@@ -183,14 +169,6 @@ impl<'a> Coder<'a> {
         self.put_store(draft, self.type_of_slot(slot), local)
     }
 
-    /// A call of a method of this number.
-    pub(crate) fn put_call(&self, draft: &mut Draft<'a>, op: u8, method: u32) -> Result<(), Memory>
-        ensures { OnOk result (draft_in self.now draft.new
-            ≡ emit (record { op = op; operand = Method (method_reference self.now.core.now method) }) (draft_in self.now draft.old)) }
-    {
-        self.put(draft, op, Operand::Method(method))
-    }
-
     /// Makes a text of the value of this type that is on top, of an int or a truth value. Others stay.
     ///
     /// # Errors
@@ -207,10 +185,8 @@ impl<'a> Coder<'a> {
             CoreType::Boolean => {
                 self.put(draft, INVOKESTATIC, Operand::BuiltIn(Built::ValueOfTruth))
             }
-            CoreType::Void => Ok(()),
-            CoreType::Text => Ok(()),
-            CoreType::Object(_) => Ok(()),
-            CoreType::Enum(_) => Ok(()),
+            CoreType::Void | CoreType::Text => Ok(()),
+            CoreType::Object(_) | CoreType::Enum(_) => Ok(()),
         }
     }
 
@@ -227,11 +203,8 @@ impl<'a> Coder<'a> {
         };
         match ty {
             CoreType::Void => Ok(()),
-            CoreType::Int => self.put_plain(draft, POP),
-            CoreType::Boolean => self.put_plain(draft, POP),
-            CoreType::Text => self.put_plain(draft, POP),
-            CoreType::Object(_) => self.put_plain(draft, POP),
-            CoreType::Enum(_) => self.put_plain(draft, POP),
+            CoreType::Int | CoreType::Boolean | CoreType::Text => self.put_plain(draft, POP),
+            CoreType::Object(_) | CoreType::Enum(_) => self.put_plain(draft, POP),
         }
     }
 }

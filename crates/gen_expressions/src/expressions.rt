@@ -5,8 +5,8 @@ ghost use Rattle.jv_core.specs.View.{expr_of, exprs_of};
 ghost use Rattle.gen_rules.specs.Symbolic.{plain};
 ghost use Rattle.gen_expressions.specs.View.{operand_of, built_in_of};
 ghost use Rattle.gen_expressions.specs.Held.{draft_in, method_in};
-ghost use Rattle.gen_expressions.specs.Drafting.{emit, value, arguments, truth_at, truth_of, tested_binary, binary_forms, summed};
-ghost use Rattle.gen_expressions.specs.Drafting.{called_on, called_own, created, two_values, forms, jump};
+ghost use Rattle.gen_expressions.specs.Drafting.{emit, value, arguments, truth_at, truth_of, tested_binary, summed, created};
+ghost use Rattle.gen_expressions.specs.Drafting.{two_values, forms, jump};
 
 use crate::coder::{Coder, Draft};
 use crate::locals::Locals;
@@ -14,9 +14,9 @@ use crate::symbolic::{Operand, session_member};
 use crate::typed::joins;
 use cls_tree::opcodes::{
     ACONST_NULL, DUP, GOTO, IADD, IDIV, IMUL, INEG, INVOKESPECIAL, INVOKESTATIC, INVOKEVIRTUAL,
-    IREM, ISUB, NEW,
+    IREM, ISUB, LDC, NEW,
 };
-use jv_core::{CoreExpr, CoreExprKind, CoreOp, Var};
+use jv_core::{CoreExpr, CoreExprKind, CoreOp};
 use mg_text::Memory;
 use vm_model::Built;
 
@@ -39,25 +39,45 @@ impl<'a> Coder<'a> {
         match &expr.kind {
             CoreExprKind::Int(number) => self.put_int(draft, *number),
             CoreExprKind::Truth(holds) => self.put_truth(draft, *holds),
-            CoreExprKind::Text(text) => self.put_text(draft, text),
+            CoreExprKind::Text(text) => self.put(draft, LDC, Operand::Text(text)),
             CoreExprKind::Null => self.put_plain(draft, ACONST_NULL),
             CoreExprKind::Var(variable) => self.put_variable(draft, locals, *variable),
             CoreExprKind::Constant { position, .. } => self.put_number(draft, *position),
-            CoreExprKind::Neg(inner) => self.value_then(draft, locals, inner, INEG),
-            CoreExprKind::Not(inner) => self.truth_of_not(draft, locals, inner),
-            CoreExprKind::Binary(op, left, right) => {
-                self.value_of_binary(draft, locals, *op, left, right)
+            CoreExprKind::Neg(inner) => {
+                self.value(draft, locals, inner)?;
+                self.put_plain(draft, INEG)
             }
+            CoreExprKind::Not(inner) => self.truth_of_not(draft, locals, inner),
+            CoreExprKind::Binary(op, left, right) => match op {
+                CoreOp::Add => self.sum(draft, locals, left, right),
+                CoreOp::Sub => self.operation(draft, locals, left, right, ISUB),
+                CoreOp::Mul => self.operation(draft, locals, left, right, IMUL),
+                CoreOp::Div => self.operation(draft, locals, left, right, IDIV),
+                CoreOp::Rem => self.operation(draft, locals, left, right, IREM),
+                CoreOp::Or | CoreOp::And | CoreOp::Eq | CoreOp::Ne => {
+                    self.truth_of_test(draft, locals, *op, left, right)
+                }
+                CoreOp::Lt | CoreOp::Le | CoreOp::Gt | CoreOp::Ge => {
+                    self.truth_of_test(draft, locals, *op, left, right)
+                }
+            },
             CoreExprKind::Protocol {
                 receiver,
                 method,
                 args,
-            } => self.call_on(draft, locals, receiver.var, *method, args.as_slice()),
+            } => {
+                self.put_variable(draft, locals, receiver.var)?;
+                let called = Operand::Method(*method);
+                self.call(draft, locals, args.as_slice(), INVOKEVIRTUAL, called)
+            }
             CoreExprKind::Helper { method, args } => {
-                self.call_own(draft, locals, *method, args.as_slice())
+                self.put_own(draft)?;
+                let called = Operand::Method(*method);
+                self.call(draft, locals, args.as_slice(), INVOKESPECIAL, called)
             }
             CoreExprKind::Static { method, args } => {
-                self.call(draft, locals, args.as_slice(), Operand::Method(*method))
+                let called = Operand::Method(*method);
+                self.call(draft, locals, args.as_slice(), INVOKESTATIC, called)
             }
             CoreExprKind::Equals(left, right) => {
                 self.call_text(draft, locals, left, right, Built::Equals)
@@ -67,7 +87,7 @@ impl<'a> Coder<'a> {
             }
             CoreExprKind::Session { call, args } => {
                 let called = Operand::BuiltIn(session_member(*call));
-                self.call(draft, locals, args.as_slice(), called)
+                self.call(draft, locals, args.as_slice(), INVOKESTATIC, called)
             }
             CoreExprKind::New(class) => self.put_new(draft, *class),
         }
@@ -81,22 +101,6 @@ impl<'a> Coder<'a> {
         self.put(draft, NEW, Operand::Class(class))?;
         self.put_plain(draft, DUP)?;
         self.put(draft, INVOKESPECIAL, Operand::Constructor(class))
-    }
-
-    // An expression, and then an instruction of its value.
-    #[cycle(expressions)]
-    fn value_then(
-        &self,
-        draft: &mut Draft<'a>,
-        locals: &Locals,
-        expr: &'a CoreExpr,
-        op: u8,
-    ) -> Result<(), Memory>
-        ensures { OnOk result (draft_in self.now draft.new ≡ emit (plain op)
-            (value self.now.core.now (method_in self.now) locals.now (expr_of expr.now) (draft_in self.now draft.old))) }
-    {
-        self.value(draft, locals, expr)?;
-        self.put_plain(draft, op)
     }
 
     /// Two expressions, the second on top.
@@ -176,37 +180,6 @@ impl<'a> Coder<'a> {
         self.put(draft, INVOKEVIRTUAL, Operand::BuiltIn(Built::Concat))
     }
 
-    // An expression with two operands.
-    #[cycle(expressions)]
-    pub(crate) fn value_of_binary(
-        &self,
-        draft: &mut Draft<'a>,
-        locals: &Locals,
-        op: CoreOp,
-        left: &'a CoreExpr,
-        right: &'a CoreExpr,
-    ) -> Result<(), Memory>
-        ensures { OnOk result (draft_in self.now draft.new
-            ≡ (binary_forms self.now.core.now (method_in self.now) locals.now op (expr_of left.now) (expr_of right.now)).value
-            (draft_in self.now draft.old)) }
-    {
-        match op {
-            CoreOp::Add => self.sum(draft, locals, left, right),
-            CoreOp::Sub => self.operation(draft, locals, left, right, ISUB),
-            CoreOp::Mul => self.operation(draft, locals, left, right, IMUL),
-            CoreOp::Div => self.operation(draft, locals, left, right, IDIV),
-            CoreOp::Rem => self.operation(draft, locals, left, right, IREM),
-            CoreOp::Or => self.truth_of_binary(draft, locals, op, left, right),
-            CoreOp::And => self.truth_of_binary(draft, locals, op, left, right),
-            CoreOp::Eq => self.truth_of_binary(draft, locals, op, left, right),
-            CoreOp::Ne => self.truth_of_binary(draft, locals, op, left, right),
-            CoreOp::Lt => self.truth_of_binary(draft, locals, op, left, right),
-            CoreOp::Le => self.truth_of_binary(draft, locals, op, left, right),
-            CoreOp::Gt => self.truth_of_binary(draft, locals, op, left, right),
-            CoreOp::Ge => self.truth_of_binary(draft, locals, op, left, right),
-        }
-    }
-
     // 1 where code comes here, and 0 where it jumped to the first label.
     fn put_truth_at(&self, draft: &mut Draft<'a>, fails: u32, end: u32) -> Result<(), Memory>
         ensures { OnOk result (draft_in self.now draft.new ≡ truth_at fails end (draft_in self.now draft.old)) }
@@ -238,7 +211,7 @@ impl<'a> Coder<'a> {
 
     // The value of a test with two operands.
     #[cycle(expressions)]
-    fn truth_of_binary(
+    fn truth_of_test(
         &self,
         draft: &mut Draft<'a>,
         locals: &Locals,
@@ -252,7 +225,7 @@ impl<'a> Coder<'a> {
     {
         let end = self.open(draft)?;
         let fails = self.open(draft)?;
-        self.jump_binary(draft, locals, op, left, right, false, fails)?;
+        self.jump_test(draft, locals, op, left, right, false, fails)?;
         self.put_truth_at(draft, fails, end)
     }
 
@@ -274,56 +247,22 @@ impl<'a> Coder<'a> {
         Ok(())
     }
 
-    // A call that needs no object.
+    // A call, behind its object where it needs one.
     #[cycle(expressions)]
     fn call(
         &self,
         draft: &mut Draft<'a>,
         locals: &Locals,
         args: &'a [CoreExpr],
+        op: u8,
         called: Operand<'a>,
     ) -> Result<(), Memory>
         ensures { OnOk result (draft_in self.now draft.new
-            ≡ emit (record { op = INVOKESTATIC; operand = operand_of self.now.core.now called.entry })
+            ≡ emit (record { op = op; operand = operand_of self.now.core.now called.entry })
             (arguments self.now.core.now (method_in self.now) locals.now (exprs_of (map expr_of args.now))
             (draft_in self.now draft.old))) }
     {
         self.arguments(draft, locals, args)?;
-        self.put(draft, INVOKESTATIC, called)
-    }
-
-    // A call on the object of a variable.
-    #[cycle(expressions)]
-    fn call_on(
-        &self,
-        draft: &mut Draft<'a>,
-        locals: &Locals,
-        receiver: Var,
-        method: u32,
-        args: &'a [CoreExpr],
-    ) -> Result<(), Memory>
-        ensures { OnOk result (draft_in self.now draft.new ≡ called_on self.now.core.now (method_in self.now) locals.now receiver method
-            (exprs_of (map expr_of args.now)) (draft_in self.now draft.old)) }
-    {
-        self.put_variable(draft, locals, receiver)?;
-        self.arguments(draft, locals, args)?;
-        self.put_call(draft, INVOKEVIRTUAL, method)
-    }
-
-    // A call on the own object.
-    #[cycle(expressions)]
-    fn call_own(
-        &self,
-        draft: &mut Draft<'a>,
-        locals: &Locals,
-        method: u32,
-        args: &'a [CoreExpr],
-    ) -> Result<(), Memory>
-        ensures { OnOk result (draft_in self.now draft.new ≡ called_own self.now.core.now (method_in self.now) locals.now method
-            (exprs_of (map expr_of args.now)) (draft_in self.now draft.old)) }
-    {
-        self.put_own(draft)?;
-        self.arguments(draft, locals, args)?;
-        self.put_call(draft, INVOKESPECIAL, method)
+        self.put(draft, op, called)
     }
 }

@@ -12,7 +12,7 @@ use mg_text::{List, Text};
 use vm_model::Built;
 
 /// What an instruction works with.
-#[derive(Debug, Drop)]
+#[derive(Drop)]
 pub enum Operand<'a> {
     Nothing,
     /// A number that is pushed and fits in the instruction.
@@ -40,10 +40,16 @@ pub enum Operand<'a> {
 }
 
 /// An instruction: its opcode, and what it works with. A constant of its own has the opcode of `ldc`.
-#[derive(Debug, Drop)]
 pub struct Symbolic<'a> {
     pub op: u8,
     pub operand: Operand<'a>,
+}
+
+// One call lets go of it, wherever a function ends.
+impl Drop for Symbolic<'_> {
+    fn drop(self) {
+        let Symbolic { op: _, operand: _ } = self;
+    }
 }
 
 /// The member that a method of `Session` is.

@@ -16,7 +16,7 @@ use jv_core::{CoreExpr, CoreExprKind, CoreOp, CoreType};
 pub fn is_null(expr: &CoreExpr) -> bool
     ensures { result ≡ is_null (expr_of expr.now) }
 {
-    match &expr.kind {
+    match expr.kind {
         CoreExprKind::Null => true,
         CoreExprKind::Int(_) | CoreExprKind::Truth(_) | CoreExprKind::Text(_) => false,
         CoreExprKind::Var(_) | CoreExprKind::Constant { .. } | CoreExprKind::New(_) => false,

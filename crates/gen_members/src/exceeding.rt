@@ -9,7 +9,7 @@ use crate::texts::has_long;
 use gen_pool::Pool;
 
 /// What is too large, in the order in which it is told.
-#[derive(Clone, Copy, Debug, PartialEq, Eq)]
+#[derive(Clone, Copy, PartialEq, Eq)]
 pub(crate) enum Limit {
     /// Over 32,767 bytes of code.
     CodeTooLong,

@@ -18,7 +18,7 @@ use std::marker::Model;
 const MOST_ENTRIES: usize = 65534;
 
 /// Why an entry isn't added.
-#[derive(Clone, Copy, Debug, PartialEq, Eq)]
+#[derive(Clone, Copy)]
 pub enum PoolFault {
     /// There are 65,534 entries, and none of them is equal to it.
     Full,

@@ -1,14 +1,23 @@
 -- The groups of a switch: what is left of them, and what was passed.
 use Rattle.std.proofs.Common.{◌≡◌, ◌<◌, ◌≤◌, ℕ, suc, ◌+◌, ◌-◌, List, [], ◌∷◌, ◌++◌, length, map, drop, get_or, Bool, true, false}
 use Rattle.std.proofs.Common.{Option, Some, None, sym, ap, ◌∙◌, arith, if◌then◌else◌, ◌||◌, add-one}
+use Rattle.std.specs.declared.boxed.Box.{Box}
+use Rattle.std.specs.declared.alloc.Global.{Global}
 use Rattle.std.proofs.lemmas.List.{map-append}
+use Rattle.std.proofs.lemmas.Grind.{common_steps}
 use Rattle.jv_values.specs.Statements.{any_label}
+use Rattle.jv_core.specs.declared.tree.CoreExpr.{CoreExpr}
+use Rattle.jv_core.specs.declared.tree.CoreStmt.{CoreStmt}
+use Rattle.jv_core.specs.declared.tree.CoreStmtKind.TheVariants as S
 use Rattle.jv_core.specs.declared.tree.CoreGroup.{CoreGroup, out-CoreGroup, fold_out-CoreGroup}
 use Rattle.mg_text.specs.declared.place.Place.{Place}
 use Rattle.jv_core.specs.Tree.{Stmt}
-use Rattle.jv_core.specs.View.{stmt_of, stmts_of, group_of, groups_of, OneGroup, stmt_layer, group_layer, placed_stmt_layer}
+use Rattle.jv_core.specs.View.{stmt_of, stmt_kind_of, stmts_of, group_of, groups_of, OneGroup, stmt_layer, group_layer}
+use Rattle.jv_core.specs.View.{placed_stmt_layer}
+use Rattle.jv_core.proofs.ViewLaws.{views, stmt-If-None, stmt-If-Some}
 use Rattle.jv_core.specs.Numbering.{numbers_from}
 use Rattle.gen_rules.specs.Cases.{group_at}
+use Rattle.gen_symbolic.specs.inner.Held.{declared}
 use Rattle.gen_expressions.proofs.Loops.{drop_at, drop_done, numbers_last}
 
 -- labels of a group
@@ -77,6 +86,14 @@ pub mapped_more : (F : ℕ → ℕ) (k x : ℕ) (xs ys : List ℕ) → xs ≡ ma
 mapped_more F k x xs ys h e is =
     e ∙ ap (λ zs. zs ++ x ∷ []) h ∙ ap (λ z. map F (numbers_from 0 k) ++ z ∷ []) is
     ∙ sym (ap (map F) (numbers_last k) ∙ map-append F (numbers_from 0 k) (k ∷ []))
+
+-- an `if` declares nothing, with `else` or without
+pub declared-If : (c : CoreExpr) (s : Box CoreStmt Global) (r : Option (Box CoreStmt Global)) (p : Place) →
+    declared (stmt_kind_of (S.If c s r) p) ≡ None
+declared-If c s None p = ap declared (stmt-If-None c s p)
+declared-If c s (Some r) p = ap declared (stmt-If-Some c s r p)
+
+pub ruleset declares = (common_steps, views, declared-If)
 
 pub ruleset labels = (label_found, label_passed, labels_done)
 

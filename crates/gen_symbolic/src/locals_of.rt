@@ -4,7 +4,7 @@ ghost use Rattle.std.specs.Prelude.{◌≡◌, IfOk, map, suc};
 ghost use Rattle.jv_core.specs.View.{stmt_of, stmts_of, group_of, groups_of};
 ghost use Rattle.gen_rules.specs.Frames.{max_locals, locals_of, locals_of_all, locals_of_groups};
 ghost use Rattle.gen_expressions.specs.Held.{method_in};
-ghost use Rattle.gen_symbolic.specs.inner.Held.{taken_behind};
+ghost use Rattle.gen_symbolic.specs.inner.Held.{declared, taken_with};
 ghost use Rattle.gen_symbolic.specs.inner.Drafting.{groups};
 
 use gen_expressions::{Coder, local_at};
@@ -21,27 +21,29 @@ fn one_more(taken: u32) -> Result<u32, Memory>
     Ok(more)
 }
 
-// The locals that are taken behind a statement, where so many are taken at its beginning.
-#[tactic(auto, using(gen_expressions::proofs::Seen::seen))]
-fn taken_behind(taken: u32, stmt: &CoreStmt) -> Result<u32, Memory>
-    ensures { IfOk result (λ n. n ≡ taken_behind taken (stmt_of stmt.now)) }
+/// The slot that a statement declares, if it declares one.
+#[tactic(auto, using(crate::proofs::Loops::declares))]
+pub(crate) fn declared(stmt: &CoreStmt) -> Option<u32>
+    ensures { result ≡ declared (stmt_of stmt.now) }
 {
-    match &stmt.kind {
-        CoreStmtKind::Local(_, _) => one_more(taken),
-        CoreStmtKind::Block(_, _) | CoreStmtKind::Empty | CoreStmtKind::Assign(_, _) => Ok(taken),
-        CoreStmtKind::If(_, _, otherwise) => match otherwise {
-            None => Ok(taken),
-            Some(_) => Ok(taken),
-        },
-        CoreStmtKind::While(_, _, _) | CoreStmtKind::Do(_, _, _) => Ok(taken),
-        CoreStmtKind::Switch(_, _, _) | CoreStmtKind::Break(_) | CoreStmtKind::Continue(_) => {
-            Ok(taken)
-        }
-        CoreStmtKind::Return(value) => match value {
-            None => Ok(taken),
-            Some(_) => Ok(taken),
-        },
-        CoreStmtKind::Print(_) | CoreStmtKind::Eval(_) => Ok(taken),
+    match stmt.kind {
+        CoreStmtKind::Local(slot, _) => Some(slot),
+        CoreStmtKind::Block(_, _) | CoreStmtKind::Empty | CoreStmtKind::Assign(_, _) => None,
+        CoreStmtKind::If(_, _, _) | CoreStmtKind::While(_, _, _) => None,
+        CoreStmtKind::Do(_, _, _) | CoreStmtKind::Switch(_, _, _) => None,
+        CoreStmtKind::Break(_) | CoreStmtKind::Continue(_) | CoreStmtKind::Return(_) => None,
+        CoreStmtKind::Print(_) | CoreStmtKind::Eval(_) => None,
+    }
+}
+
+// The locals that are taken behind a statement that declares this slot, if any, where so many are
+// taken at its beginning.
+fn taken_behind(taken: u32, declared: Option<u32>) -> Result<u32, Memory>
+    ensures { IfOk result (λ n. n ≡ taken_with taken declared) }
+{
+    match declared {
+        Some(_) => one_more(taken),
+        None => Ok(taken),
     }
 }
 
@@ -51,10 +53,10 @@ fn taken_behind(taken: u32, stmt: &CoreStmt) -> Result<u32, Memory>
 fn locals_of(taken: u32, stmt: &CoreStmt) -> Result<u32, Memory>
     ensures { IfOk result (λ n. n ≡ locals_of taken (stmt_of stmt.now)) }
 {
-    match &stmt.kind {
-        CoreStmtKind::Block(body, _) => locals_of_all(taken, body.as_slice()),
+    match stmt.kind {
+        CoreStmtKind::Block(ref body, _) => locals_of_all(taken, body.as_slice()),
         CoreStmtKind::Local(_, _) => one_more(taken),
-        CoreStmtKind::If(_, inner, otherwise) => match otherwise {
+        CoreStmtKind::If(_, ref inner, ref otherwise) => match otherwise {
             None => locals_of(taken, inner),
             Some(otherwise) => {
                 let first = locals_of(taken, inner)?;
@@ -62,15 +64,11 @@ fn locals_of(taken: u32, stmt: &CoreStmt) -> Result<u32, Memory>
                 Ok(first.max(second))
             }
         },
-        CoreStmtKind::While(_, _, inner) => locals_of(taken, inner),
-        CoreStmtKind::Do(_, inner, _) => locals_of(taken, inner),
-        CoreStmtKind::Switch(_, groups, _) => locals_of_groups(taken, groups.as_slice()),
-        CoreStmtKind::Empty | CoreStmtKind::Assign(_, _) => Ok(taken),
+        CoreStmtKind::While(_, _, ref inner) => locals_of(taken, inner),
+        CoreStmtKind::Do(_, ref inner, _) => locals_of(taken, inner),
+        CoreStmtKind::Switch(_, ref groups, _) => locals_of_groups(taken, groups.as_slice()),
+        CoreStmtKind::Empty | CoreStmtKind::Assign(_, _) | CoreStmtKind::Return(_) => Ok(taken),
         CoreStmtKind::Break(_) | CoreStmtKind::Continue(_) => Ok(taken),
-        CoreStmtKind::Return(value) => match value {
-            None => Ok(taken),
-            Some(_) => Ok(taken),
-        },
         CoreStmtKind::Print(_) | CoreStmtKind::Eval(_) => Ok(taken),
     }
 }
@@ -85,7 +83,7 @@ fn locals_of_all(taken: u32, stmts: &[CoreStmt]) -> Result<u32, Memory>
     for stmt in stmts {
         let next = locals_of(taken, stmt)?;
         most = next.max(most);
-        taken = taken_behind(taken, stmt)?;
+        taken = taken_behind(taken, declared(stmt))?;
     }
     Ok(most)
 }

@@ -21,7 +21,7 @@ use std::alloc::Global;
 
 /// The code of a method: its instructions, how many operands stand on the stack at most, and how many
 /// locals it has.
-#[derive(Debug, Drop)]
+#[derive(Drop)]
 pub struct MethodCode<'a> {
     pub instrs: List<Symbolic<'a>>,
     pub max_stack: u32,
@@ -75,10 +75,10 @@ pub fn method_code<'a>(
         core,
         method,
     };
-    let draft = draft(&coder)?;
-    let instrs = aim(alloc, draft.labels.as_slice(), draft.instrs.as_slice())?;
     let max_stack = max_stack(&coder)?;
     let max_locals = max_locals(&coder)?;
+    let draft = draft(&coder)?;
+    let instrs = aim(alloc, draft.labels.as_slice(), draft.instrs.as_slice())?;
     Ok(MethodCode {
         instrs,
         max_stack,

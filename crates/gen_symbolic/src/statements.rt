@@ -4,12 +4,13 @@
 ghost use Rattle.std.specs.Prelude.{◌≡◌, OnOk, map};
 ghost use Rattle.jv_core.specs.View.{expr_of, stmt_of, stmts_of, group_of, groups_of};
 ghost use Rattle.gen_expressions.specs.Held.{draft_in, method_in};
-ghost use Rattle.gen_symbolic.specs.inner.Held.{around_of, behind};
+ghost use Rattle.gen_symbolic.specs.inner.Held.{around_of, with_slot};
 ghost use Rattle.gen_expressions.specs.Drafting.{value};
 ghost use Rattle.gen_symbolic.specs.inner.Drafting.{assign, statement, statements, groups, alone, returned, printed, evaluated};
 ghost use Rattle.gen_symbolic.specs.inner.Drafting.{if_true, if_else, while_true, do_while, switch};
 
 use crate::around::Around;
+use crate::locals_of::declared;
 use crate::switches::{next_label, put_table};
 use cls_tree::opcodes::{GETSTATIC, GOTO, INVOKEVIRTUAL, PUTFIELD, RETURN};
 use gen_expressions::{Coder, Draft, Locals, Operand, return_of};
@@ -17,27 +18,13 @@ use jv_core::{CoreExpr, CoreGroup, CoreStmt, CoreStmtKind, Var};
 use mg_text::Memory;
 use vm_model::Built;
 
-// What a declaration declares is in scope.
-#[tactic(auto, using(gen_expressions::proofs::Seen::seen))]
-fn declare_local(locals: &mut Locals, stmt: &CoreStmt) -> Result<(), Memory>
-    ensures { OnOk result (locals.new ≡ behind (stmt_of stmt.now) locals.old) }
+// A slot that is declared is in scope.
+fn declare(locals: &mut Locals, slot: Option<u32>) -> Result<(), Memory>
+    ensures { OnOk result (locals.new ≡ with_slot slot locals.old) }
 {
-    match &stmt.kind {
-        CoreStmtKind::Local(slot, _) => locals.declare(*slot),
-        CoreStmtKind::Block(_, _) | CoreStmtKind::Empty | CoreStmtKind::Assign(_, _) => Ok(()),
-        CoreStmtKind::If(_, _, otherwise) => match otherwise {
-            None => Ok(()),
-            Some(_) => Ok(()),
-        },
-        CoreStmtKind::While(_, _, _) | CoreStmtKind::Do(_, _, _) => Ok(()),
-        CoreStmtKind::Switch(_, _, _) | CoreStmtKind::Break(_) | CoreStmtKind::Continue(_) => {
-            Ok(())
-        }
-        CoreStmtKind::Return(value) => match value {
-            None => Ok(()),
-            Some(_) => Ok(()),
-        },
-        CoreStmtKind::Print(_) | CoreStmtKind::Eval(_) => Ok(()),
+    match slot {
+        Some(slot) => locals.declare(slot),
+        None => Ok(()),
     }
 }
 
@@ -108,7 +95,7 @@ pub(crate) fn statements<'a>(
     let outer = locals.len();
     for stmt in stmts {
         statement(coder, draft, locals, around, stmt)?;
-        declare_local(locals, stmt)?;
+        declare(locals, declared(stmt))?;
     }
     locals.truncate(outer);
     Ok(())

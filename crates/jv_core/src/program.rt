@@ -37,7 +37,7 @@ impl CoreType {
 
 /// A class, and the place of its name. `typestate` is the number of its typestate, and `methods`
 /// has the numbers of its methods, in the order of the text.
-#[derive(Debug, Drop)]
+#[derive(Drop)]
 pub struct CoreClass {
     pub place: Place,
     pub name: Name,
@@ -48,7 +48,7 @@ pub struct CoreClass {
 
 /// A field. `value` is the constant that it starts with; without one it starts with 0, false or
 /// null.
-#[derive(Debug, Drop)]
+#[derive(Drop)]
 pub struct CoreField {
     pub name: Name,
     pub ty: CoreType,
@@ -56,7 +56,7 @@ pub struct CoreField {
 }
 
 /// An enum, and its constants in the order of the text.
-#[derive(Debug, Drop)]
+#[derive(Drop)]
 pub struct CoreEnum {
     pub name: Name,
     pub constants: List<Name>,
@@ -73,14 +73,14 @@ pub enum MethodKind {
 }
 
 /// A parameter or local of a method.
-#[derive(Clone, Copy, Debug)]
+#[derive(Clone, Copy)]
 pub struct CoreSlot {
     pub name: Name,
     pub ty: CoreType,
 }
 
 /// A loop, and the slots that are in scope where it begins, in rising order.
-#[derive(Debug, Drop)]
+#[derive(Drop)]
 pub struct CoreLoop {
     pub place: Place,
     pub scope: List<u32>,
@@ -88,7 +88,7 @@ pub struct CoreLoop {
 
 /// A method, with the place of its name and that of its closing brace. Its first `params` slots
 /// are its parameters; the others are its locals. The `String[]` of `main` has no slot.
-#[derive(Debug, Drop)]
+#[derive(Drop)]
 pub struct CoreMethod {
     pub place: Place,
     pub end: Place,

@@ -5,7 +5,7 @@ use mg_text::{Memory, Place};
 
 /// Why a text does not separate into tokens. Over a million bytes nothing is looked at; of the
 /// other faults but `Memory` the first in the text is told.
-#[derive(Clone, Copy, Debug, PartialEq, Eq)]
+#[derive(Clone, Copy)]
 pub enum LexFault {
     /// The file holds over 1,048,576 bytes. The place is the file's start.
     TooLarge { place: Place },
@@ -36,7 +36,7 @@ impl From<Memory> for LexFault {
 }
 
 /// What is wrong where no piece of a text stands.
-#[derive(Clone, Copy, Debug, PartialEq, Eq)]
+#[derive(Clone, Copy)]
 pub(crate) enum Cause {
     /// Nothing begins with the byte.
     BadByte,

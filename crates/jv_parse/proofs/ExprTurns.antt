@@ -11,10 +11,10 @@ use Rattle.jv_tree.specs.Source.{Expr}
 use Rattle.jv_tree.specs.Depth.{depth, depth_of_args}
 use Rattle.jv_tree.specs.Expressions.{IsInner}
 use Rattle.jv_tree.specs.View.{exprs_of}
-use Rattle.jv_reading.specs.Base.{sign_at, is_sign}
+use Rattle.jv_reading.specs.Base.{sign_at, is_sign, name_at}
 use Rattle.jv_reading.specs.Exprs.{Reads, next_arg_with, args_with, closed_args_with, arguments_with, closed_with, primary_at, tail_at}
 use Rattle.jv_reading.specs.Exprs.{post_with, post_at, is_op, unary_at, joined_at, binary_with, binary_at, inner_at, expr_at, arguments_at}
-use Rattle.jv_reading.specs.Exprs.{closed_at}
+use Rattle.jv_reading.specs.Exprs.{closed_at, new_with}
 use Rattle.jv_reading.proofs.Args.{next_shorter}
 use Rattle.jv_reading.proofs.Posts.{tail_shorter}
 use Rattle.jv_reading.proofs.Chains.{step_shorter, binary_exact}
@@ -83,6 +83,11 @@ pub inner_is : (m d : ℕ) → 0 < m → inner_at m d ≡ expr_at (m - 1) d
 unfolding inner_at expr_at binary_at
 inner_is zero d h = absurd (omega arith)
 inner_is (suc m) d h = let e : suc m - 1 ≡ m = omega arith in rw e refl
+
+pub next_arg_is : (m d : ℕ) (p : Place) (ts us : List Token) → sign_at signs.Comma ts ≡ Some (p, us) →
+    next_arg_with (expr_at m d) ts ≡ binary_at m 6 d us
+unfolding next_arg_with expr_at
+next_arg_is m d p ts us h = rw h refl
 
 pub arg_shorter : (m d : ℕ) (ts : List Token) (x : Expr) (us : List Token) → next_arg_with (expr_at m d) ts ≡ Some (x, us) →
     length us < length ts
@@ -179,3 +184,11 @@ pub closed_done : (m d : ℕ) (ts us vs : List Token) (x : Expr) (c : Place) →
     sign_at signs.CloseParen us ≡ Some (c, vs) → closed_at m d ts ≡ Some (x, vs)
 unfolding closed_with
 closed_done m d ts us vs x c some reads h = closed_is m d ts some ∙ rw (reads, h) refl
+
+-- ---- an object that is made
+
+pub new_unnamed : (e : Halt) (m : ℕ) (p : Place) (ts : List Token) → Fails e (name_at ts) → Fails e (new_with m p ts)
+unfolding new_with
+new_unnamed halts.Memory m p ts h = tt
+new_unnamed (halts.Syntax left) zero p ts h = refl
+new_unnamed (halts.Syntax left) (suc m) p ts h = rw h refl

@@ -1,6 +1,7 @@
 -- The turns of the loops that read parameters, names, paths, imports and declarations.
-use Rattle.std.proofs.Common.{◌≡◌, List, [], ◌∷◌, Some, None, refl, ap}
-use Rattle.std.specs.Prelude.{codes}
+use Rattle.std.proofs.Common.{◌≡◌, List, [], ◌∷◌, length, true, false, Some, None, refl, ap, arith}
+use Rattle.std.specs.Prelude.{◌==◌, codes}
+use Rattle.std.proofs.lemmas.Bool.{eqb-true}
 use Rattle.mg_text.specs.Call.{Name}
 use Rattle.mg_text.specs.declared.place.Place.{Place}
 use Rattle.mg_read.specs.Reader.{all_of}
@@ -8,7 +9,7 @@ use Rattle.mg_read.proofs.Loop.{Left, Left-start, Left-init, with_front}
 use Rattle.jv_tree.specs.declared.tree.Param.{Param}
 use Rattle.jv_tree.specs.declared.token.Sign.TheVariants as signs
 use Rattle.jv_tree.specs.declared.token.Token.{Token}
-use Rattle.jv_reading.specs.Base.{is_sign, is_word, name_at}
+use Rattle.jv_reading.specs.Base.{sign_at, is_sign, is_word, name_at}
 use Rattle.jv_reading.specs.Files.{param_at, next_param_at, params_at, is_more_names, next_name_at, names_at, is_more_steps, next_step_at}
 use Rattle.jv_reading.specs.Files.{path_at, import_at, is_some_token, decl_at}
 use Rattle.jv_parse.specs.declared.halt.Halt.{Halt}
@@ -29,6 +30,10 @@ pub params_fail : (e : Halt) (ts : List Token) → Fails e (param_at ts) → Fai
 unfolding params_at
 params_fail halts.Memory ts h = tt
 params_fail (halts.Syntax left) ts h = rw h refl
+
+pub next_param_is : (p : Place) (ts us : List Token) → sign_at signs.Comma ts ≡ Some (p, us) → next_param_at ts ≡ param_at us
+unfolding next_param_at
+next_param_is p ts us h = rw h refl
 
 -- ---- names of an enum
 
@@ -68,3 +73,11 @@ imports_start ts = record { front = []; left = Left-init (is_word (codes "import
 
 pub decls_start : (ts : List Token) → Left is_some_token decl_at [] ts (decls_at ts)
 decls_start ts = Left-init is_some_token decl_at ts
+
+pub tokens_left : (ts : List Token) → (length ts == 0) ≡ false → is_some_token ts ≡ true
+tokens_left [] e = absurd cc
+tokens_left (t ∷ ts) e = refl
+
+pub none_left : (ts : List Token) → (length ts == 0) ≡ true → is_some_token ts ≡ false
+none_left [] e = refl
+none_left (t ∷ ts) e = let none : length (t ∷ ts) ≡ 0 = eqb-true (length (t ∷ ts)) 0 e in absurd (omega arith)

@@ -1,22 +1,26 @@
 -- Members that are read one after another, and kept each kind for itself.
-use Rattle.std.proofs.Common.{◌≡◌, ℕ, ◌<◌, List, [], ◌∷◌, ◌++◌, length, true, false, Option, Some, None, refl, sym, ap, ◌∙◌}
-use Rattle.std.specs.Prelude.{codes}
+use Rattle.std.proofs.Common.{◌≡◌, ℕ, ◌<◌, List, [], ◌∷◌, ◌++◌, length, Bool, true, false, Option, Some, None, refl, sym, ap, ◌∙◌}
+use Rattle.std.specs.Prelude.{if◌then◌else◌, codes}
 use Rattle.mg_text.specs.declared.place.Place.{Place}
 use Rattle.mg_text.specs.Call.{Name}
 use Rattle.mg_read.specs.Reader.{◌>>=◌, all_of}
 use Rattle.mg_read.proofs.Loop.{Left, Left-init, Left-more, Left-done}
+use Rattle.ts_tree.specs.declared.parts.TypeName.{TypeName}
 use Rattle.jv_tree.specs.declared.token.Sign.TheVariants as signs
 use Rattle.jv_tree.specs.declared.token.Token.{Token}
 use Rattle.jv_tree.specs.Source.{Field, Method, Class}
 use Rattle.jv_tree.specs.Files.{Member, FieldMember, MethodMember, fields_among, methods_among}
-use Rattle.jv_reading.specs.Base.{sign_at, word_at, name_at}
-use Rattle.jv_reading.specs.Files.{after_mods, class_words, annotation_at, not_closed, member_at, members_at, class_at}
+use Rattle.jv_reading.specs.Base.{sign_at, is_sign, word_at, name_at}
+use Rattle.jv_reading.specs.Stmts.{ended_at, items_at}
+use Rattle.jv_reading.specs.Files.{after_mods, class_words, annotation_at, is_main, params_of_at, method_at, field_at, not_closed}
+use Rattle.jv_reading.specs.Files.{member_at, members_at, class_at}
 use Rattle.jv_reading.proofs.Members.{member_shorter}
 use Rattle.jv_parse.specs.declared.halt.Halt.{Halt}
 use Rattle.jv_parse.specs.declared.halt.Halt.TheVariants as halts
 use Rattle.jv_parse.specs.inner.Gives.{Fails}
-use Rattle.jv_parse.specs.inner.Members.{sorted, sorted_at, sorted_members, class_read}
+use Rattle.jv_parse.specs.inner.Members.{behind_at, method_from, value_at, field_from, sorted, sorted_at, sorted_members, class_read}
 use Rattle.jv_parse.proofs.ExprTurns.{Left-fails}
+use Rattle.jv_parse.proofs.Walks.{in_front}
 
 fields-append : (xs ys : List Member) → fields_among (xs ++ ys) ≡ fields_among xs ++ fields_among ys
 fields-append [] ys = refl
@@ -66,6 +70,30 @@ sorting_done fields methods ts total stops s =
     ap sorted (Left-done not_closed member_at s.front ts total stops s.left)
     ∙ ap (λ (fs : List Field). Some ((fs, methods_among s.front), ts)) (sym s.fields_are) ∙
     ap (λ (ms : List Method). Some ((fields, ms), ts)) (sym s.methods_are)
+
+-- ---- a method and a field
+
+either : {B C : Type 0} (b : Bool) (x y : Option C) (u v : Option B) (g : B → Option C) → x ≡ (u >>= g) → y ≡ (v >>= g)
+    → (if b then x else y) ≡ ((if b then u else v) >>= g)
+either true x y u v g e f = e
+either false x y u v g e f = f
+
+pub method_is : (st : Bool) (ty : TypeName) (p : Place) (n : Name) (ts : List Token) → method_at st ty p n ts ≡
+    (behind_at (is_main st ty n) ts >>= method_from st ty p n)
+unfolding method_at behind_at
+method_is st ty p n ts =
+    let g = method_from st ty p n in
+    in_front (sign_at signs.OpenParen ts) _ _ g (λ a. in_front (params_of_at (is_main st ty n) a.1) _ _ g (λ ps.
+    in_front (sign_at signs.CloseParen ps.1) _ _ g (λ c. in_front (sign_at signs.OpenBrace c.1) _ _ g (λ s.
+    in_front (items_at 200 s.1) _ _ g (λ b. in_front (sign_at signs.CloseBrace b.1) _ _ g (λ e. refl))))))
+
+pub field_is : (ty : TypeName) (p : Place) (n : Name) (ts : List Token) → field_at ty p n ts ≡ (value_at ts >>= field_from ty p n)
+unfolding field_at value_at
+field_is ty p n ts =
+    let g = field_from ty p n in
+    either (is_sign signs.Assign ts) _ _ _ _ g
+    (in_front (sign_at signs.Assign ts) _ _ g (λ a. in_front (ended_at 200 a.1) _ _ g (λ e. refl)))
+    (in_front (sign_at signs.Semicolon ts) _ _ g (λ a. refl))
 
 -- ---- a class
 

@@ -1,6 +1,6 @@
 -- The turns of loops over parts that are read and not kept.
 use Rattle.std.proofs.Common.{◌≡◌, ◌<◌, List, [], ◌∷◌, ◌++◌, length, Bool, true, false, Option, Some, None, refl, ap}
-use Rattle.mg_read.specs.Reader.{Reader}
+use Rattle.mg_read.specs.Reader.{Reader, ◌>>=◌}
 use Rattle.mg_read.proofs.Loop.{Left, Left-more, Left-done}
 use Rattle.mg_read.proofs.Steps.{some_is, none_is_not}
 use Rattle.jv_parse.specs.declared.halt.Halt.{Halt}
@@ -44,3 +44,9 @@ module _ {T A : Type 0} (go : List T → Bool) (f : Reader T A) where
 
   pub Walking-done : (ts : List T) (total : Option (List A × List T)) → go ts ≡ false → Walking go f ts total → rest_of total ≡ Some ts
   Walking-done ts total stops w = ap rest_of (Left-done go f w.front ts total stops w.left)
+
+-- a step more in front of steps that are read alike
+pub in_front : {A B C : Type 0} (o : Option A) (f : A → Option B) (h : A → Option C) (g : B → Option C) → ((x : A) → h x ≡ (f x >>= g))
+    → (o >>= h) ≡ ((o >>= f) >>= g)
+in_front None f h g e = refl
+in_front (Some x) f h g e = e x

@@ -1,5 +1,7 @@
 pub mod Gives
 pub mod Found
+pub mod Loops
+pub mod Behind
 pub mod Changes
 pub mod Evaluations
 pub mod Modifiers

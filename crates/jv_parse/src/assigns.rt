@@ -1,7 +1,7 @@
 //! Reads assignments and declarations of locals.
 //! What `op=`, `++` and `--` add to the tree stands where their target stands.
 
-ghost use Rattle.std.specs.Prelude.{◌≡◌, ◌≤◌, Some, IfOk, is_some};
+ghost use Rattle.std.specs.Prelude.{◌≡◌, ◌≤◌, Some, IfOk, option_map};
 ghost use Rattle.jv_tree.specs.Sugar.{compound, counter, changed};
 ghost use Rattle.jv_tree.specs.Depth.{depth};
 ghost use Rattle.jv_tree.specs.View.{expr_of, stmt_of};
@@ -11,9 +11,9 @@ ghost use Rattle.jv_reading.specs.Stmts.{cond_at, ended_at, after_final, type_at
 ghost use Rattle.jv_reading.specs.Stmts.{is_compound, is_counter, is_change, is_name_change, is_field_change, is_assign, assigned};
 ghost use Rattle.jv_reading.specs.Stmts.{change_at, assign_at};
 
-use crate::exprs::{Read, closed_of, expr_of, leaf};
+use crate::exprs::{LOOSEST, Read, chain_of, closed_of, leaf};
 use crate::halt::Halt;
-use crate::tokens::{is_name, is_named, is_sign, is_word, name_of, sign_of, word_of};
+use crate::tokens::{is_name, is_named, is_sign, is_word, name_of, past_sign, past_word, sign_of};
 use jv_tree::{Expr, ExprKind, Op, Sign, Stmt, StmtKind, Token, TokenKind};
 use mg_text::Place;
 use std::alloc::Global;
@@ -40,12 +40,12 @@ pub(crate) fn cond_of(
 }
 
 // expr ";"
-#[tactic(auto, unfolding(jv_reading::specs::Stmts::ended_at))]
+#[tactic(auto, unfolding(jv_reading::specs::Stmts::ended_at, jv_reading::specs::Exprs::expr_at))]
 pub(crate) fn ended_of(alloc: Global, tokens: &[Token], levels: u8) -> Read<'_>
     ensures read { Gives (λ x. (expr_of x.0.value, x.2.now)) result (ended_at levels tokens.now) }
     ensures deep { IfOk result (λ x. x.1 ≡ depth (expr_of x.0.value)) }
 {
-    let (expr, deep, rest) = expr_of(alloc, tokens, MOST_OPEN, levels)?;
+    let (expr, deep, rest) = chain_of(alloc, tokens, MOST_OPEN, levels, LOOSEST)?;
     let (_, rest) = sign_of(rest, Sign::Semicolon)?;
     Ok((expr, deep, rest))
 }
@@ -128,60 +128,42 @@ fn counter(sign: Sign) -> Option<Op>
     }
 }
 
-fn compound_of(tokens: &[Token]) -> Result<(Op, &[Token]), Halt>
-    ensures { Gives (λ x. (x.0, x.1.now)) result (compound_at tokens.now) }
+// The operator of `op=` and the tokens after it, where it comes next.
+fn compound_of(tokens: &[Token]) -> Option<(Op, &[Token])>
+    ensures { option_map (λ x. (x.0, x.1.now)) result ≡ compound_at tokens.now }
 {
-    let Some((first, rest)) = tokens.split_first() else {
-        return Err(Halt::Syntax { left: 0 });
-    };
+    let (first, rest) = tokens.split_first()?;
     let TokenKind::Sign(sign) = &first.kind else {
-        return Err(Halt::Syntax { left: tokens.len() });
+        return None;
     };
-    match compound(*sign) {
-        Some(op) => Ok((op, rest)),
-        None => Err(Halt::Syntax { left: tokens.len() }),
-    }
+    let op = compound(*sign)?;
+    Some((op, rest))
 }
 
-fn counter_of(tokens: &[Token]) -> Result<(Place, Op, &[Token]), Halt>
-    ensures { Gives (λ x. ((x.0, x.1), x.2.now)) result (counter_at tokens.now) }
+// The operator of `++` or `--`, its place and the tokens after it, where it comes next.
+fn counter_of(tokens: &[Token]) -> Option<(Place, Op, &[Token])>
+    ensures { option_map (λ x. ((x.0, x.1), x.2.now)) result ≡ counter_at tokens.now }
 {
-    let Some((first, rest)) = tokens.split_first() else {
-        return Err(Halt::Syntax { left: 0 });
-    };
+    let (first, rest) = tokens.split_first()?;
     let TokenKind::Sign(sign) = &first.kind else {
-        return Err(Halt::Syntax { left: tokens.len() });
+        return None;
     };
-    match counter(*sign) {
-        Some(op) => Ok((first.place, op, rest)),
-        None => Err(Halt::Syntax { left: tokens.len() }),
-    }
+    let op = counter(*sign)?;
+    Some((first.place, op, rest))
 }
 
 // Whether `++` or `--` comes next.
 fn is_counter(tokens: &[Token]) -> bool
     ensures { result ≡ is_counter tokens.now }
 {
-    let Some((first, _)) = tokens.split_first() else {
-        return false;
-    };
-    match &first.kind {
-        TokenKind::Sign(sign) => counter(*sign).is_some(),
-        TokenKind::Word(_) | TokenKind::Number(_) | TokenKind::Text(_) => false,
-    }
+    counter_of(tokens).is_some()
 }
 
 // Whether `op=` comes next.
 fn is_compound(tokens: &[Token]) -> bool
     ensures { result ≡ is_compound tokens.now }
 {
-    let Some((first, _)) = tokens.split_first() else {
-        return false;
-    };
-    match &first.kind {
-        TokenKind::Sign(sign) => compound(*sign).is_some(),
-        TokenKind::Word(_) | TokenKind::Number(_) | TokenKind::Text(_) => false,
-    }
+    compound_of(tokens).is_some()
 }
 
 // Whether what stands behind a target comes next.
@@ -233,8 +215,7 @@ fn target_of(alloc: Global, tokens: &[Token]) -> Read<'_>
     ensures read { Gives (λ x. (expr_of x.0.value, x.2.now)) result (target_at tokens.now) }
     ensures deep { IfOk result (λ x. x.1 ≡ depth (expr_of x.0.value)) }
 {
-    if is_word(tokens, "this") {
-        let (place, rest) = word_of(tokens, "this")?;
+    if let Some((place, rest)) = past_word(tokens, "this") {
         let (_, rest) = sign_of(rest, Sign::Dot)?;
         let (_, name, rest) = name_of(rest)?;
         let kind = ExprKind::This;
@@ -267,20 +248,20 @@ fn assigned(
     Ok((Stmt { place, kind }, rest))
 }
 
-// A target that an operator changes, with the target once more as the operator's operand.
+// A target that an operator changes. It is read once more, as the operator's operand.
 #[tactic(auto, using(jv_tree::proofs::ViewLaws::views))]
-fn changed(
+fn changed<'a>(
     alloc: Global,
     place: Place,
     op: Op,
     target: (Box<Expr>, u8),
-    operand: Box<Expr>,
+    from: &[Token],
     value: (Box<Expr>, u8),
-    rest: &[Token],
+    rest: &'a [Token],
     levels: u8,
-) -> ReadStmt<'_>
+) -> ReadStmt<'a>
     requires target_deep { target.1 ≡ depth (expr_of target.0.value) }
-    requires same { expr_of operand.value ≡ expr_of target.0.value }
+    requires read { option_map (λ x. x.0) (target_at from.now) ≡ Some (expr_of target.0.value) }
     requires value_deep { value.1 ≡ depth (expr_of value.0.value) }
     ensures { Gives (λ x. (stmt_of x.0, x.1.now)) result
         (assigned levels place (expr_of target.0.value) (changed op (expr_of target.0.value) (expr_of value.0.value)) rest.now) }
@@ -289,6 +270,7 @@ fn changed(
     if parts >= levels {
         return Err(Halt::Syntax { left: rest.len() });
     }
+    let (operand, _, _) = target_of(alloc, from)?;
     let made = Expr {
         place: target.0.place,
         kind: ExprKind::Binary(op, operand, value.0),
@@ -297,101 +279,95 @@ fn changed(
     assigned(place, target, (made, parts + 1), rest, levels)
 }
 
-// "=" expr ";" behind a target.
+// expr ";" behind a target and "=".
 #[tactic(auto, using(jv_tree::proofs::ViewLaws::views))]
 fn plain_of(alloc: Global, target: (Box<Expr>, u8), tokens: &[Token], levels: u8) -> ReadStmt<'_>
     requires { target.1 ≡ depth (expr_of target.0.value) }
     ensures { Gives (λ x. (stmt_of x.0, x.1.now)) result (plain_at levels (expr_of target.0.value) tokens.now) }
 {
     let place = target.0.place;
-    let (_, rest) = sign_of(tokens, Sign::Assign)?;
-    let (value, deep, rest) = ended_of(alloc, rest, levels)?;
+    let (value, deep, rest) = ended_of(alloc, tokens, levels)?;
     assigned(place, target, (value, deep), rest, levels)
 }
 
-// inc ";" behind a target that is there twice.
+// ";" behind a target and `++` or `--`, or behind both in the other order.
 #[tactic(auto, using(jv_tree::proofs::ViewLaws::views))]
-fn counted_of(
+fn counted_of<'a>(
     alloc: Global,
+    place: Place,
+    op: Op,
     target: (Box<Expr>, u8),
-    operand: Box<Expr>,
-    tokens: &[Token],
+    from: &[Token],
+    tokens: &'a [Token],
     levels: u8,
-) -> ReadStmt<'_>
+) -> ReadStmt<'a>
     requires target_deep { target.1 ≡ depth (expr_of target.0.value) }
-    requires same { expr_of operand.value ≡ expr_of target.0.value }
-    ensures { Gives (λ x. (stmt_of x.0, x.1.now)) result (counted_at levels (expr_of target.0.value) tokens.now) }
+    requires read { option_map (λ x. x.0) (target_at from.now) ≡ Some (expr_of target.0.value) }
+    ensures { Gives (λ x. (stmt_of x.0, x.1.now)) result (counted_at levels place op (expr_of target.0.value) tokens.now) }
 {
-    let place = target.0.place;
-    let (_, op, rest) = counter_of(tokens)?;
-    let (_, rest) = sign_of(rest, Sign::Semicolon)?;
-    let kind = ExprKind::Int(1);
-    let one = Box::new(alloc, Expr { place, kind })?;
-    changed(alloc, place, op, target, operand, (one, 1), rest, levels)
+    let (_, rest) = sign_of(tokens, Sign::Semicolon)?;
+    let one = Expr {
+        place: target.0.place,
+        kind: ExprKind::Int(1),
+    };
+    let one = Box::new(alloc, one)?;
+    changed(alloc, place, op, target, from, (one, 1), rest, levels)
 }
 
-// asg expr ";" behind a target that is there twice, where the sign isn't "=".
+// expr ";" behind a target and `op=`.
 #[tactic(auto, using(jv_tree::proofs::ViewLaws::views))]
-fn compounded_of(
+fn compounded_of<'a>(
     alloc: Global,
+    op: Op,
     target: (Box<Expr>, u8),
-    operand: Box<Expr>,
-    tokens: &[Token],
+    from: &[Token],
+    tokens: &'a [Token],
     levels: u8,
-) -> ReadStmt<'_>
+) -> ReadStmt<'a>
     requires target_deep { target.1 ≡ depth (expr_of target.0.value) }
-    requires same { expr_of operand.value ≡ expr_of target.0.value }
-    ensures { Gives (λ x. (stmt_of x.0, x.1.now)) result (compounded_at levels (expr_of target.0.value) tokens.now) }
+    requires read { option_map (λ x. x.0) (target_at from.now) ≡ Some (expr_of target.0.value) }
+    ensures { Gives (λ x. (stmt_of x.0, x.1.now)) result (compounded_at levels op (expr_of target.0.value) tokens.now) }
 {
     let place = target.0.place;
-    let (op, rest) = compound_of(tokens)?;
-    let (value, deep, rest) = ended_of(alloc, rest, levels)?;
-    let value = (value, deep);
-    changed(alloc, place, op, target, operand, value, rest, levels)
+    let (value, deep, rest) = ended_of(alloc, tokens, levels)?;
+    changed(alloc, place, op, target, from, (value, deep), rest, levels)
 }
 
-// What stands behind a target that is there twice.
-#[tactic(auto, unfolding(jv_reading::specs::Stmts::change_at))]
-fn change_of(
+// What stands behind a target, which begins these tokens.
+#[tactic(auto, using(jv_tree::proofs::ViewLaws::views), unfolding(jv_reading::specs::Stmts::change_at))]
+fn change_of<'a>(
     alloc: Global,
     target: (Box<Expr>, u8),
-    operand: Box<Expr>,
-    tokens: &[Token],
+    from: &[Token],
+    tokens: &'a [Token],
     levels: u8,
-) -> ReadStmt<'_>
+) -> ReadStmt<'a>
     requires target_deep { target.1 ≡ depth (expr_of target.0.value) }
-    requires same { expr_of operand.value ≡ expr_of target.0.value }
+    requires read { option_map (λ x. x.0) (target_at from.now) ≡ Some (expr_of target.0.value) }
     ensures { Gives (λ x. (stmt_of x.0, x.1.now)) result (change_at levels (expr_of target.0.value) tokens.now) }
 {
-    if is_sign(tokens, Sign::Assign) {
-        return plain_of(alloc, target, tokens, levels);
+    if let Some((_, rest)) = past_sign(tokens, Sign::Assign) {
+        return plain_of(alloc, target, rest, levels);
     }
-    if is_counter(tokens) {
-        return counted_of(alloc, target, operand, tokens, levels);
+    if let Some((_, op, rest)) = counter_of(tokens) {
+        let place = target.0.place;
+        return counted_of(alloc, place, op, target, from, rest, levels);
     }
-    compounded_of(alloc, target, operand, tokens, levels)
+    match compound_of(tokens) {
+        Some((op, rest)) => compounded_of(alloc, op, target, from, rest, levels),
+        None => Err(Halt::Syntax { left: tokens.len() }),
+    }
 }
 
 // An assignment. Its target is read twice where an operator changes it.
-#[tactic(auto, using(jv_tree::proofs::ViewLaws::views), unfolding(jv_reading::specs::Stmts::assign_at))]
+#[tactic(auto, unfolding(jv_reading::specs::Stmts::assign_at))]
 pub(crate) fn assign_of(alloc: Global, tokens: &[Token], levels: u8) -> ReadStmt<'_>
     ensures { Gives (λ x. (stmt_of x.0, x.1.now)) result (assign_at levels tokens.now) }
 {
-    if is_counter(tokens) {
-        let (place, op, rest) = counter_of(tokens)?;
+    if let Some((place, op, rest)) = counter_of(tokens) {
         let (target, deep, after) = target_of(alloc, rest)?;
-        let (operand, _, _) = target_of(alloc, rest)?;
-        let (_, after) = sign_of(after, Sign::Semicolon)?;
-        let kind = ExprKind::Int(1);
-        let one = Expr {
-            place: target.place,
-            kind,
-        };
-        let one = Box::new(alloc, one)?;
-        let target = (target, deep);
-        return changed(alloc, place, op, target, operand, (one, 1), after, levels);
+        return counted_of(alloc, place, op, (target, deep), rest, after, levels);
     }
     let (target, deep, rest) = target_of(alloc, tokens)?;
-    let (operand, _, _) = target_of(alloc, tokens)?;
-    change_of(alloc, (target, deep), operand, rest, levels)
+    change_of(alloc, (target, deep), tokens, rest, levels)
 }

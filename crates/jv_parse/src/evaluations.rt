@@ -23,8 +23,8 @@ use std::alloc::Global;
 fn is_variable(expr: &Expr, name: &str) -> bool
     ensures { result ≡ is_variable name.now (expr_of expr.now) }
 {
-    match &expr.kind {
-        ExprKind::Name(found) => found.as_str() == name,
+    match expr.kind {
+        ExprKind::Name(ref found) => found.as_str() == name,
         ExprKind::Int(_)
         | ExprKind::Truth(_)
         | ExprKind::Text(_)
@@ -45,8 +45,8 @@ fn is_variable(expr: &Expr, name: &str) -> bool
 fn is_out(expr: &Expr) -> bool
     ensures { result ≡ is_out (expr_of expr.now) }
 {
-    match &expr.kind {
-        ExprKind::Member(inner, member) => {
+    match expr.kind {
+        ExprKind::Member(ref inner, ref member) => {
             is_variable(inner, "System") && member.as_str() == "out"
         }
         ExprKind::Int(_)
@@ -69,8 +69,8 @@ fn is_out(expr: &Expr) -> bool
 fn is_leaf(expr: &Expr) -> bool
     ensures { result ≡ is_leaf (expr_of expr.now) }
 {
-    match &expr.kind {
-        ExprKind::Call(_, args) => args.len() == 0,
+    match expr.kind {
+        ExprKind::Call(_, ref args) => args.len() == 0,
         ExprKind::Int(_)
         | ExprKind::Truth(_)
         | ExprKind::Text(_)
@@ -93,6 +93,7 @@ fn eval(place: Place, expr: Expr, deep: u8, levels: u8) -> Option<Stmt>
     ensures { option_map stmt_of result ≡ eval_if levels place (expr_of expr) }
 {
     if deep > levels {
+        drop(expr);
         return None;
     }
     let kind = StmtKind::Eval(expr);
@@ -119,6 +120,7 @@ fn print(place: Place, value: Expr, call: u8, levels: u8) -> Option<Stmt>
     ensures { option_map stmt_of result ≡ print_if levels place (expr_of value) }
 {
     if !is_within(&value, call, levels) {
+        drop(value);
         return None;
     }
     let kind = StmtKind::Print(value);
@@ -184,7 +186,10 @@ fn evaluated(place: Place, expr: Box<Expr>, deep: u8, levels: u8) -> Option<Stmt
         | ExprKind::Member(_, _)
         | ExprKind::Neg(_)
         | ExprKind::Not(_)
-        | ExprKind::Binary(_, _, _) => None,
+        | ExprKind::Binary(_, _, _) => {
+            drop(kind);
+            None
+        }
     }
 }
 

@@ -1,20 +1,21 @@
 //! Reads an expression, one function for each production.
 //! `room` is how many parentheses may be open, and `levels` how deep the tree may be.
 
-ghost use Rattle.std.specs.Prelude.{◌≡◌, ◌-◌, ◌<◌, Some, IfOk, IfSome, map, option_map, max, suc};
+ghost use Rattle.std.specs.Prelude.{◌≡◌, ◌-◌, ◌<◌, Some, IfOk, IfSome, is_some, map, option_map, max, suc};
+ghost use Rattle.jv_tree.specs.declared.token.Sign.TheVariants as signs;
 ghost use Rattle.jv_tree.specs.Expressions.{looseness};
 ghost use Rattle.jv_tree.specs.Source.{Binary, place_of};
 ghost use Rattle.jv_tree.specs.Depth.{depth, depth_of_args};
 ghost use Rattle.jv_tree.specs.View.{expr_of, kind_of, exprs_of};
 ghost use Rattle.jv_parse.specs.inner.Found.{found};
 ghost use Rattle.jv_parse.specs.inner.Gives.{Gives};
-ghost use Rattle.jv_reading.specs.Base.{fits};
-ghost use Rattle.jv_reading.specs.Exprs.{args_with, next_arg_with, arguments_at, closed_at, negative_at, named_at, word_primary_at};
+ghost use Rattle.jv_reading.specs.Base.{sign_at, fits};
+ghost use Rattle.jv_reading.specs.Exprs.{args_with, arguments_at, closed_at, negative_at, named_at, word_primary_at};
 ghost use Rattle.jv_reading.specs.Exprs.{new_with, literal, primary_at, tail_at, post_at, is_negation, unary_at, operator, op_at, op_found};
 ghost use Rattle.jv_reading.specs.Exprs.{is_op, joined_at, binary_at, expr_at};
 
 use crate::halt::Halt;
-use crate::tokens::{is_name, is_sign, name_of, sign_of, starts_number};
+use crate::tokens::{is_name, is_sign, name_of, past_sign, sign_of, starts_number};
 use jv_tree::{Expr, ExprKind, Op, Sign, Token, TokenKind};
 use mg_text::{List, Place, Text};
 use std::alloc::Global;
@@ -26,7 +27,7 @@ pub(crate) type Read<'a> = Result<(Box<Expr>, u8, &'a [Token]), Halt>;
 type ReadArgs<'a> = Result<(List<Expr>, u8, &'a [Token]), Halt>;
 
 // The loosest operators, those of `||`, bind one less than this.
-const LOOSEST: u8 = 6;
+pub(crate) const LOOSEST: u8 = 6;
 
 // An expression whose parts are so deep, in front of tokens that are left, where it fits.
 #[tactic(auto, using(jv_tree::proofs::ViewLaws::views))]
@@ -119,14 +120,17 @@ fn is_op(tokens: &[Token], strength: u8) -> bool
     op_of(tokens, strength).is_some()
 }
 
-// Whether a "-" comes next that no number follows.
-fn is_negation(tokens: &[Token]) -> bool
-    ensures { result ≡ is_negation tokens.now }
+// The place of a "-" that no number follows and the tokens after it, where it comes next.
+fn past_negation(tokens: &[Token]) -> Option<(Place, &[Token])>
+    ensures it { IfSome result (λ x. sign_at signs.Minus tokens.now ≡ Some (x.0, x.1.now)) }
+    ensures comes { is_some result ≡ is_negation tokens.now }
 {
-    let Some((_, rest)) = tokens.split_first() else {
-        return false;
-    };
-    is_sign(tokens, Sign::Minus) && !starts_number(rest)
+    let (_, rest) = tokens.split_first()?;
+    let found = past_sign(tokens, Sign::Minus)?;
+    if starts_number(rest) {
+        return None;
+    }
+    Some(found)
 }
 
 // The number behind a "-" at this place.
@@ -154,11 +158,10 @@ fn new_of(alloc: Global, place: Place, tokens: &[Token], room: u16) -> Read<'_>
     ensures read { Gives (λ x. (expr_of x.0.value, x.2.now)) result (new_with room place tokens.now) }
     ensures deep { IfOk result (λ x. x.1 ≡ depth (expr_of x.0.value)) }
 {
+    let (_, name, rest) = name_of(tokens)?;
     if room == 0 {
-        let (_, _, rest) = name_of(tokens)?;
         return Err(Halt::Syntax { left: rest.len() });
     }
-    let (_, name, rest) = name_of(tokens)?;
     let (_, rest) = sign_of(rest, Sign::OpenParen)?;
     let (_, rest) = sign_of(rest, Sign::CloseParen)?;
     leaf(alloc, place, ExprKind::New(name), rest)
@@ -195,27 +198,16 @@ fn args_of(alloc: Global, tokens: &[Token], room: u16, levels: u8) -> ReadArgs<'
     ensures read { Gives (λ x. (map expr_of x.0.items, x.2.now)) result (args_with (expr_at room levels) tokens.now) }
     ensures deep { IfOk result (λ x. x.1 ≡ depth_of_args (exprs_of (map expr_of x.0.items))) }
 {
-    let mut args = List::new(alloc);
     let (first, mut deepest, mut rest) = chain_of(alloc, tokens, room, levels, LOOSEST)?;
+    let mut args = List::new(alloc);
     args.push(Box::into_inner(first))?;
-    'more: while is_sign(rest, Sign::Comma) {
-        let (arg, deep, after) = next_arg_of(alloc, rest, room, levels)?;
+    'more: while let Some((_, next)) = past_sign(rest, Sign::Comma) {
+        let (arg, deep, after) = chain_of(alloc, next, room, levels, LOOSEST)?;
         args.push(Box::into_inner(arg))?;
         deepest = deepest.max(deep);
         rest = after;
     }
     Ok((args, deepest, rest))
-}
-
-// "," expr
-#[cycle(nest)]
-#[tactic(auto, unfolding(jv_reading::specs::Exprs::next_arg_with, jv_reading::specs::Exprs::expr_at))]
-fn next_arg_of(alloc: Global, tokens: &[Token], room: u16, levels: u8) -> Read<'_>
-    ensures read { Gives (λ x. (expr_of x.0.value, x.2.now)) result (next_arg_with (expr_at room levels) tokens.now) }
-    ensures deep { IfOk result (λ x. x.1 ≡ depth (expr_of x.0.value)) }
-{
-    let (_, rest) = sign_of(tokens, Sign::Comma)?;
-    chain_of(alloc, rest, room, levels, LOOSEST)
 }
 
 // "(" [args] ")"
@@ -228,8 +220,7 @@ fn arguments_of(alloc: Global, tokens: &[Token], room: u16, levels: u8) -> ReadA
         return Err(Halt::Syntax { left: tokens.len() });
     }
     let (_, rest) = sign_of(tokens, Sign::OpenParen)?;
-    if is_sign(rest, Sign::CloseParen) {
-        let (_, rest) = sign_of(rest, Sign::CloseParen)?;
+    if let Some((_, rest)) = past_sign(rest, Sign::CloseParen) {
         return Ok((List::new(alloc), 0, rest));
     }
     let (args, deepest, rest) = args_of(alloc, rest, room - 1, levels)?;
@@ -404,13 +395,11 @@ fn unary_of(alloc: Global, tokens: &[Token], room: u16, levels: u8) -> Read<'_>
     if levels == 0 {
         return Err(Halt::Syntax { left: tokens.len() });
     }
-    if is_negation(tokens) {
-        let (place, rest) = sign_of(tokens, Sign::Minus)?;
+    if let Some((place, rest)) = past_negation(tokens) {
         let (inner, deep, rest) = unary_of(alloc, rest, room, levels - 1)?;
         return fit(alloc, place, ExprKind::Neg(inner), deep, levels, rest);
     }
-    if is_sign(tokens, Sign::Bang) {
-        let (place, rest) = sign_of(tokens, Sign::Bang)?;
+    if let Some((place, rest)) = past_sign(tokens, Sign::Bang) {
         let (inner, deep, rest) = unary_of(alloc, rest, room, levels - 1)?;
         return fit(alloc, place, ExprKind::Not(inner), deep, levels, rest);
     }
@@ -442,9 +431,16 @@ fn joined_of(
     fit(alloc, place, kind, deep.max(height), levels, rest)
 }
 
-// Parts with operators between them that all bind less loosely than this.
+// Parts with operators between them that all bind less loosely than this: of the loosest, an
+// expression. So many parentheses may be open in it, and it is at most so deep.
 #[cycle(nest)]
-fn chain_of(alloc: Global, tokens: &[Token], room: u16, levels: u8, looseness: u8) -> Read<'_>
+pub(crate) fn chain_of(
+    alloc: Global,
+    tokens: &[Token],
+    room: u16,
+    levels: u8,
+    looseness: u8,
+) -> Read<'_>
     ensures read { Gives (λ x. (expr_of x.0.value, x.2.now)) result (binary_at room looseness levels tokens.now) }
     ensures deep { IfOk result (λ x. x.1 ≡ depth (expr_of x.0.value)) }
 {
@@ -460,13 +456,4 @@ fn chain_of(alloc: Global, tokens: &[Token], room: u16, levels: u8, looseness: u
         rest = after;
     }
     Ok((left, deep, rest))
-}
-
-// An expression in which so many parentheses may be open, and which is at most so deep.
-#[tactic(auto, unfolding(jv_reading::specs::Exprs::expr_at))]
-pub(crate) fn expr_of(alloc: Global, tokens: &[Token], room: u16, levels: u8) -> Read<'_>
-    ensures read { Gives (λ x. (expr_of x.0.value, x.2.now)) result (expr_at room levels tokens.now) }
-    ensures deep { IfOk result (λ x. x.1 ≡ depth (expr_of x.0.value)) }
-{
-    chain_of(alloc, tokens, room, levels, LOOSEST)
 }

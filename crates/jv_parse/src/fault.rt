@@ -3,7 +3,7 @@
 use mg_text::{Memory, Place, Text};
 
 /// Why the tokens of a file could not be read, in the order in which faults are judged.
-#[derive(Debug, PartialEq, Eq, Drop)]
+#[derive(Drop)]
 pub enum ParseFault {
     /// A token is a word of Java that isn't supported, or one of `? & | ^ ~`. The first one is
     /// told, with its text.

@@ -1,46 +1,36 @@
 //! Reads a file: its package, its imports and its declarations.
 //! Packages and imports are not kept.
 
-ghost use Rattle.std.specs.Prelude.{◌≡◌, map, codes};
+ghost use Rattle.std.specs.Prelude.{◌≡◌, Some, IfSome, is_some, map, codes};
 ghost use Rattle.jv_tree.specs.View.{decl_of, file_of};
 ghost use Rattle.jv_parse.specs.inner.Gives.{Gives};
 ghost use Rattle.jv_parse.specs.inner.Rests.{rest_of, imports_at, decls_at};
-ghost use Rattle.jv_reading.specs.Files.{is_more_steps, next_step_at, path_at, package_at, star_at, import_at, is_some_token, file_at};
+ghost use Rattle.jv_reading.specs.Files.{is_more_steps, next_step_at, path_at, package_at, star_at, import_at, file_at};
 
 use crate::decls::decl_of;
 use crate::halt::Halt;
-use crate::members::past_name;
-use crate::tokens::{is_named, is_sign, is_word, sign_of, word_of};
+use crate::tokens::{after_name, is_word, past_name, past_sign, past_word, sign_of, word_of};
 use jv_tree::{Decl, File, Sign, Token};
 use mg_text::List;
 use std::alloc::Global;
 
-// Whether "." and a name come next.
-fn is_more_steps(tokens: &[Token]) -> bool
-    ensures { result ≡ is_more_steps tokens.now }
-{
-    let Some((_, rest)) = tokens.split_first() else {
-        return false;
-    };
-    is_sign(tokens, Sign::Dot) && is_named(rest)
-}
-
-// "." name
+// The tokens behind "." and a name, where these come next.
 #[tactic(auto, unfolding(jv_reading::specs::Files::next_step_at))]
-fn next_step_of(tokens: &[Token]) -> Result<&[Token], Halt>
-    ensures { Gives (λ x. x.now) result (rest_of (next_step_at tokens.now)) }
+fn past_step(tokens: &[Token]) -> Option<&[Token]>
+    ensures it { IfSome result (λ r. rest_of (next_step_at tokens.now) ≡ Some r.now) }
+    ensures comes { is_some result ≡ is_more_steps tokens.now }
 {
-    let (_, rest) = sign_of(tokens, Sign::Dot)?;
-    past_name(rest)
+    let (_, rest) = past_sign(tokens, Sign::Dot)?;
+    let (_, _, rest) = past_name(rest)?;
+    Some(rest)
 }
 
 // path = name { "." name }
 fn path_of(tokens: &[Token]) -> Result<&[Token], Halt>
     ensures { Gives (λ x. x.now) result (rest_of (path_at tokens.now)) }
 {
-    let mut rest = past_name(tokens)?;
-    'steps: while is_more_steps(rest) {
-        let after = next_step_of(rest)?;
+    let mut rest = after_name(tokens)?;
+    'steps: while let Some(after) = past_step(rest) {
         rest = after;
     }
     Ok(rest)
@@ -51,8 +41,7 @@ fn path_of(tokens: &[Token]) -> Result<&[Token], Halt>
 fn package_of(tokens: &[Token]) -> Result<&[Token], Halt>
     ensures { Gives (λ x. x.now) result (package_at tokens.now) }
 {
-    if is_word(tokens, "package") {
-        let (_, rest) = word_of(tokens, "package")?;
+    if let Some((_, rest)) = past_word(tokens, "package") {
         let rest = path_of(rest)?;
         let (_, rest) = sign_of(rest, Sign::Semicolon)?;
         return Ok(rest);
@@ -65,8 +54,7 @@ fn package_of(tokens: &[Token]) -> Result<&[Token], Halt>
 fn star_of(tokens: &[Token]) -> Result<&[Token], Halt>
     ensures { Gives (λ x. x.now) result (star_at tokens.now) }
 {
-    if is_sign(tokens, Sign::Dot) {
-        let (_, rest) = sign_of(tokens, Sign::Dot)?;
+    if let Some((_, rest)) = past_sign(tokens, Sign::Dot) {
         let (_, rest) = sign_of(rest, Sign::Star)?;
         let (_, rest) = sign_of(rest, Sign::Semicolon)?;
         return Ok(rest);
@@ -97,20 +85,13 @@ fn imports_of(tokens: &[Token]) -> Result<&[Token], Halt>
     Ok(rest)
 }
 
-// Whether tokens are left.
-fn is_some_token(tokens: &[Token]) -> bool
-    ensures { result ≡ is_some_token tokens.now }
-{
-    tokens.split_first().is_some()
-}
-
 // { class | enum }, up to the end of the tokens.
 fn decls_of(alloc: Global, tokens: &[Token]) -> Result<(List<Decl>, &[Token]), Halt>
     ensures { Gives (λ x. (map decl_of x.0.items, x.1.now)) result (decls_at tokens.now) }
 {
     let mut decls = List::new(alloc);
     let mut rest = tokens;
-    'turns: while is_some_token(rest) {
+    'turns: while !rest.is_empty() {
         let (decl, after) = decl_of(alloc, rest)?;
         decls.push(decl)?;
         rest = after;

@@ -4,7 +4,7 @@ use mg_text::Memory;
 use std::alloc::{AllocError, AllocFailed};
 
 /// Why reading stopped.
-#[derive(Clone, Copy, Debug, PartialEq, Eq)]
+#[derive(Clone, Copy)]
 pub(crate) enum Halt {
     /// Want of memory.
     Memory,

@@ -1,22 +1,22 @@
 //! Reads the members of a class: its fields and its methods.
 //! Of modifiers only `static` is kept.
 
-ghost use Rattle.std.specs.Prelude.{◌≡◌, ◌++◌, ◌∷◌, [], Some, IfOk, map};
+ghost use Rattle.std.specs.Prelude.{◌≡◌, ◌++◌, ◌∷◌, [], OnOk, map, option_map};
 ghost use Rattle.jv_tree.specs.Files.{fields_among, methods_among};
-ghost use Rattle.jv_tree.specs.View.{field_of, method_of};
+ghost use Rattle.jv_tree.specs.View.{expr_of, field_of, method_of};
 ghost use Rattle.jv_parse.specs.inner.Gives.{Gives};
-ghost use Rattle.jv_parse.specs.inner.Members.{member_of, sorted_at, sorted_members};
-ghost use Rattle.jv_parse.specs.inner.Rests.{rest_of};
-ghost use Rattle.jv_reading.specs.Base.{name_at};
-ghost use Rattle.jv_reading.specs.Files.{result_at, param_at, next_param_at, params_at, is_args, args_at, params_of_at, is_void, is_main};
-ghost use Rattle.jv_reading.specs.Files.{method_at, field_at, member_with, member_at, not_closed};
+ghost use Rattle.jv_parse.specs.inner.Members.{behind_of, behind_at, value_at, member_of, sorted_at, sorted_members};
+ghost use Rattle.jv_reading.specs.Files.{result_at, param_at, params_at, is_args, args_at, params_of_at, is_void, is_main};
+ghost use Rattle.jv_reading.specs.Files.{member_at};
 
 use crate::assigns::{after_final, ended_of, type_of};
 use crate::halt::Halt;
 use crate::modifiers::{Modifiers, after_mods, static_mods};
 use crate::stmts::items_of;
-use crate::tokens::{is_named, is_sign, is_word, name_of, sign_of, word_of};
-use jv_tree::{Field, MethodDecl, Param, Sign, Token};
+use crate::tokens::{
+    after_name, is_sign, is_word, name_of, past_sign, past_word, sign_of, word_of,
+};
+use jv_tree::{Expr, Field, MethodDecl, Param, Sign, Stmt, Token};
 use mg_text::{List, Memory, Place, Text};
 use std::alloc::Global;
 use ts_tree::TypeName;
@@ -24,13 +24,13 @@ use ts_tree::TypeName;
 // How deep statements and expressions may stand one inside another.
 const MOST_LEVELS: u8 = 200;
 
-// What stands in front of a member, up to its name.
+// What stands behind the name of a method.
 #[derive(Drop)]
-struct Head {
-    is_static: bool,
-    ty: TypeName,
-    place: Place,
-    name: Text,
+struct Behind {
+    params: List<Param>,
+    takes_args: bool,
+    body: List<Stmt>,
+    end: Place,
 }
 
 // A member of a class.
@@ -52,8 +52,7 @@ pub(crate) struct Members {
 fn result_of(tokens: &[Token]) -> Result<(TypeName, &[Token]), Halt>
     ensures { Gives (λ x. (x.0, x.1.now)) result (result_at tokens.now) }
 {
-    if is_word(tokens, "void") {
-        let (_, rest) = word_of(tokens, "void")?;
+    if let Some((_, rest)) = past_word(tokens, "void") {
         return Ok((TypeName::Void, rest));
     }
     type_of(tokens)
@@ -69,24 +68,15 @@ fn param_of(tokens: &[Token]) -> Result<(Param, &[Token]), Halt>
     Ok((Param { place, ty, name }, rest))
 }
 
-// "," param
-#[tactic(auto, unfolding(jv_reading::specs::Files::next_param_at))]
-fn next_param_of(tokens: &[Token]) -> Result<(Param, &[Token]), Halt>
-    ensures { Gives (λ x. (x.0, x.1.now)) result (next_param_at tokens.now) }
-{
-    let (_, rest) = sign_of(tokens, Sign::Comma)?;
-    param_of(rest)
-}
-
 // param { "," param }
 fn params_of(alloc: Global, tokens: &[Token]) -> Result<(List<Param>, &[Token]), Halt>
     ensures { Gives (λ x. (x.0.items, x.1.now)) result (params_at tokens.now) }
 {
-    let mut params = List::new(alloc);
     let (first, mut rest) = param_of(tokens)?;
+    let mut params = List::new(alloc);
     params.push(first)?;
-    'more: while is_sign(rest, Sign::Comma) {
-        let (param, after) = next_param_of(rest)?;
+    'more: while let Some((_, next)) = past_sign(rest, Sign::Comma) {
+        let (param, after) = param_of(next)?;
         params.push(param)?;
         rest = after;
     }
@@ -103,20 +93,6 @@ fn is_args(tokens: &[Token]) -> bool
     is_word(tokens, "String") && is_sign(rest, Sign::OpenBracket)
 }
 
-// The tokens behind a name that is not kept.
-pub(crate) fn past_name(tokens: &[Token]) -> Result<&[Token], Halt>
-    ensures { Gives (λ x. x.now) result (rest_of (name_at tokens.now)) }
-{
-    let Some((_, rest)) = tokens.split_first() else {
-        return Err(Halt::Syntax { left: 0 });
-    };
-    if is_named(tokens) {
-        Ok(rest)
-    } else {
-        Err(Halt::Syntax { left: tokens.len() })
-    }
-}
-
 // "String" "[" "]" name
 #[tactic(auto, unfolding(jv_reading::specs::Files::args_at))]
 fn args_of(tokens: &[Token]) -> Result<&[Token], Halt>
@@ -125,7 +101,7 @@ fn args_of(tokens: &[Token]) -> Result<&[Token], Halt>
     let (_, rest) = word_of(tokens, "String")?;
     let (_, rest) = sign_of(rest, Sign::OpenBracket)?;
     let (_, rest) = sign_of(rest, Sign::CloseBracket)?;
-    past_name(rest)
+    after_name(rest)
 }
 
 // [ params ] of `main`, or of another method; and whether it is that of `main`.
@@ -162,139 +138,92 @@ fn is_void(ty: &TypeName) -> bool
 }
 
 // Whether it is the `main` of a program.
-fn is_main(head: &Head) -> bool
-    ensures { result ≡ is_main head.now.is_static head.now.ty head.now.name }
+fn is_main(is_static: bool, ty: &TypeName, name: &Text) -> bool
+    ensures { result ≡ is_main is_static ty.now name.now }
 {
-    head.is_static && is_void(&head.ty) && head.name.as_str() == "main"
+    is_static && is_void(ty) && name.as_str() == "main"
 }
 
 // "(" [ params ] ")" block, behind the name of a method.
-#[tactic(auto, unfolding(jv_reading::specs::Files::method_at, jv_reading::specs::Stmts::items_at))]
-fn method_of(alloc: Global, head: Head, tokens: &[Token]) -> Result<(MethodDecl, &[Token]), Halt>
-    ensures { Gives (λ x. (method_of x.0, x.1.now)) result (method_at head.is_static head.ty head.place head.name tokens.now) }
+#[tactic(auto, unfolding(jv_reading::specs::Stmts::items_at, crate::specs::inner::Members::behind_at))]
+fn behind_of(alloc: Global, tokens: &[Token], main: bool) -> Result<(Behind, &[Token]), Halt>
+    ensures { Gives (λ x. (behind_of x.0, x.1.now)) result (behind_at main tokens.now) }
 {
-    let main = is_main(&head);
     let (_, rest) = sign_of(tokens, Sign::OpenParen)?;
     let (params, takes_args, rest) = params_in(alloc, rest, main)?;
     let (_, rest) = sign_of(rest, Sign::CloseParen)?;
     let (_, rest) = sign_of(rest, Sign::OpenBrace)?;
     let (body, rest) = items_of(alloc, rest, MOST_LEVELS)?;
     let (end, rest) = sign_of(rest, Sign::CloseBrace)?;
-    let method = MethodDecl {
-        place: head.place,
-        end,
-        is_static: head.is_static,
-        result: head.ty,
-        name: head.name,
+    let behind = Behind {
         params,
         takes_args,
         body,
+        end,
     };
-    Ok((method, rest))
+    Ok((behind, rest))
 }
 
 // [ "=" expr ] ";", behind the name of a field.
-#[tactic(auto, unfolding(jv_reading::specs::Files::field_at))]
-fn field_of(alloc: Global, head: Head, tokens: &[Token]) -> Result<(Field, &[Token]), Halt>
-    ensures { Gives (λ x. (field_of x.0, x.1.now)) result (field_at head.ty head.place head.name tokens.now) }
+#[tactic(auto, unfolding(crate::specs::inner::Members::value_at))]
+fn value_of(alloc: Global, tokens: &[Token]) -> Result<(Option<Expr>, &[Token]), Halt>
+    ensures { Gives (λ x. (option_map expr_of x.0, x.1.now)) result (value_at tokens.now) }
 {
-    let Head {
-        is_static: _,
-        ty,
-        place,
-        name,
-    } = head;
-    if is_sign(tokens, Sign::Assign) {
-        let (_, rest) = sign_of(tokens, Sign::Assign)?;
+    if let Some((_, rest)) = past_sign(tokens, Sign::Assign) {
         let (value, _, rest) = ended_of(alloc, rest, MOST_LEVELS)?;
-        let value = Some(Box::into_inner(value));
-        return Ok((
-            Field {
-                place,
-                ty,
-                name,
-                value,
-            },
-            rest,
-        ));
+        return Ok((Some(Box::into_inner(value)), rest));
     }
     let (_, rest) = sign_of(tokens, Sign::Semicolon)?;
-    let value = None;
-    Ok((
-        Field {
-            place,
-            ty,
-            name,
-            value,
-        },
-        rest,
-    ))
+    Ok((None, rest))
 }
 
-// A member behind its modifiers.
-#[tactic(auto, unfolding(jv_reading::specs::Files::member_with))]
-fn named_member_of(
-    alloc: Global,
-    is_static: bool,
-    tokens: &[Token],
-) -> Result<(Member, &[Token]), Halt>
-    ensures { Gives (λ x. (member_of x.0, x.1.now)) result (member_with is_static tokens.now) }
-{
-    let (ty, rest) = result_of(tokens)?;
-    let (place, name, rest) = name_of(rest)?;
-    let head = Head {
-        is_static,
-        ty,
-        place,
-        name,
-    };
-    if is_sign(rest, Sign::OpenParen) {
-        let (method, rest) = method_of(alloc, head, rest)?;
-        return Ok((Member::Method(method), rest));
-    }
-    if is_static || is_void(&head.ty) {
-        return Err(Halt::Syntax { left: rest.len() });
-    }
-    let (field, rest) = field_of(alloc, head, rest)?;
-    Ok((Member::Field(field), rest))
-}
-
-#[tactic(auto, unfolding(jv_reading::specs::Files::member_at))]
+// A member with its modifiers: a method, or a field.
+#[tactic(auto, using(crate::proofs::MemberTurns::method_is, crate::proofs::MemberTurns::field_is), unfolding(jv_reading::specs::Files::member_at, jv_reading::specs::Files::member_with))]
 fn member_of(alloc: Global, tokens: &[Token]) -> Result<(Member, &[Token]), Halt>
     ensures { Gives (λ x. (member_of x.0, x.1.now)) result (member_at tokens.now) }
 {
     let is_static = static_mods(tokens);
-    named_member_of(alloc, is_static, after_mods(Modifiers::OfMember, tokens))
+    let (ty, rest) = result_of(after_mods(Modifiers::OfMember, tokens))?;
+    let (place, name, rest) = name_of(rest)?;
+    if is_sign(rest, Sign::OpenParen) {
+        let main = is_main(is_static, &ty, &name);
+        let (behind, rest) = behind_of(alloc, rest, main)?;
+        let method = MethodDecl {
+            place,
+            end: behind.end,
+            is_static,
+            result: ty,
+            name,
+            params: behind.params,
+            takes_args: behind.takes_args,
+            body: behind.body,
+        };
+        return Ok((Member::Method(method), rest));
+    }
+    if is_static || is_void(&ty) {
+        return Err(Halt::Syntax { left: rest.len() });
+    }
+    let (value, rest) = value_of(alloc, rest)?;
+    let field = Field {
+        place,
+        ty,
+        name,
+        value,
+    };
+    Ok((Member::Field(field), rest))
 }
 
-// These members, and one more.
-fn with_member(members: Members, member: Member) -> Result<Members, Memory>
-    ensures fields { IfOk result (λ m. map field_of m.fields.items ≡ map field_of members.fields.items
+// One member more.
+fn add_member(members: &mut Members, member: Member) -> Result<(), Memory>
+    ensures fields { OnOk result (map field_of members.new.fields.items ≡ map field_of members.old.fields.items
         ++ fields_among (member_of member ∷ [])) }
-    ensures methods { IfOk result (λ m. map method_of m.methods.items ≡ map method_of members.methods.items ++ methods_among
+    ensures methods { OnOk result (map method_of members.new.methods.items ≡ map method_of members.old.methods.items ++ methods_among
         (member_of member ∷ [])) }
 {
-    let Members {
-        mut fields,
-        mut methods,
-    } = members;
     match member {
-        Member::Field(field) => {
-            fields.push(field)?;
-            Ok(Members { fields, methods })
-        }
-        Member::Method(method) => {
-            methods.push(method)?;
-            Ok(Members { fields, methods })
-        }
+        Member::Field(field) => members.fields.push(field),
+        Member::Method(method) => members.methods.push(method),
     }
-}
-
-// Whether the members go on.
-fn not_closed(tokens: &[Token]) -> bool
-    ensures { result ≡ not_closed tokens.now }
-{
-    !is_sign(tokens, Sign::CloseBrace)
 }
 
 // { member }
@@ -306,9 +235,9 @@ fn sorted_of(alloc: Global, tokens: &[Token]) -> Result<(Members, &[Token]), Hal
         methods: List::new(alloc),
     };
     let mut rest = tokens;
-    'turns: while not_closed(rest) {
+    'turns: while !is_sign(rest, Sign::CloseBrace) {
         let (member, after) = member_of(alloc, rest)?;
-        members = with_member(members, member)?;
+        add_member(&mut members, member)?;
         rest = after;
     }
     Ok((members, rest))

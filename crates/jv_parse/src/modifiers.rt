@@ -31,22 +31,10 @@ fn is_among(mods: Modifiers, word: &str) -> bool
     ensures { result ≡ is_among (words_of mods) word.now }
 {
     match mods {
-        Modifiers::OfMember => {
-            let words: [&str; 5] = OF_MEMBER;
-            words.as_slice().contains(&word)
-        }
-        Modifiers::OfClass => {
-            let words: [&str; 2] = OF_CLASS;
-            words.as_slice().contains(&word)
-        }
-        Modifiers::OfEnum => {
-            let words: [&str; 1] = OF_ENUM;
-            words.as_slice().contains(&word)
-        }
-        Modifiers::Static => {
-            let words: [&str; 1] = STATIC;
-            words.as_slice().contains(&word)
-        }
+        Modifiers::OfMember => OF_MEMBER.contains(&word),
+        Modifiers::OfClass => OF_CLASS.contains(&word),
+        Modifiers::OfEnum => OF_ENUM.contains(&word),
+        Modifiers::Static => STATIC.contains(&word),
     }
 }
 

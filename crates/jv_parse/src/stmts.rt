@@ -3,16 +3,18 @@
 
 ghost use Rattle.std.specs.Prelude.{◌≡◌, ◌≤◌, Some, map};
 ghost use Rattle.jv_tree.specs.View.{expr_of, stmt_of, group_of};
+ghost use Rattle.jv_parse.specs.inner.Behind.{break_behind, continue_behind, return_behind};
 ghost use Rattle.jv_parse.specs.inner.Gives.{Gives};
-ghost use Rattle.jv_reading.specs.Stmts.{is_typed, is_decl, is_case, goes_on, case_at, cases_at, jump_at, break_at, continue_at, return_at};
+ghost use Rattle.jv_parse.specs.inner.Loops.{while_at, do_at};
+ghost use Rattle.jv_reading.specs.Stmts.{is_typed, is_decl, is_case, goes_on, case_at, cases_at, jump_at};
 ghost use Rattle.jv_reading.specs.Stmts.{empty_at, is_label, loop_place, loop_label, stmt_at, item_with, items_with, block_with, if_with};
-ghost use Rattle.jv_reading.specs.Stmts.{while_with, do_with, loop_with, labelled_with, group_with, groups_with, switch_with, simple_with};
+ghost use Rattle.jv_reading.specs.Stmts.{loop_with, labelled_with, group_with, groups_with, switch_with, simple_with};
 
 use crate::assigns::{ReadStmt, assign_of, cond_of, ended_of, is_assign, local_of};
 use crate::evaluations::evaluation_of;
 use crate::halt::Halt;
-use crate::tokens::{is_named, is_sign, is_word, name_of, sign_of, word_of};
-use jv_tree::{Group, Sign, Stmt, StmtKind, Token};
+use crate::tokens::{is_named, is_sign, is_word, name_of, past_sign, past_word, sign_of, word_of};
+use jv_tree::{Expr, Group, Sign, Stmt, StmtKind, Token};
 use mg_text::{List, Place, Text};
 use std::alloc::Global;
 
@@ -66,8 +68,7 @@ fn is_label(tokens: &[Token]) -> bool
 fn case_of(tokens: &[Token]) -> Result<(Option<Text>, &[Token]), Halt>
     ensures { Gives (λ x. (x.0, x.1.now)) result (case_at tokens.now) }
 {
-    if is_word(tokens, "default") {
-        let (_, rest) = word_of(tokens, "default")?;
+    if let Some((_, rest)) = past_word(tokens, "default") {
         let (_, rest) = sign_of(rest, Sign::Colon)?;
         return Ok((None, rest));
     }
@@ -81,8 +82,8 @@ fn case_of(tokens: &[Token]) -> Result<(Option<Text>, &[Token]), Halt>
 fn cases_of(alloc: Global, tokens: &[Token]) -> Result<(List<Option<Text>>, &[Token]), Halt>
     ensures { Gives (λ x. (x.0.items, x.1.now)) result (cases_at tokens.now) }
 {
-    let mut labels = List::new(alloc);
     let (first, mut rest) = case_of(tokens)?;
+    let mut labels = List::new(alloc);
     labels.push(first)?;
     'more: while is_case(rest) {
         let (label, after) = case_of(rest)?;
@@ -106,37 +107,36 @@ fn jump_of(tokens: &[Token]) -> Result<(Option<Text>, &[Token]), Halt>
     Ok((None, rest))
 }
 
-#[tactic(auto, using(jv_tree::proofs::ViewLaws::views), unfolding(jv_reading::specs::Stmts::break_at))]
-fn break_of(tokens: &[Token]) -> ReadStmt<'_>
-    ensures { Gives (λ x. (stmt_of x.0, x.1.now)) result (break_at tokens.now) }
+// What stands behind "break" at this place.
+#[tactic(auto, using(jv_tree::proofs::ViewLaws::views))]
+fn break_of(place: Place, tokens: &[Token]) -> ReadStmt<'_>
+    ensures { Gives (λ x. (stmt_of x.0, x.1.now)) result (break_behind place tokens.now) }
 {
-    let (place, rest) = word_of(tokens, "break")?;
-    let (label, rest) = jump_of(rest)?;
+    let (label, rest) = jump_of(tokens)?;
     let kind = StmtKind::Break(label);
     Ok((Stmt { place, kind }, rest))
 }
 
-#[tactic(auto, using(jv_tree::proofs::ViewLaws::views), unfolding(jv_reading::specs::Stmts::continue_at))]
-fn continue_of(tokens: &[Token]) -> ReadStmt<'_>
-    ensures { Gives (λ x. (stmt_of x.0, x.1.now)) result (continue_at tokens.now) }
+// What stands behind "continue" at this place.
+#[tactic(auto, using(jv_tree::proofs::ViewLaws::views))]
+fn continue_of(place: Place, tokens: &[Token]) -> ReadStmt<'_>
+    ensures { Gives (λ x. (stmt_of x.0, x.1.now)) result (continue_behind place tokens.now) }
 {
-    let (place, rest) = word_of(tokens, "continue")?;
-    let (label, rest) = jump_of(rest)?;
+    let (label, rest) = jump_of(tokens)?;
     let kind = StmtKind::Continue(label);
     Ok((Stmt { place, kind }, rest))
 }
 
-#[tactic(auto, using(jv_tree::proofs::ViewLaws::views), unfolding(jv_reading::specs::Stmts::return_at))]
-fn return_of(alloc: Global, tokens: &[Token], levels: u8) -> ReadStmt<'_>
-    ensures { Gives (λ x. (stmt_of x.0, x.1.now)) result (return_at levels tokens.now) }
+// What stands behind "return" at this place.
+#[tactic(auto, using(jv_tree::proofs::ViewLaws::views))]
+fn return_of(alloc: Global, place: Place, tokens: &[Token], levels: u8) -> ReadStmt<'_>
+    ensures { Gives (λ x. (stmt_of x.0, x.1.now)) result (return_behind levels place tokens.now) }
 {
-    let (place, rest) = word_of(tokens, "return")?;
-    if is_sign(rest, Sign::Semicolon) {
-        let (_, rest) = sign_of(rest, Sign::Semicolon)?;
+    if let Some((_, rest)) = past_sign(tokens, Sign::Semicolon) {
         let kind = StmtKind::Return(None);
         return Ok((Stmt { place, kind }, rest));
     }
-    let (value, _, rest) = ended_of(alloc, rest, levels)?;
+    let (value, _, rest) = ended_of(alloc, tokens, levels)?;
     let kind = StmtKind::Return(Some(Box::into_inner(value)));
     Ok((Stmt { place, kind }, rest))
 }
@@ -151,19 +151,19 @@ fn empty_of(tokens: &[Token]) -> ReadStmt<'_>
 }
 
 // A statement that holds no other one.
-#[tactic(auto, unfolding(jv_reading::specs::Stmts::simple_with))]
+#[tactic(auto, unfolding(jv_reading::specs::Stmts::simple_with, jv_reading::specs::Stmts::break_at, jv_reading::specs::Stmts::continue_at, jv_reading::specs::Stmts::return_at))]
 fn simple_of(alloc: Global, tokens: &[Token], levels: u8) -> ReadStmt<'_>
     requires { levels ≤ 200 }
     ensures { Gives (λ x. (stmt_of x.0, x.1.now)) result (simple_with levels (stmt_at levels) tokens.now) }
 {
-    if is_word(tokens, "break") {
-        return break_of(tokens);
+    if let Some((place, rest)) = past_word(tokens, "break") {
+        return break_of(place, rest);
     }
-    if is_word(tokens, "continue") {
-        return continue_of(tokens);
+    if let Some((place, rest)) = past_word(tokens, "continue") {
+        return continue_of(place, rest);
     }
-    if is_word(tokens, "return") {
-        return return_of(alloc, tokens, levels);
+    if let Some((place, rest)) = past_word(tokens, "return") {
+        return return_of(alloc, place, rest, levels);
     }
     if is_assign(tokens) {
         return assign_of(alloc, tokens, levels);
@@ -237,8 +237,7 @@ fn if_of(alloc: Global, tokens: &[Token], levels: u8) -> ReadStmt<'_>
     let (place, rest) = word_of(tokens, "if")?;
     let (test, rest) = cond_of(alloc, rest, levels)?;
     let (body, rest) = inner_of(alloc, rest, levels)?;
-    if is_word(rest, "else") {
-        let (_, rest) = word_of(rest, "else")?;
+    if let Some((_, rest)) = past_word(rest, "else") {
         let (other, rest) = inner_of(alloc, rest, levels)?;
         let kind = StmtKind::If(Box::into_inner(test), body, Some(other));
         return Ok((Stmt { place, kind }, rest));
@@ -246,6 +245,10 @@ fn if_of(alloc: Global, tokens: &[Token], levels: u8) -> ReadStmt<'_>
     let kind = StmtKind::If(Box::into_inner(test), body, None);
     Ok((Stmt { place, kind }, rest))
 }
+
+// A loop without its label: the place of its first token, its test and its body, and the tokens
+// after it.
+type ReadLoop<'a> = Result<(Place, Box<Expr>, Box<Stmt>, &'a [Token]), Halt>;
 
 // Where a loop with this first token begins, and its label.
 fn labelled(start: Place, label: Option<(Place, Text)>) -> (Place, Option<Text>)
@@ -258,44 +261,35 @@ fn labelled(start: Place, label: Option<(Place, Text)>) -> (Place, Option<Text>)
     }
 }
 
-// A loop behind its label, where it has one: the place of the label, and its name.
 #[cycle(nest_stmts)]
-#[tactic(auto, using(jv_tree::proofs::ViewLaws::views), unfolding(jv_reading::specs::Stmts::while_with))]
-fn while_of(
-    alloc: Global,
-    tokens: &[Token],
-    label: Option<(Place, Text)>,
-    levels: u8,
-) -> ReadStmt<'_>
+#[tactic(auto, unfolding(crate::specs::inner::Loops::while_at))]
+fn while_of(alloc: Global, tokens: &[Token], levels: u8) -> ReadLoop<'_>
     requires { levels ≤ 200 }
-    ensures { Gives (λ x. (stmt_of x.0, x.1.now)) result (while_with levels (stmt_at levels) label tokens.now) }
+    ensures { Gives (λ x. ((x.0, (expr_of x.1.value, stmt_of x.2.value)), x.3.now)) result (while_at levels (stmt_at levels) tokens.now) }
 {
     let (start, rest) = word_of(tokens, "while")?;
     let (test, rest) = cond_of(alloc, rest, levels)?;
     let (body, rest) = inner_of(alloc, rest, levels)?;
-    let (place, name) = labelled(start, label);
-    let kind = StmtKind::While(name, Box::into_inner(test), body);
-    Ok((Stmt { place, kind }, rest))
+    Ok((start, test, body, rest))
 }
 
 #[cycle(nest_stmts)]
-#[tactic(auto, using(jv_tree::proofs::ViewLaws::views), unfolding(jv_reading::specs::Stmts::do_with))]
-fn do_of(alloc: Global, tokens: &[Token], label: Option<(Place, Text)>, levels: u8) -> ReadStmt<'_>
+#[tactic(auto, unfolding(crate::specs::inner::Loops::do_at))]
+fn do_of(alloc: Global, tokens: &[Token], levels: u8) -> ReadLoop<'_>
     requires { levels ≤ 200 }
-    ensures { Gives (λ x. (stmt_of x.0, x.1.now)) result (do_with levels (stmt_at levels) label tokens.now) }
+    ensures { Gives (λ x. ((x.0, (expr_of x.1.value, stmt_of x.2.value)), x.3.now)) result (do_at levels (stmt_at levels) tokens.now) }
 {
     let (start, rest) = word_of(tokens, "do")?;
     let (body, rest) = inner_of(alloc, rest, levels)?;
     let (_, rest) = word_of(rest, "while")?;
     let (test, rest) = cond_of(alloc, rest, levels)?;
     let (_, rest) = sign_of(rest, Sign::Semicolon)?;
-    let (place, name) = labelled(start, label);
-    let kind = StmtKind::Do(name, body, Box::into_inner(test));
-    Ok((Stmt { place, kind }, rest))
+    Ok((start, test, body, rest))
 }
 
+// A loop behind its label, where it has one: the place of the label, and its name.
 #[cycle(nest_stmts)]
-#[tactic(auto, unfolding(jv_reading::specs::Stmts::loop_with))]
+#[tactic(auto, using(jv_tree::proofs::ViewLaws::views, crate::proofs::StmtTurns::while_is, crate::proofs::StmtTurns::do_is), unfolding(jv_reading::specs::Stmts::loop_with))]
 fn loop_of(
     alloc: Global,
     tokens: &[Token],
@@ -306,9 +300,15 @@ fn loop_of(
     ensures { Gives (λ x. (stmt_of x.0, x.1.now)) result (loop_with levels (stmt_at levels) label tokens.now) }
 {
     if is_word(tokens, "while") {
-        return while_of(alloc, tokens, label, levels);
+        let (start, test, body, rest) = while_of(alloc, tokens, levels)?;
+        let (place, name) = labelled(start, label);
+        let kind = StmtKind::While(name, Box::into_inner(test), body);
+        return Ok((Stmt { place, kind }, rest));
     }
-    do_of(alloc, tokens, label, levels)
+    let (start, test, body, rest) = do_of(alloc, tokens, levels)?;
+    let (place, name) = labelled(start, label);
+    let kind = StmtKind::Do(name, body, Box::into_inner(test));
+    Ok((Stmt { place, kind }, rest))
 }
 
 #[cycle(nest_stmts)]

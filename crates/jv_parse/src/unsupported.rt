@@ -42,8 +42,7 @@ const UNSUPPORTED: [&str; 26] = [
 fn is_unsupported(word: &str) -> bool
     ensures { result ≡ is_among unsupported word.now }
 {
-    let words: [&str; 26] = UNSUPPORTED;
-    words.as_slice().contains(&word)
+    UNSUPPORTED.contains(&word)
 }
 
 // The text of a sign that isn't supported.

@@ -16,7 +16,7 @@ use Rattle.jv_tree.specs.declared.tree.MethodDecl.{MethodDecl}
 use Rattle.jv_tree.specs.declared.tree.Param.{Param}
 use Rattle.jv_tree.specs.View.{expr_of, exprs_of, kind_of, method_of}
 use Rattle.jv_print.specs.Layout.{expr_text, args_text, call_text, within, is_apart, quoted_text, annotation, names_text, params_text}
-use Rattle.jv_print.specs.Layout.{param_text, method_lines}
+use Rattle.jv_print.specs.Layout.{param_text, type_text, method_lines}
 use Rattle.jv_print.proofs.Laid.{names-step, params-step, methods-step}
 
 pub two : (o o1 o2 a b : List ℕ) → o1 ≡ o ++ a → o2 ≡ o1 ++ b → o2 ≡ o ++ (a ++ b)
@@ -106,23 +106,26 @@ called_joined e of name args o o1 o2 o3 n given apart is en eg ea e1 e2 e3 =
     (sym (expr_of-is e ∙ ap (λ (k : KeptExprKind). kind_of k e.place) is ∙ kind-MethodCall of name args e.place))
 
 -- one more is written
-pub name_more : (out o1 o2 before : List ℕ) (names : List Name) (i : ℕ) (x y : Name) → i < length names → x ≡ get_or names i x → y ≡ x →
-    o1 ≡ out ++ (before ++ []) → o2 ≡ o1 ++ (y ++ []) →
-    out ++ names_text before (drop i names) ≡ o2 ++ names_text (codes ", ") (drop (i + 1) names)
-name_more out o1 o2 before names i x y within is same e1 e2 =
-    let more = names_text (codes ", ") (drop (i + 1) names) in
-    ap (λ z. out ++ z) (names-step before names i x within is) ∙ sym (append_assoc out before (x ++ more)) ∙ ap (λ z. z ++ (x ++ more))
-    (ap (λ z. out ++ z) (sym (append-nil before)) ∙ sym e1)
-    ∙ sym (append_assoc o1 x more) ∙ ap (λ z. z ++ more) (ap (λ z. o1 ++ z) (sym (append-nil y ∙ same)) ∙ sym e2)
+behind_it : (out new before item text more : List ℕ) → item ≡ text → new ≡ out ++ (before ++ item) →
+    out ++ (before ++ (text ++ more)) ≡ new ++ more
+behind_it out new before item text more same e =
+    ap (λ z. out ++ (before ++ (z ++ more))) (sym same) ∙ ap (λ z. out ++ z) (sym (append_assoc before item more))
+    ∙ sym (append_assoc out (before ++ item) more) ∙ ap (λ z. z ++ more) (sym e)
 
-pub param_more : (out o1 o2 before : List ℕ) (ps : List Param) (i : ℕ) (x : Param) → i < length ps → x ≡ get_or ps i x →
-    o1 ≡ out ++ (before ++ []) → o2 ≡ o1 ++ param_text x →
-    out ++ params_text before (drop i ps) ≡ o2 ++ params_text (codes ", ") (drop (i + 1) ps)
-param_more out o1 o2 before ps i x within is e1 e2 =
-    let more = params_text (codes ", ") (drop (i + 1) ps) in
-    ap (λ z. out ++ z) (params-step before ps i x within is) ∙ sym (append_assoc out before (param_text x ++ more)) ∙
-    ap (λ z. z ++ (param_text x ++ more)) (ap (λ z. out ++ z) (sym (append-nil before)) ∙ sym e1)
-    ∙ sym (append_assoc o1 (param_text x) more) ∙ ap (λ z. z ++ more) (sym e2)
+pub name_more : (out new before : List ℕ) (names : List Name) (i : ℕ) (x y : Name) → i < length names → x ≡ get_or names i x → y ≡ x →
+    new ≡ out ++ (before ++ (y ++ [])) →
+    out ++ names_text before (drop i names) ≡ new ++ names_text (codes ", ") (drop (i + 1) names)
+name_more out new before names i x y within is same e =
+    ap (λ z. out ++ z) (names-step before names i x within is)
+    ∙ behind_it out new before (y ++ []) x (names_text (codes ", ") (drop (i + 1) names)) (append-nil y ∙ same) e
+
+pub param_more : (out new before : List ℕ) (ps : List Param) (i : ℕ) (x : Param) (t n : List ℕ) → i < length ps → x ≡ get_or ps i x →
+    t ≡ type_text x.ty → n ≡ x.name → new ≡ out ++ (before ++ (t ++ (codes " " ++ (n ++ [])))) →
+    out ++ params_text before (drop i ps) ≡ new ++ params_text (codes ", ") (drop (i + 1) ps)
+param_more out new before ps i x t n within is et en e =
+    ap (λ z. out ++ z) (params-step before ps i x within is)
+    ∙ behind_it out new before (t ++ (codes " " ++ (n ++ []))) (param_text x) (params_text (codes ", ") (drop (i + 1) ps))
+    (ap (λ z. t ++ (codes " " ++ z)) (append-nil n ∙ en) ∙ ap (λ z. z ++ (codes " " ++ x.name)) et) e
 
 pub method_more : (out o1 : List ℕ) (ms : List MethodDecl) (i : ℕ) (x : MethodDecl) → i < length ms → x ≡ get_or ms i x →
     o1 ≡ out ++ method_lines (method_of x) →

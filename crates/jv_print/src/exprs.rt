@@ -25,31 +25,26 @@ pub fn put_expr(out: &mut String, expr: &Expr) -> Result<(), Memory>
         ExprKind::Name(name) => put(out, &[name.as_str()]),
         ExprKind::Member(of, name) => {
             put_within(out, is_apart(of), of)?;
-            put(out, &[".", name.as_str()])?;
-            Ok(())
+            put(out, &[".", name.as_str()])
         }
         ExprKind::Neg(of) => {
             put(out, &["-"])?;
-            put_within(out, is_apart(of), of)?;
-            Ok(())
+            put_within(out, is_apart(of), of)
         }
         ExprKind::Not(of) => {
             put(out, &["!"])?;
-            put_within(out, has_operator(of), of)?;
-            Ok(())
+            put_within(out, has_operator(of), of)
         }
         ExprKind::Binary(op, left, right) => {
             put_within(out, has_operator(left), left)?;
             put(out, &[" ", op_text(*op), " "])?;
-            put_within(out, has_operator(right), right)?;
-            Ok(())
+            put_within(out, has_operator(right), right)
         }
         ExprKind::Call(name, args) => put_call(out, name.as_str(), args.as_slice()),
         ExprKind::MethodCall(of, name, args) => {
             put_within(out, is_apart(of), of)?;
             put(out, &["."])?;
-            put_call(out, name.as_str(), args.as_slice())?;
-            Ok(())
+            put_call(out, name.as_str(), args.as_slice())
         }
         ExprKind::New(name) => put(out, &["new ", name.as_str(), "()"]),
     }
@@ -66,8 +61,7 @@ fn put_within(out: &mut String, is_within: bool, expr: &Expr) -> Result<(), Memo
     }
     put(out, &["("])?;
     put_expr(out, expr)?;
-    put(out, &[")"])?;
-    Ok(())
+    put(out, &[")"])
 }
 
 // Writes a name, and arguments in parentheses.
@@ -79,8 +73,7 @@ fn put_call(out: &mut String, name: &str, args: &[Expr]) -> Result<(), Memory>
 {
     put(out, &[name, "("])?;
     put_args(out, args)?;
-    put(out, &[")"])?;
-    Ok(())
+    put(out, &[")"])
 }
 
 // Writes arguments, with commas between them.

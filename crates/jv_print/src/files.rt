@@ -4,7 +4,7 @@ ghost use Rattle.std.specs.Prelude.{◌≡◌, ◌++◌, [], OnOk, IfOk, string_
 ghost use Rattle.std.specs.List.{flat_map};
 ghost use Rattle.jv_tree.specs.View.{expr_of, field_of, method_of, class_of, enum_of, decl_of, file_of};
 ghost use Rattle.jv_print.specs.Layout.{layout, decl_lines, enum_lines, class_lines, names_text, annotation};
-ghost use Rattle.jv_print.specs.Layout.{method_lines, field_line, field_value, all_params, params_text, param_text, static_text};
+ghost use Rattle.jv_print.specs.Layout.{method_lines, field_line, field_value, all_params, params_text, static_text};
 
 use crate::exprs::put_expr;
 use crate::stmts::put_block;
@@ -42,8 +42,7 @@ fn put_enum(out: &mut String, of: &Enum) -> Result<(), Memory>
 {
     put(out, &["public enum ", of.name.as_str(), " {\n    "])?;
     put_names(out, of.constants.as_slice())?;
-    put(out, &["\n}\n"])?;
-    Ok(())
+    put(out, &["\n}\n"])
 }
 
 // Writes names, with commas between them.
@@ -53,8 +52,7 @@ fn put_names(out: &mut String, names: &[Text]) -> Result<(), Memory>
 {
     let mut before = "";
     for name in names {
-        put(out, &[before])?;
-        put(out, &[name.as_str()])?;
+        put(out, &[before, name.as_str()])?;
         before = ", ";
     }
     Ok(())
@@ -68,8 +66,7 @@ fn put_class(out: &mut String, class: &Class) -> Result<(), Memory>
     put(out, &["public class ", class.name.as_str(), " {\n"])?;
     put_fields(out, class.fields.as_slice())?;
     put_methods(out, class.methods.as_slice())?;
-    put(out, &["}\n"])?;
-    Ok(())
+    put(out, &["}\n"])
 }
 
 #[tactic(auto, using(crate::proofs::Laid::laid))]
@@ -81,8 +78,7 @@ fn put_annotation(out: &mut String, typestate: &Option<Text>) -> Result<(), Memo
     };
     put(out, &["@Typestate("])?;
     put_quoted(out, typestate.as_str())?;
-    put(out, &[")\n"])?;
-    Ok(())
+    put(out, &[")\n"])
 }
 
 #[tactic(auto, using(crate::proofs::Laid::field_steps))]
@@ -109,8 +105,7 @@ fn put_field(out: &mut String, field: &Field) -> Result<(), Memory>
         ],
     )?;
     put_value(out, &field.value)?;
-    put(out, &[";\n"])?;
-    Ok(())
+    put(out, &[";\n"])
 }
 
 // Writes the value that a field begins with, if it has one.
@@ -122,8 +117,7 @@ fn put_value(out: &mut String, value: &Option<Expr>) -> Result<(), Memory>
         return Ok(());
     };
     put(out, &[" = "])?;
-    put_expr(out, value)?;
-    Ok(())
+    put_expr(out, value)
 }
 
 #[tactic(auto, using(crate::proofs::Laid::method_steps))]
@@ -148,8 +142,7 @@ fn put_method(out: &mut String, method: &MethodDecl) -> Result<(), Memory>
     put_all_params(out, method.takes_args, method.params.as_slice())?;
     put(out, &[") "])?;
     put_block(out, 1, method.body.as_slice())?;
-    put(out, &["\n"])?;
-    Ok(())
+    put(out, &["\n"])
 }
 
 fn static_text(is_static: bool) -> &'static str
@@ -176,15 +169,11 @@ fn put_params(out: &mut String, params: &[Param]) -> Result<(), Memory>
 {
     let mut before = "";
     for param in params {
-        put(out, &[before])?;
-        put_param(out, param)?;
+        put(
+            out,
+            &[before, type_text(&param.ty), " ", param.name.as_str()],
+        )?;
         before = ", ";
     }
     Ok(())
-}
-
-fn put_param(out: &mut String, param: &Param) -> Result<(), Memory>
-    ensures { OnOk result (string_bytes out.new ≡ string_bytes out.old ++ param_text param.now) }
-{
-    put(out, &[type_text(&param.ty), " ", param.name.as_str()])
 }

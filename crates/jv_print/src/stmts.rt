@@ -31,25 +31,21 @@ pub fn put_stmt(out: &mut String, level: u32, stmt: &Stmt) -> Result<(), Memory>
             };
             put_behind(out, is_block(then), level)?;
             put(out, &["else"])?;
-            put_body(out, level, other)?;
-            Ok(())
+            put_body(out, level, other)
         }
         StmtKind::While(label, test, body) => {
             put_while(out, label, test)?;
-            put_body(out, level, body)?;
-            Ok(())
+            put_body(out, level, body)
         }
         StmtKind::Do(label, body, test) => {
             put_do(out, label)?;
             put_body(out, level, body)?;
             put_behind(out, is_block(body), level)?;
-            put_between(out, "while (", test, ");")?;
-            Ok(())
+            put_between(out, "while (", test, ");")
         }
         StmtKind::Switch(value, groups, _) => {
             put_between(out, "switch (", value, ") ")?;
-            put_groups(out, level, groups.as_slice())?;
-            Ok(())
+            put_groups(out, level, groups.as_slice())
         }
         StmtKind::Break(label) => put_jump(out, "break", label),
         StmtKind::Continue(label) => put_jump(out, "continue", label),
@@ -66,8 +62,7 @@ fn put_body(out: &mut String, level: u32, body: &Stmt) -> Result<(), Memory>
     ensures { OnOk result (string_bytes out.new ≡ string_bytes out.old ++ body_text level (stmt_of body.now)) }
 {
     let inside = put_start(out, is_block(body), level)?;
-    put_stmt(out, inside, body)?;
-    Ok(())
+    put_stmt(out, inside, body)
 }
 
 /// Writes statements between braces, one level further in.
@@ -81,8 +76,7 @@ pub fn put_block(out: &mut String, level: u32, body: &[Stmt]) -> Result<(), Memo
     put(out, &["{\n"])?;
     put_lines(out, inside, body)?;
     put_indent(out, level)?;
-    put(out, &["}"])?;
-    Ok(())
+    put(out, &["}"])
 }
 
 // Writes the lines of statements.
@@ -110,8 +104,7 @@ fn put_groups(out: &mut String, level: u32, groups: &[Group]) -> Result<(), Memo
     put(out, &["{\n"])?;
     put_group_lines(out, inside, groups)?;
     put_indent(out, level)?;
-    put(out, &["}"])?;
-    Ok(())
+    put(out, &["}"])
 }
 
 // Writes the lines of groups: labels, and statements one level further in.
@@ -159,8 +152,7 @@ fn put_local(out: &mut String, ty: &TypeName, name: &str, value: &Expr) -> Resul
         ++ (type_text ty.now ++ (codes " " ++ (name.now ++ (codes " = " ++ (expr_text (expr_of value.now) ++ codes ";")))))) }
 {
     put(out, &[type_text(ty), " ", name, " = "])?;
-    put_between(out, "", value, ";")?;
-    Ok(())
+    put_between(out, "", value, ";")
 }
 
 #[tactic(auto, using(crate::proofs::Laid::laid))]
@@ -169,8 +161,7 @@ fn put_assign(out: &mut String, target: &Expr, value: &Expr) -> Result<(), Memor
         ++ (expr_text (expr_of target.now) ++ (codes " = " ++ (expr_text (expr_of value.now) ++ codes ";")))) }
 {
     put_expr(out, target)?;
-    put_between(out, " = ", value, ";")?;
-    Ok(())
+    put_between(out, " = ", value, ";")
 }
 
 #[tactic(auto, using(crate::proofs::Laid::laid))]
@@ -179,9 +170,10 @@ fn put_return(out: &mut String, value: &Option<Expr>) -> Result<(), Memory>
         ++ (codes "return" ++ (value_text (option_map expr_of value.now) ++ codes ";"))) }
 {
     put(out, &["return"])?;
-    put_value(out, value)?;
-    put(out, &[";"])?;
-    Ok(())
+    match value {
+        None => put(out, &[";"]),
+        Some(value) => put_between(out, " ", value, ";"),
+    }
 }
 
 // Writes what stands before the body of a `while`.
@@ -191,8 +183,7 @@ fn put_while(out: &mut String, label: &Option<Text>, test: &Expr) -> Result<(), 
         ++ (label_text label.now ++ (codes "while (" ++ (expr_text (expr_of test.now) ++ codes ")")))) }
 {
     put_label(out, label)?;
-    put_between(out, "while (", test, ")")?;
-    Ok(())
+    put_between(out, "while (", test, ")")
 }
 
 // Writes what stands before the body of a `do`.
@@ -201,8 +192,7 @@ fn put_do(out: &mut String, label: &Option<Text>) -> Result<(), Memory>
     ensures { OnOk result (string_bytes out.new ≡ string_bytes out.old ++ (label_text label.now ++ codes "do")) }
 {
     put_label(out, label)?;
-    put(out, &["do"])?;
-    Ok(())
+    put(out, &["do"])
 }
 
 // Writes the label of a loop.
@@ -227,17 +217,6 @@ fn put_jump(out: &mut String, word: &str, label: &Option<Text>) -> Result<(), Me
     }
 }
 
-// Writes the value that is returned, if there is one.
-#[tactic(auto, using(crate::proofs::Laid::laid))]
-fn put_value(out: &mut String, value: &Option<Expr>) -> Result<(), Memory>
-    ensures { OnOk result (string_bytes out.new ≡ string_bytes out.old ++ value_text (option_map expr_of value.now)) }
-{
-    match value {
-        None => Ok(()),
-        Some(value) => put_between(out, " ", value, ""),
-    }
-}
-
 // Writes an expression, with this before and behind it.
 #[tactic(auto, using(crate::proofs::Laid::laid))]
 fn put_between(out: &mut String, before: &str, expr: &Expr, after: &str) -> Result<(), Memory>
@@ -245,8 +224,7 @@ fn put_between(out: &mut String, before: &str, expr: &Expr, after: &str) -> Resu
 {
     put(out, &[before])?;
     put_expr(out, expr)?;
-    put(out, &[after])?;
-    Ok(())
+    put(out, &[after])
 }
 
 // Writes what a branch or a body begins with. The answer is the level at which it stands.
@@ -274,8 +252,7 @@ fn put_behind(out: &mut String, is_block: bool, level: u32) -> Result<(), Memory
         return put(out, &[" "]);
     }
     put(out, &["\n"])?;
-    put_indent(out, level)?;
-    Ok(())
+    put_indent(out, level)
 }
 
 // One level further in.

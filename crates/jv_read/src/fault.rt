@@ -7,7 +7,7 @@ use mg_text::{Place, Text};
 
 /// Why the bytes of a file spell no Java source, in the order in which faults are judged; of
 /// those from `BadByte` to `BadNumber` the first in the text is told. `name` is what is at fault.
-#[derive(Debug, PartialEq, Eq, Drop)]
+#[derive(Debug, Drop)]
 pub enum JavaFault {
     /// The file holds over 1,048,576 bytes. The place is the file's start.
     TooLarge { place: Place },

@@ -2,11 +2,9 @@
 //! Contracts see expressions as trees.
 
 ghost use Rattle.std.specs.Prelude.{◌≡◌, map};
-ghost use Rattle.jv_core.specs.Tree as Core;
 ghost use Rattle.jv_core.specs.View.{expr_of};
-ghost use Rattle.jv_core.specs.declared.program.CoreType.TheVariants as types;
 ghost use Rattle.jv_resolve_law.specs.Expressions.{call_own, call_on, call_this, call_class, call_typed, call_protocol, static_call};
-ghost use Rattle.jv_resolve_law.specs.Expressions.{helper_call, object_call, text_call, only, typed, session_call};
+ghost use Rattle.jv_resolve_law.specs.Expressions.{helper_call, object_call, text_call, only, session_call};
 ghost use Rattle.jv_resolve_law.specs.Expressions.{variable_in};
 ghost use Rattle.jv_resolve.specs.inner.Gives.{Gives};
 ghost use Rattle.jv_resolve.specs.inner.Seen.{tables_seen, standing_seen, callee_seen, given_seen, resolved_seen};
@@ -265,6 +263,7 @@ fn text_call(
 }
 
 // `equals` or `concat` of a text.
+#[tactic(auto, using(jv_core::proofs::ViewLaws::views))]
 fn text_method(
     place: Place,
     text: Box<CoreExpr>,
@@ -274,24 +273,14 @@ fn text_method(
     ensures { Gives resolved_seen result (text_call place (expr_of text.value) name.now (expr_of arg.value)) }
 {
     match TextCall::named(name) {
-        Some(TextCall::Equals) => Ok(equals(place, text, arg)),
-        Some(TextCall::Concat) => Ok(concat(place, text, arg)),
+        Some(TextCall::Equals) => Ok(typed(
+            place,
+            CoreExprKind::Equals(text, arg),
+            CoreType::Boolean,
+        )),
+        Some(TextCall::Concat) => Ok(typed(place, CoreExprKind::Concat(text, arg), CoreType::Text)),
         None => Err(Unresolved::Fault),
     }
-}
-
-// `text.equals(arg)`
-fn equals(place: Place, text: Box<CoreExpr>, arg: Box<CoreExpr>) -> Resolved
-    ensures { resolved_seen result ≡ typed (Core.Equals place (expr_of text.value) (expr_of arg.value)) types.Boolean }
-{
-    typed(place, CoreExprKind::Equals(text, arg), CoreType::Boolean)
-}
-
-// `text.concat(arg)`
-fn concat(place: Place, text: Box<CoreExpr>, arg: Box<CoreExpr>) -> Resolved
-    ensures { resolved_seen result ≡ typed (Core.Concat place (expr_of text.value) (expr_of arg.value)) types.Text }
-{
-    typed(place, CoreExprKind::Concat(text, arg), CoreType::Text)
 }
 
 // The one argument of a call.
@@ -303,10 +292,10 @@ fn only(args: List<CoreExpr>) -> Result<CoreExpr, Unresolved>
         return Err(Unresolved::Fault);
     };
     if args.is_empty() {
-        Ok(arg)
-    } else {
-        Err(Unresolved::Fault)
+        return Ok(arg);
     }
+    drop(arg);
+    Err(Unresolved::Fault)
 }
 
 // A call of the session.

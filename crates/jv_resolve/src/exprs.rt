@@ -15,7 +15,7 @@ use crate::heads::{Head, head_of};
 use crate::literals::{int, null, quoted, truth};
 use crate::locals::Locals;
 use crate::lookup::class_named;
-use crate::operators::{binary, negative, opposite};
+use crate::operators::binary;
 use crate::scope::Scope;
 use crate::variables::{member, named_receiver, variable};
 use jv_core::{CoreExpr, CoreExprKind, CoreType};
@@ -43,11 +43,11 @@ pub(crate) fn resolve_expr(
         ExprKind::Member(ref of, ref name) => member(scope, locals, place, of, name.as_str()),
         ExprKind::Neg(ref of) => {
             let inner = resolve_operand(scope, locals, of)?;
-            Ok(negative(place, inner.expr))
+            Ok(typed(place, CoreExprKind::Neg(inner.expr), CoreType::Int))
         }
         ExprKind::Not(ref of) => {
             let inner = resolve_operand(scope, locals, of)?;
-            Ok(opposite(place, inner.expr))
+            Ok(typed(place, CoreExprKind::Not(inner.expr), CoreType::Boolean))
         }
         ExprKind::Binary(op, ref left, ref right) => {
             let left = resolve_operand(scope, locals, left)?;

@@ -77,11 +77,11 @@ pub(crate) fn stmt_at(place: Place, kind: CoreStmtKind) -> CoreStmt
     CoreStmt { place, kind }
 }
 
-/// An expression in a box.
-pub(crate) fn boxed(alloc: Global, expr: CoreExpr) -> Result<Box<CoreExpr>, Memory>
-    ensures { IfOk result (λ b. b.value ≡ expr) }
+/// A value in a box.
+pub(crate) fn boxed<T: Drop>(alloc: Global, value: T) -> Result<Box<T>, Memory>
+    ensures { IfOk result (λ b. b.value ≡ value) }
 {
-    Ok(Box::new(alloc, expr)?)
+    Ok(Box::new(alloc, value)?)
 }
 
 /// An expression in a box, with its type.
@@ -93,11 +93,4 @@ pub(crate) fn as_operand(alloc: Global, value: Resolved) -> Result<Operand, Memo
         expr,
         given: value.given,
     })
-}
-
-/// A statement in a box.
-pub(crate) fn boxed_stmt(alloc: Global, stmt: CoreStmt) -> Result<Box<CoreStmt>, Memory>
-    ensures { IfOk result (λ b. b.value ≡ stmt) }
-{
-    Ok(Box::new(alloc, stmt)?)
 }

@@ -1,31 +1,16 @@
-//! Operators.
+//! Binary operators.
 //! Contracts see expressions as trees.
 
 ghost use Rattle.std.specs.Prelude.{◌≡◌};
 ghost use Rattle.jv_core.specs.Tree as Core;
 ghost use Rattle.jv_core.specs.View.{expr_of};
-ghost use Rattle.jv_core.specs.declared.program.CoreType.TheVariants as types;
 ghost use Rattle.jv_resolve_law.specs.Expressions.{typed, operator_gives, is_text};
 ghost use Rattle.jv_resolve.specs.inner.Seen.{given_seen, resolved_seen};
 
 use crate::given::{Given, Operand, Resolved, typed};
-use jv_core::{CoreExpr, CoreExprKind, CoreType};
+use jv_core::{CoreExprKind, CoreType};
 use jv_tree::Op;
 use mg_text::Place;
-
-/// `-e`
-pub(crate) fn negative(place: Place, inner: Box<CoreExpr>) -> Resolved
-    ensures { resolved_seen result ≡ typed (Core.Neg place (expr_of inner.value)) types.Int }
-{
-    typed(place, CoreExprKind::Neg(inner), CoreType::Int)
-}
-
-/// `!e`
-pub(crate) fn opposite(place: Place, inner: Box<CoreExpr>) -> Resolved
-    ensures { resolved_seen result ≡ typed (Core.Not place (expr_of inner.value)) types.Boolean }
-{
-    typed(place, CoreExprKind::Not(inner), CoreType::Boolean)
-}
 
 /// A binary operator.
 pub(crate) fn binary(place: Place, op: Op, left: Operand, right: Operand) -> Resolved

@@ -21,6 +21,11 @@ pub(crate) fn in_scope<'a>(
     ensures { Gives (λ s. itemed (stmt_of s) body.new.locals (counted_seen body.new)) result
         (scope_item (declaration_seen name.now declaration (counted_seen body.old)) body.old.locals) }
 {
-    body.locals.declare(name, declaration.local)?;
-    Ok(local_stmt(declaration))
+    match body.locals.declare(name, declaration.local) {
+        Ok(()) => Ok(local_stmt(declaration)),
+        Err(end) => {
+            drop(declaration.value);
+            Err(end)
+        }
+    }
 }

@@ -12,7 +12,7 @@ ghost use Rattle.jv_resolve.specs.inner.Seen.{tables_seen, standing_seen, around
 
 use crate::body::Body;
 use crate::exprs::{resolve_expr, resolve_operand};
-use crate::given::{Unresolved, boxed_stmt, stmt_at};
+use crate::given::{Unresolved, boxed, stmt_at};
 use crate::labels::{enum_of, resolve_labels};
 use crate::scope::{Around, Scope};
 use crate::simple::{
@@ -150,7 +150,7 @@ fn resolve_inner<'a>(
     ensures locals { OnOk result (body.new.locals ≡ body.old.locals) }
 {
     let resolved = resolve_stmt(scope, around, body, stmt)?;
-    Ok(boxed_stmt(scope.alloc, resolved)?)
+    Ok(boxed(scope.alloc, resolved)?)
 }
 
 // The groups of a switch over an enum. A local's scope ends with its group.

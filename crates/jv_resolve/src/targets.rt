@@ -24,5 +24,7 @@ pub(crate) fn target_of(
         (expr_of target.now)) }
 {
     let target = resolve_expr(scope, &body.locals, target)?;
-    variable_of(&target.expr)
+    let variable = variable_of(&target.expr);
+    drop(target.expr);
+    variable
 }

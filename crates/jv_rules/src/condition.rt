@@ -3,7 +3,7 @@
 
 /// A condition, by what it refuses. The first nine are judged over the declarations, the others
 /// over the methods.
-#[derive(Clone, Copy, Debug, PartialEq, Eq)]
+#[derive(Clone, Copy)]
 pub enum Condition {
     /// Two classes or enums have one name, or two typestates, or a class or enum has the name of
     /// a class that is built in.

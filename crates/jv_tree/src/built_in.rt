@@ -5,7 +5,7 @@ ghost use Rattle.std.specs.Prelude.{◌≡◌};
 ghost use Rattle.jv_tree.specs.BuiltIn.{session_method, session_named, text_method, text_named, method_seen};
 
 /// A type that means the same in each program.
-#[derive(Clone, Copy, Debug, PartialEq, Eq)]
+#[derive(Clone, Copy, PartialEq, Eq)]
 pub enum PlainType {
     /// That of no value.
     Void,
@@ -40,7 +40,7 @@ pub enum SessionCall {
 }
 
 /// A method of texts.
-#[derive(Clone, Copy, Debug, PartialEq, Eq)]
+#[derive(Clone, Copy, PartialEq, Eq)]
 pub enum TextCall {
     Equals,
     Concat,

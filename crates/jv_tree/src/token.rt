@@ -4,14 +4,14 @@
 use mg_text::{Place, Text};
 
 /// A token, and the place of its first byte.
-#[derive(Debug, Drop)]
+#[derive(Drop)]
 pub struct Token {
     pub kind: TokenKind,
     pub place: Place,
 }
 
 /// What a token is.
-#[derive(Debug, Drop)]
+#[derive(Drop)]
 pub enum TokenKind {
     /// A name or a reserved word.
     Word(Text),

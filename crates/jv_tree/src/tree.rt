@@ -1,32 +1,58 @@
 //! The trees of Java files.
 //! Packages, imports, visibility and `final` are not kept; parentheses show in the trees alone.
+//! A file, and each part of it down to a method, names its own parts in its `drop`, so that it is let go in one call.
 
 use mg_text::{List, Place, Text};
 use ts_tree::TypeName;
 
 /// A file: its declarations, in the order of the text.
-#[derive(Debug, Drop)]
+#[derive(Debug)]
 pub struct File {
     pub decls: List<Decl>,
 }
 
+impl Drop for File {
+    fn drop(self) {
+        let File { decls: _ } = self;
+    }
+}
+
 /// A declaration of a file.
-#[derive(Debug, Drop)]
+#[derive(Debug)]
 pub enum Decl {
     Class(Class),
     Enum(Enum),
 }
 
+impl Drop for Decl {
+    fn drop(self) {
+        match self {
+            Decl::Class(_) => {}
+            Decl::Enum(_) => {}
+        }
+    }
+}
+
 /// An enum with its constants, and the place of its name.
-#[derive(Debug, Drop)]
+#[derive(Debug)]
 pub struct Enum {
     pub place: Place,
     pub name: Text,
     pub constants: List<Text>,
 }
 
+impl Drop for Enum {
+    fn drop(self) {
+        let Enum {
+            place: _,
+            name: _,
+            constants: _,
+        } = self;
+    }
+}
+
 /// A class, and the place of its name. `typestate` is the text of its annotation.
-#[derive(Debug, Drop)]
+#[derive(Debug)]
 pub struct Class {
     pub place: Place,
     pub name: Text,
@@ -35,8 +61,20 @@ pub struct Class {
     pub methods: List<MethodDecl>,
 }
 
+impl Drop for Class {
+    fn drop(self) {
+        let Class {
+            place: _,
+            name: _,
+            typestate: _,
+            fields: _,
+            methods: _,
+        } = self;
+    }
+}
+
 /// A field, and the place of its name.
-#[derive(Debug, Drop)]
+#[derive(Debug)]
 pub struct Field {
     pub place: Place,
     pub ty: TypeName,
@@ -44,9 +82,20 @@ pub struct Field {
     pub value: Option<Expr>,
 }
 
+impl Drop for Field {
+    fn drop(self) {
+        let Field {
+            place: _,
+            ty: _,
+            name: _,
+            value: _,
+        } = self;
+    }
+}
+
 /// A method, with the place of its name and that of its closing brace. `takes_args` says that
 /// its one parameter is the `String[]` of `main`, which is not among `params`.
-#[derive(Debug, Drop)]
+#[derive(Debug)]
 pub struct MethodDecl {
     pub place: Place,
     pub end: Place,
@@ -58,12 +107,37 @@ pub struct MethodDecl {
     pub body: List<Stmt>,
 }
 
+impl Drop for MethodDecl {
+    fn drop(self) {
+        let MethodDecl {
+            place: _,
+            end: _,
+            is_static: _,
+            result: _,
+            name: _,
+            params: _,
+            takes_args: _,
+            body: _,
+        } = self;
+    }
+}
+
 /// A parameter, and the place of its name.
-#[derive(Debug, Drop)]
+#[derive(Debug)]
 pub struct Param {
     pub place: Place,
     pub ty: TypeName,
     pub name: Text,
+}
+
+impl Drop for Param {
+    fn drop(self) {
+        let Param {
+            place: _,
+            ty: _,
+            name: _,
+        } = self;
+    }
 }
 
 /// A statement. A declaration has the place of its name, another one that of its first token.

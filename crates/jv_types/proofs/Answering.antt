@@ -13,12 +13,15 @@ use Rattle.jv_rules.specs.Program.{Program, decls_of}
 use Rattle.jv_rules.specs.Faults.{IsTableFault}
 use Rattle.jv_rules.specs.inner.Deciding.{first_by}
 use Rattle.jv_types.specs.declared.fault.TypeFault.{TypeFault}
+use Rattle.jv_types.specs.declared.judged.Wrong.{Wrong}
+use Rattle.jv_types.specs.declared.judged.Wrong.TheVariants as wrongs
 use Rattle.jv_types.specs.Outcome.{fault_told, TellsFault}
 use Rattle.jv_types.specs.View.{program_of}
 use Rattle.jv_types.specs.inner.Blaming.{is_in, are_new}
 use Rattle.jv_types.specs.inner.Repeating.{repeat_type, repeat_typestate, repeat_in}
 use Rattle.jv_types.specs.inner.Kept.{kept_decls}
 use Rattle.jv_types.specs.inner.Deciding.{early_in, early_found, IsLater}
+use Rattle.jv_types.specs.inner.Judging.{Tells, TellsOne}
 use Rattle.jv_types.proofs.Building.{none_some, none_or}
 use Rattle.jv_types.proofs.Declared.{early_fault, later_fault, later_by, no_repeats}
 use Rattle.jv_types.proofs.Entries.{map-map}
@@ -36,6 +39,21 @@ told_as Is x e t is = go (fault_told e) t
     go : (o : Option (Condition × Culprit)) → OnTold (λ r. r ≡ Some x) o → OnTold Is o
     go None t = t
     go (Some f) t = subst Is (sym t) is
+
+-- the same of what is wrong
+pub told_one : (Is : Option (Condition × Culprit) → Type 0) (w : Wrong) (e : TypeFault) →
+    ((fault : Option (Condition × Culprit)) → Tells w fault → TellsFault (λ r. r ≡ fault) e) → TellsOne Is w → TellsFault Is e
+told_one Is wrongs.Memory e told t = go (fault_told e) (told None tt)
+  where
+    go : (o : Option (Condition × Culprit)) → OnTold (λ r. r ≡ None) o → OnTold Is o
+    go None h = tt
+    go (Some f) h = let no : ⊥ = cc in absurd no
+told_one Is (wrongs.Fault k p n) e told t = told_as Is (k, culprit p n.now) e (told (Some (k, culprit p n.now)) refl) t
+
+pub one_more : (P Q : Option (Condition × Culprit) → Type 0) → ((f : Condition × Culprit) → P (Some f) → Q (Some f)) → (w : Wrong) →
+    TellsOne P w → TellsOne Q w
+one_more P Q f wrongs.Memory t = t
+one_more P Q f (wrongs.Fault k p n) t = f (k, culprit p n.now) t
 
 typestates_new : (ts : List Typestate) (files : List ℕ) (met : List Name) → length files ≡ length ts → repeat_typestate met ts files ≡ None
     → are_new met (map (λ t. t.name) ts) ≡ true

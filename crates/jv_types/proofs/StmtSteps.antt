@@ -22,7 +22,7 @@ use Rattle.jv_types.specs.declared.judged.Wrong.{Wrong}
 use Rattle.jv_types.specs.declared.judged.Checked.{Checked}
 use Rattle.jv_types.specs.inner.View.{type_seen}
 use Rattle.jv_types.specs.inner.Judging.{Tells, IsChecked, expr_fault, misfit, at_place}
-use Rattle.jv_types.specs.inner.Stating.{stmt_fault, value_told, label_told, returned_wanted, nothing_told, IsTaken, Written, written}
+use Rattle.jv_types.specs.inner.Stating.{stmt_fault, value_told, label_told, returned_wanted, nothing_told, Written, written}
 use Rattle.jv_types.specs.inner.Stating.{written_in}
 use Rattle.jv_types.proofs.Faulting.{or-none, first_by-append, alone_taken}
 use Rattle.jv_types.proofs.Checking.{tells_first}
@@ -76,8 +76,8 @@ module _ (s : Scope) (e : Expr) (w : Wanted) where
         value_told s e w ≡ Some (conditions.TypeMismatch, culprit at [])
     value_wrong at m = value_decides ∙ ap (λ z. told conditions.TypeMismatch z None) (sym m)
 
-    pub value_fine : None ≡ misfit w e (type_seen c.ty) → IsTaken s e w c.ty
-    value_fine m = record { fine = value_decides ∙ ap (λ z. told conditions.TypeMismatch z None) (sym m); typed = h.typed }
+    pub value_fine : None ≡ misfit w e (type_seen c.ty) → value_told s e w ≡ None
+    value_fine m = value_decides ∙ ap (λ z. told conditions.TypeMismatch z None) (sym m)
 
 last_spot : (xs : List Spot) (x : Spot) → fault_in (xs ++ x ∷ []) ≡ option_or (fault_in xs) (fault_at x)
 last_spot xs x = first_by-append fault_at xs (x ∷ []) ∙ ap (option_or (fault_in xs)) (or-none (fault_at x))

@@ -16,7 +16,6 @@ use crate::name_table::Table;
 use crate::scope::Scope;
 use crate::signature::{Signature, session_method, signature_of, text_method};
 use crate::value_type::ValueType;
-use crate::variable::is_protocol;
 use jv_tree::MethodDecl;
 
 /// A static method, unless it is `main` with its texts.
@@ -44,7 +43,7 @@ fn own_instance<'a>(
     if method.is_static {
         return None;
     }
-    if is_protocol(scope, method.name.as_str()) {
+    if scope.table.is_offered(scope.class, method.name.as_str()) {
         return Some(signature_of(scope.table, method));
     }
     if scope.method.is_static {

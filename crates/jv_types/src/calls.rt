@@ -1,13 +1,12 @@
 //! What is judged at a call, once nothing is wrong with its receiver and its arguments:
 //! that there is such a method, its arguments, and what the call may do to the own object.
 
-ghost use Rattle.std.specs.Prelude.{◌≡◌, ◌||◌, ◌∷◌, ◌++◌, [], OnOk, MatchResult, map, length, option_map, Some, None, true, false};
+ghost use Rattle.std.specs.Prelude.{◌≡◌, ◌||◌, ◌∷◌, ◌++◌, [], OnOk, MatchResult, map, length, option_map, None, false};
 ghost use Rattle.jv_tree.specs.View.{expr_of, exprs_of};
 ghost use Rattle.jv_tree.specs.Source.{Expr as Node, Call, MethodCall};
-ghost use Rattle.jv_rules.specs.inner.Deciding.{is_receiver};
 ghost use Rattle.jv_types.specs.inner.View.{type_seen};
 ghost use Rattle.jv_types.specs.inner.Calls.{AreChecked, IsSite, ReceiverIs, site_told, called_on_named};
-ghost use Rattle.jv_types.specs.inner.Judging.{IsChecked, Judges, Tells, is_this, variable_name};
+ghost use Rattle.jv_types.specs.inner.Judging.{Judges, Tells};
 ghost use Rattle.jv_types.specs.inner.Scopes.{scope_seen, program_seen};
 ghost use Rattle.jv_types.specs.inner.Signatures.{params_seen, signature_seen};
 ghost use Rattle.jv_types.specs.Tables.{program_in};
@@ -18,7 +17,7 @@ use crate::ends::either;
 use crate::judged::{Checked, Wrong};
 use crate::locals::Locals;
 use crate::name_table::Table;
-use crate::receivers::{calls_helper, calls_protocol, field_named, field_of, receiver_misfit};
+use crate::receivers::{field_named, field_of, own_call, receiver_misfit};
 use crate::scope::Scope;
 use crate::signature::{Params, Signature};
 use crate::value_type::ValueType;
@@ -154,42 +153,16 @@ pub(crate) fn end_call<'a>(
     requires { AreChecked (scope_seen scope.now locals.now) (exprs_of (map expr_of args.now)) given.now }
     ensures { Judges (scope_seen scope.now locals.now) (Call place name.now (exprs_of (map expr_of args.now))) result }
 {
+    let own = own_call(scope, locals, name);
     let site = Site {
         place,
         name,
         receiver: None,
-        is_own: calls_protocol(scope, locals, name),
+        is_own: own.is_protocol,
         field: None,
-        helper: calls_helper(scope, locals, name),
+        helper: own.is_helper,
     };
     let signature = called(scope, locals, name);
-    end_method(scope, locals, site, signature, args, given)
-}
-
-// `this.name(..)`
-fn end_own_call<'a>(
-    scope: &Scope<'_, 'a>,
-    locals: &Locals<'a>,
-    place: Place,
-    of: &Expr,
-    name: &'a str,
-    args: &[Expr],
-    given: &Given<'_>,
-) -> Result<Checked<'a>, Wrong<'a>>
-    requires own { is_this (expr_of of.now) ≡ true }
-    requires fine { AreChecked (scope_seen scope.now locals.now) (exprs_of (map expr_of args.now)) given.now }
-    ensures { Judges (scope_seen scope.now locals.now) (MethodCall place (expr_of of.now) name.now (exprs_of (map expr_of args.now)))
-        result }
-{
-    let site = Site {
-        place,
-        name,
-        receiver: None,
-        is_own: calls_protocol(scope, locals, name),
-        field: None,
-        helper: calls_helper(scope, locals, name),
-    };
-    let signature = called_on_this(scope, locals, name);
     end_method(scope, locals, site, signature, args, given)
 }
 
@@ -209,65 +182,6 @@ fn called_on_name<'a>(
     }
 }
 
-// `x.name(..)`, where `x` may stand before a call.
-fn end_named_call<'a>(
-    scope: &Scope<'_, 'a>,
-    locals: &Locals<'a>,
-    place: Place,
-    of: &Expr,
-    x: &str,
-    name: &'a str,
-    args: &[Expr],
-    given: &Given<'_>,
-) -> Result<Checked<'a>, Wrong<'a>>
-    requires named { variable_name (expr_of of.now) ≡ Some x.now }
-    requires receiver { is_receiver (scope_seen scope.now locals.now) x.now ≡ true }
-    requires fine { AreChecked (scope_seen scope.now locals.now) (exprs_of (map expr_of args.now)) given.now }
-    ensures { Judges (scope_seen scope.now locals.now) (MethodCall place (expr_of of.now) name.now (exprs_of (map expr_of args.now)))
-        result }
-{
-    let site = Site {
-        place,
-        name,
-        receiver: None,
-        is_own: false,
-        field: field_named(scope, locals, x),
-        helper: false,
-    };
-    let signature = called_on_name(scope, locals, x, name);
-    end_method(scope, locals, site, signature, args, given)
-}
-
-// `e.name(..)`, where `e` is neither `this` nor a name.
-fn end_other_call<'a>(
-    scope: &Scope<'_, 'a>,
-    locals: &Locals<'a>,
-    place: Place,
-    of: &Expr,
-    inner: Checked<'_>,
-    name: &'a str,
-    args: &[Expr],
-    given: &Given<'_>,
-) -> Result<Checked<'a>, Wrong<'a>>
-    requires other { is_this (expr_of of.now) ≡ false }
-    requires unnamed { variable_name (expr_of of.now) ≡ None }
-    requires inner { IsChecked (scope_seen scope.now locals.now) (expr_of of.now) inner }
-    requires fine { AreChecked (scope_seen scope.now locals.now) (exprs_of (map expr_of args.now)) given.now }
-    ensures { Judges (scope_seen scope.now locals.now) (MethodCall place (expr_of of.now) name.now (exprs_of (map expr_of args.now)))
-        result }
-{
-    let site = Site {
-        place,
-        name,
-        receiver: receiver_misfit(of, inner.ty),
-        is_own: false,
-        field: field_of(scope, locals, of),
-        helper: inner.helper,
-    };
-    let signature = called_on_value(scope.table, inner.ty, name);
-    end_method(scope, locals, site, signature, args, given)
-}
-
 /// `e.name(..)`
 pub(crate) fn end_method_call<'a>(
     scope: &Scope<'_, 'a>,
@@ -285,10 +199,42 @@ pub(crate) fn end_method_call<'a>(
         result }
 {
     match receiver {
-        Receiver::Own => end_own_call(scope, locals, place, of, name, args, given),
-        Receiver::Named(x) => end_named_call(scope, locals, place, of, x, name, args, given),
-        Receiver::Value(inner) => end_other_call(
-            scope, locals, place, of, inner, name, args, given,
-        ),
+        Receiver::Own => {
+            let own = own_call(scope, locals, name);
+            let site = Site {
+                place,
+                name,
+                receiver: None,
+                is_own: own.is_protocol,
+                field: None,
+                helper: own.is_helper,
+            };
+            let signature = called_on_this(scope, locals, name);
+            end_method(scope, locals, site, signature, args, given)
+        }
+        Receiver::Named(x) => {
+            let site = Site {
+                place,
+                name,
+                receiver: None,
+                is_own: false,
+                field: field_named(scope, locals, x),
+                helper: false,
+            };
+            let signature = called_on_name(scope, locals, x, name);
+            end_method(scope, locals, site, signature, args, given)
+        }
+        Receiver::Value(inner) => {
+            let site = Site {
+                place,
+                name,
+                receiver: receiver_misfit(of, inner.ty),
+                is_own: false,
+                field: field_of(scope, locals, of),
+                helper: inner.helper,
+            };
+            let signature = called_on_value(scope.table, inner.ty, name);
+            end_method(scope, locals, site, signature, args, given)
+        }
     }
 }

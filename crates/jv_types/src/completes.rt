@@ -53,13 +53,6 @@ fn has_default(groups: &[Group]) -> bool
     false
 }
 
-// Whether a `while` ends, by the jumps inside.
-fn ends_while(condition: &Expr, inner: Jumps) -> bool
-    ensures { result ≡ (not (is_always_true (expr_of condition.now)) || inner.breaks) }
-{
-    either(!is_always_true(condition), inner.breaks)
-}
-
 // Whether a `do` ends, where its statement completes or not.
 fn ends_do(condition: &Expr, completes: bool, inner: Jumps) -> bool
     ensures { result ≡ ((not (is_always_true (expr_of condition.now)) && (completes || inner.continues)) || inner.breaks) }
@@ -68,13 +61,6 @@ fn ends_do(condition: &Expr, completes: bool, inner: Jumps) -> bool
         return inner.breaks;
     }
     either(either(completes, inner.continues), inner.breaks)
-}
-
-// Whether a switch ends, where its last group completes or not.
-fn ends_switch(groups: &[Group], completes: bool, broken: bool) -> bool
-    ensures { result ≡ (not (has_default (groups_of (map group_of groups.now))) || (completes || broken)) }
-{
-    either(!has_default(groups), either(completes, broken))
 }
 
 // How a statement may be left: whether through its end, and which jumps there are.
@@ -100,7 +86,7 @@ fn leave_stmt(exits: &mut Exits, stmt: &Stmt) -> Result<bool, Memory>
             let hidden = exits.enter_loop(label)?;
             leave_stmt(exits, inner)?;
             let jumps = exits.leave_loop(label, hidden)?;
-            Ok(ends_while(condition, jumps))
+            Ok(either(!is_always_true(condition), jumps.breaks))
         }
         StmtKind::Do(ref label, ref inner, ref condition) => {
             let label = label_text(label);
@@ -114,14 +100,27 @@ fn leave_stmt(exits: &mut Exits, stmt: &Stmt) -> Result<bool, Memory>
             let hidden = exits.enter_switch();
             let completes = leave_groups(exits, groups)?;
             let broken = exits.leave_switch(hidden);
-            Ok(ends_switch(groups, completes, broken))
+            let ends = either(completes, broken);
+            Ok(either(!has_default(groups), ends))
         }
         StmtKind::Break(ref label) => {
-            exits.add_break(label_text(label))?;
+            exits.add(
+                label_text(label),
+                Jumps {
+                    breaks: true,
+                    continues: false,
+                },
+            )?;
             Ok(false)
         }
         StmtKind::Continue(ref label) => {
-            exits.add_continue(label_text(label))?;
+            exits.add(
+                label_text(label),
+                Jumps {
+                    breaks: false,
+                    continues: true,
+                },
+            )?;
             Ok(false)
         }
         StmtKind::Return(_) => Ok(false),

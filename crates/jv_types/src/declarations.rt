@@ -1,16 +1,15 @@
 //! The conditions on the declarations, one after another in the order of their numbers, and the
 //! tables of a program that meets them.
 
-ghost use Rattle.std.specs.Prelude.{◌≡◌, [], IfOk, IfErr, OnOk, Some, None, length, map, option_map};
+ghost use Rattle.std.specs.Prelude.{◌≡◌, IfOk, IfErr, OnOk, None, length, map, option_map};
 ghost use Rattle.jv_rules.specs.Faults.{IsTableFault};
 ghost use Rattle.jv_rules.specs.inner.Deciding.{told};
 ghost use Rattle.jv_types.specs.Outcome.{TellsFault};
 ghost use Rattle.jv_types.specs.Tables.{program_in};
 ghost use Rattle.jv_types.specs.View.{program_of};
 ghost use Rattle.jv_types.specs.inner.Blaming.{blamed_of};
+ghost use Rattle.jv_types.specs.inner.Judging.{TellsOne};
 ghost use Rattle.jv_tree.specs.View.{decl_of};
-ghost use Rattle.std.specs.Option.{option_or};
-ghost use Rattle.jv_types.specs.inner.Repeating.{repeat_type, repeat_typestate};
 ghost use Rattle.jv_types.specs.inner.Kept.{kept_decls};
 ghost use Rattle.jv_types.specs.inner.Tabled.{AreEntriesOf};
 ghost use Rattle.jv_types.specs.inner.Deciding.{found_of, early_in, fields_found, demands_found, later_found, IsLater};
@@ -19,8 +18,9 @@ use crate::blame::Blamed;
 use crate::build::{build, declarations};
 use crate::demands::{missing_method, signature_differs};
 use crate::entry::ClassEntry;
-use crate::fault::{TypeFault, type_fault};
+use crate::fault::{TypeFault, fault_of};
 use crate::fields::field_needs_value;
+use crate::judged::Wrong;
 use crate::labels::labels_differ;
 use crate::mentions::unknown_class;
 use crate::name_table::Table;
@@ -49,23 +49,6 @@ fn found_by<'a>(condition: Condition, found: Option<Blamed<'a>>) -> Option<Found
     }
 }
 
-// Types and typestates whose names are declared twice.
-fn repeated_name<'a>(
-    alloc: Global,
-    decls: &[&'a Decl],
-    typestates: &'a [Typestate],
-    origins: &[u32],
-) -> Result<Option<Blamed<'a>>, Memory>
-    ensures { IfOk result (λ o. option_map blamed_of o ≡ option_or (repeat_type [] (map (λ d. decl_of d.now) decls.now))
-        (repeat_typestate [] typestates.now origins.now)) }
-{
-    let found = repeated_type(alloc, decls)?;
-    if found.is_some() {
-        return Ok(found);
-    }
-    repeated_typestate(alloc, typestates, origins)
-}
-
 // Names that are declared twice.
 fn early_fault<'a>(
     alloc: Global,
@@ -75,7 +58,11 @@ fn early_fault<'a>(
 ) -> Result<Option<Found<'a>>, Memory>
     ensures { IfOk result (λ o. option_map found_of o ≡ early_in (map (λ d. decl_of d.now) decls.now) typestates.now origins.now) }
 {
-    let found = repeated_name(alloc, decls, typestates, origins)?;
+    let found = repeated_type(alloc, decls)?;
+    if found.is_some() {
+        return Ok(found_by(Condition::DuplicateName, found));
+    }
+    let found = repeated_typestate(alloc, typestates, origins)?;
     if found.is_some() {
         return Ok(found_by(Condition::DuplicateName, found));
     }
@@ -143,45 +130,33 @@ fn later_fault<'a>(
     demands_fault(alloc, table, entries)
 }
 
-// The fault of what was found.
-fn fault_of(alloc: Global, found: Found<'_>) -> TypeFault
-    ensures { TellsFault (λ r. r ≡ Some (found_of found.entry)) result }
-{
-    type_fault(
-        alloc,
-        found.condition,
-        found.blamed.place,
-        found.blamed.name,
-    )
-}
-
 // The tables of a program in which no name is declared twice.
 fn tables_of<'a>(
     alloc: Global,
     files: &'a [File],
     typestates: &'a [Typestate],
     origins: &[u32],
-) -> Result<Table<'a>, TypeFault>
+) -> Result<Table<'a>, Wrong<'a>>
     requires { length origins.now ≡ length typestates.now }
     ensures program { IfOk result (λ t. program_in t ≡ program_of files.now typestates.now) }
     ensures fine { OnOk result (early_in (map decl_of (kept_decls files.now)) typestates.now origins.now ≡ None) }
-    ensures fault { IfErr result (λ e. TellsFault (IsTableFault (program_of files.now typestates.now) origins.now) e) }
+    ensures fault { IfErr result (λ w. TellsOne (IsTableFault (program_of files.now typestates.now) origins.now) w) }
 {
     let decls = declarations(alloc, files)?;
     if let Some(found) = early_fault(alloc, decls.as_slice(), typestates, origins)? {
-        return Err(fault_of(alloc, found));
+        return Err(Wrong::Fault(found.condition, found.blamed.place, found.blamed.name));
     }
     let table = build(alloc, files, typestates, decls.as_slice())?;
     Ok(table)
 }
 
 // Judges what the tables tell.
-fn check_tables(alloc: Global, table: &Table<'_>) -> Result<(), TypeFault>
+fn check_tables<'a>(alloc: Global, table: &Table<'a>) -> Result<(), Wrong<'a>>
     ensures fine { OnOk result (IsLater (program_in table.now) None) }
-    ensures fault { IfErr result (λ e. TellsFault (IsLater (program_in table.now)) e) }
+    ensures fault { IfErr result (λ w. TellsOne (IsLater (program_in table.now)) w) }
 {
     match later_fault(alloc, table, table.classes())? {
-        Some(found) => Err(fault_of(alloc, found)),
+        Some(found) => Err(Wrong::Fault(found.condition, found.blamed.place, found.blamed.name)),
         None => Ok(()),
     }
 }
@@ -203,7 +178,11 @@ pub fn table<'a>(
     ensures fine { OnOk result (IsTableFault (program_of files.now typestates.now) origins.now None) }
     ensures fault { IfErr result (λ e. TellsFault (IsTableFault (program_of files.now typestates.now) origins.now) e) }
 {
-    let table = tables_of(alloc, files, typestates, origins)?;
-    check_tables(alloc, &table)?;
-    Ok(table)
+    match tables_of(alloc, files, typestates, origins) {
+        Err(wrong) => Err(fault_of(alloc, wrong)),
+        Ok(table) => match check_tables(alloc, &table) {
+            Err(wrong) => Err(fault_of(alloc, wrong)),
+            Ok(()) => Ok(table),
+        },
+    }
 }

@@ -9,8 +9,8 @@ ghost use Rattle.jv_rules.specs.inner.Deciding.{first_by};
 ghost use Rattle.jv_types.specs.Tables.{program_in};
 ghost use Rattle.jv_types.specs.declared.demands.Demand.TheVariants as demands;
 ghost use Rattle.jv_types.specs.inner.Blaming.{blamed_of, noted};
-ghost use Rattle.jv_types.specs.inner.Declaring.{missing_method, missing_in_class, type_eq, types_eq, same_signature, all_in};
-ghost use Rattle.jv_types.specs.inner.Declaring.{are_constants, are_labels_of, other_labels, breaks, breaks_it, broken_names};
+ghost use Rattle.jv_types.specs.inner.Declaring.{missing_method, missing_in_class, type_eq, types_eq, all_in};
+ghost use Rattle.jv_types.specs.inner.Declaring.{are_constants, are_labels_of, other_labels, breaks_it, broken_names};
 ghost use Rattle.jv_types.specs.inner.Declaring.{broken_by_name, broken_method, broken_in_class};
 ghost use Rattle.jv_types.specs.inner.Kept.{typestate_in};
 ghost use Rattle.jv_types.specs.inner.Offering.{offers_seen};
@@ -130,15 +130,6 @@ fn both(left: bool, right: bool) -> bool
     left && right
 }
 
-fn same_signature(method: &MethodDecl, demanded: &Method) -> bool
-    ensures { result ≡ same_signature (method_of method.now) (offer_of demanded.now) }
-{
-    both(
-        same_type(&demanded.result, &method.result),
-        same_types(demanded.params.as_slice(), method.params.as_slice()),
-    )
-}
-
 // Whether each label is a constant of an enum.
 fn are_in_enum(entry: &EnumEntry<'_>, branches: &[Branch]) -> bool
     ensures { result ≡ all_in (enum_in entry.now).constants (map (λ b. b.label) branches.now) }
@@ -221,25 +212,6 @@ pub(crate) fn other_labels(
     }
 }
 
-// Whether a method breaks what is demanded of it.
-fn breaks(
-    alloc: Global,
-    table: &Table<'_>,
-    demand: Demand,
-    method: &MethodDecl,
-    demanded: &Method,
-) -> Result<bool, Memory>
-    ensures { IfOk result (λ b. b ≡ breaks (program_in table.now) demand (method_of method.now) (offer_of demanded.now)) }
-{
-    match demand {
-        Demand::OfSignature => {
-            let alike = same_signature(method, demanded);
-            Ok(!alike)
-        }
-        Demand::OfLabels => other_labels(alloc, table, &method.result, &demanded.target),
-    }
-}
-
 // Whether the instance method of this name, where there is one, breaks what is demanded of it.
 fn breaks_it(
     alloc: Global,
@@ -257,7 +229,16 @@ fn breaks_it(
     if method.is_static {
         return Ok(false);
     }
-    breaks(alloc, table, demand, method, demanded)
+    match demand {
+        Demand::OfSignature => {
+            let alike = both(
+                same_type(&demanded.result, &method.result),
+                same_types(demanded.params.as_slice(), method.params.as_slice()),
+            );
+            Ok(!alike)
+        }
+        Demand::OfLabels => other_labels(alloc, table, &method.result, &demanded.target),
+    }
 }
 
 // Notes the names of the methods that break what is demanded of them.

@@ -22,7 +22,6 @@ pub struct NamedTypestate<'a> {
 
 /// A class, its number and that of its first method, its typestate, and the names of its fields and
 /// of its methods. Classes are numbered in file and text order, and so are the methods of all.
-#[derive(Drop)]
 pub struct ClassEntry<'a> {
     pub class: &'a Class,
     pub number: u32,
@@ -36,12 +35,35 @@ pub struct ClassEntry<'a> {
     ghost fits: { first_method + length class.now.methods.items ≤ 2 ^ 32 - 1 },
 }
 
+// One call lets go of it.
+impl Drop for ClassEntry<'_> {
+    fn drop(self) {
+        let ClassEntry {
+            class: _,
+            number: _,
+            first_method: _,
+            typestate: _,
+            fields: _,
+            methods: _,
+        } = self;
+    }
+}
+
 /// An enum and the names of its constants.
-#[derive(Drop)]
 pub struct EnumEntry<'a> {
     pub of: &'a Enum,
     pub(crate) constants: Names,
     ghost named: { constants ≡ of.now.constants.items },
+}
+
+// One call lets go of it.
+impl Drop for EnumEntry<'_> {
+    fn drop(self) {
+        let EnumEntry {
+            of: _,
+            constants: _,
+        } = self;
+    }
 }
 
 impl<'a> ClassEntry<'a> {

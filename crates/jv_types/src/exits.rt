@@ -1,7 +1,7 @@
 //! How control may leave statements other than through their ends: by `break` and `continue`.
 //! Those that were met are kept by their labels, in a hashed table.
 
-ghost use Rattle.std.specs.Prelude.{◌≡◌, IfOk, OnOk, None as Missing, Option, option_map, true, false};
+ghost use Rattle.std.specs.Prelude.{◌≡◌, IfOk, OnOk, None as Missing, Option, option_map, false};
 ghost use Rattle.mg_text.specs.Call.{Name};
 ghost use Rattle.jv_types.specs.inner.Exits.{both, emptied, jumps, met_at, no_jumps, with_jumps};
 
@@ -94,34 +94,13 @@ impl Exits {
         }
     }
 
-    /// Meets `break`.
-    pub(crate) fn add_break(&mut self, label: Option<&str>) -> Result<(), Memory>
+    /// Meets these.
+    pub(crate) fn add(&mut self, label: Option<&str>, jumps: Jumps) -> Result<(), Memory>
         ensures { OnOk result ((l : Option Name) → met_at self.new l ≡ with_jumps (met_at self.old) (option_map (λ l. l.now) label.entry)
-            (both (met_at self.old (option_map (λ l. l.now) label.entry)) (jumps true false)) l) }
+            (both (met_at self.old (option_map (λ l. l.now) label.entry)) jumps) l) }
     {
         let met = self.met(label);
-        self.set(
-            label,
-            Jumps {
-                breaks: true,
-                ..met
-            },
-        )
-    }
-
-    /// Meets `continue`.
-    pub(crate) fn add_continue(&mut self, label: Option<&str>) -> Result<(), Memory>
-        ensures { OnOk result ((l : Option Name) → met_at self.new l ≡ with_jumps (met_at self.old) (option_map (λ l. l.now) label.entry)
-            (both (met_at self.old (option_map (λ l. l.now) label.entry)) (jumps false true)) l) }
-    {
-        let met = self.met(label);
-        self.set(
-            label,
-            Jumps {
-                continues: true,
-                ..met
-            },
-        )
+        self.set(label, both(met, jumps))
     }
 
     /// Enters a loop: what was met before and would lead to it is hidden.

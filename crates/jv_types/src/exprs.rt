@@ -3,7 +3,7 @@
 
 ghost use Rattle.std.specs.Prelude.{◌≡◌, map, false};
 ghost use Rattle.jv_tree.specs.View.{expr_of, exprs_of};
-ghost use Rattle.jv_tree.specs.Source.{Member, Neg, Not, Call};
+ghost use Rattle.jv_tree.specs.Source.{Member};
 ghost use Rattle.jv_types.specs.inner.Judging.{Judges};
 ghost use Rattle.jv_types.specs.inner.Calls.{JudgesAll, JudgesReceiver};
 ghost use Rattle.jv_types.specs.inner.Scopes.{scope_seen};
@@ -39,20 +39,24 @@ pub(crate) fn check_expr<'a>(
         ExprKind::This => Err(Wrong::Fault(Condition::ThisAsValue, place, "")),
         ExprKind::Name(ref name) => end_name(scope, locals, place, name.as_str()),
         ExprKind::Member(ref of, ref name) => check_member(scope, locals, place, of, name.as_str()),
-        ExprKind::Neg(ref of) => check_neg(scope, locals, place, of),
-        ExprKind::Not(ref of) => check_not(scope, locals, place, of),
+        ExprKind::Neg(ref of) => {
+            let inner = check_expr(scope, locals, of)?;
+            end_neg(place, of, inner)
+        }
+        ExprKind::Not(ref of) => {
+            let inner = check_expr(scope, locals, of)?;
+            end_not(place, of, inner)
+        }
         ExprKind::Binary(op, ref left, ref right) => {
             let one = check_expr(scope, locals, left)?;
             let other = check_expr(scope, locals, right)?;
             end_binary(place, op, left, one, right, other)
         }
-        ExprKind::Call(ref name, ref args) => check_call(
-            scope,
-            locals,
-            place,
-            name.as_str(),
-            args.as_slice(),
-        ),
+        ExprKind::Call(ref name, ref args) => {
+            let args = args.as_slice();
+            let given = check_args(scope, locals, args)?;
+            end_call(scope, locals, place, name.as_str(), args, &given)
+        }
         ExprKind::MethodCall(ref of, ref name, ref args) => {
             let args = args.as_slice();
             let receiver = check_receiver(scope, locals, of)?;
@@ -98,49 +102,6 @@ fn check_member<'a>(
     }
     check_expr(scope, locals, of)?;
     Err(Wrong::Fault(Condition::UnknownName, place, name))
-}
-
-// `-e`
-#[cycle(exprs)]
-fn check_neg<'a>(
-    scope: &Scope<'_, 'a>,
-    locals: &Locals<'a>,
-    place: Place,
-    of: &'a Expr,
-) -> Result<Checked<'a>, Wrong<'a>>
-    ensures { Judges (scope_seen scope.now locals.now) (Neg place (expr_of of.now)) result }
-{
-    let inner = check_expr(scope, locals, of)?;
-    end_neg(place, of, inner)
-}
-
-// `!e`
-#[cycle(exprs)]
-fn check_not<'a>(
-    scope: &Scope<'_, 'a>,
-    locals: &Locals<'a>,
-    place: Place,
-    of: &'a Expr,
-) -> Result<Checked<'a>, Wrong<'a>>
-    ensures { Judges (scope_seen scope.now locals.now) (Not place (expr_of of.now)) result }
-{
-    let inner = check_expr(scope, locals, of)?;
-    end_not(place, of, inner)
-}
-
-// `name(..)`
-#[cycle(exprs)]
-fn check_call<'a>(
-    scope: &Scope<'_, 'a>,
-    locals: &Locals<'a>,
-    place: Place,
-    name: &'a str,
-    args: &'a [Expr],
-) -> Result<Checked<'a>, Wrong<'a>>
-    ensures { Judges (scope_seen scope.now locals.now) (Call place name.now (exprs_of (map expr_of args.now))) result }
-{
-    let given = check_args(scope, locals, args)?;
-    end_call(scope, locals, place, name, args, &given)
 }
 
 // What stands before `.name(..)`.

@@ -1,10 +1,13 @@
 //! Why a program is refused by a type condition.
 //! Each fault has its place, and the name that is at fault, which is empty where there is none.
 
-ghost use Rattle.std.specs.Prelude.{◌≡◌, IfSome};
-ghost use Rattle.mg_read.specs.Culprit.{culprit};
-ghost use Rattle.jv_types.specs.Outcome.{fault_told};
+ghost use Rattle.std.specs.Prelude.{◌≡◌, Option, Some};
+ghost use Rattle.mg_read.specs.Culprit.{Culprit, culprit};
+ghost use Rattle.jv_rules.specs.declared.condition.Condition.{Condition as Kind};
+ghost use Rattle.jv_types.specs.Outcome.{fault_told, TellsFault};
+ghost use Rattle.jv_types.specs.inner.Judging.{Tells};
 
+use crate::judged::Wrong;
 use jv_rules::Condition;
 use mg_text::{Memory, Place, Text};
 use std::alloc::Global;
@@ -94,12 +97,15 @@ fn with_name(condition: Condition, place: Place, name: Text) -> TypeFault
     }
 }
 
-/// The fault of a condition at a place. Where memory runs out it is `Memory`.
-pub(crate) fn type_fault(alloc: Global, condition: Condition, place: Place, name: &str) -> TypeFault
-    ensures { IfSome (fault_told result) (λ f. f ≡ (condition, culprit place name.now)) }
+/// The fault of what is wrong. Where memory runs out it is `Memory`.
+pub(crate) fn fault_of(alloc: Global, wrong: Wrong<'_>) -> TypeFault
+    ensures { (fault : Option (Kind × Culprit)) → Tells wrong.entry fault → TellsFault (λ r. r ≡ fault) result }
 {
-    match Text::of(alloc, name) {
-        Ok(name) => with_name(condition, place, name),
-        Err(_memory) => TypeFault::Memory,
+    match wrong {
+        Wrong::Memory => TypeFault::Memory,
+        Wrong::Fault(condition, place, name) => match Text::of(alloc, name) {
+            Ok(name) => with_name(condition, place, name),
+            Err(_memory) => TypeFault::Memory,
+        },
     }
 }

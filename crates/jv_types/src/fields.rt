@@ -7,7 +7,7 @@ ghost use Rattle.jv_meaning.specs.Program.{enum_named};
 ghost use Rattle.jv_rules.specs.inner.Deciding.{first_by, has_constant};
 ghost use Rattle.jv_types.specs.Tables.{program_in};
 ghost use Rattle.jv_types.specs.inner.Blaming.{blamed_of};
-ghost use Rattle.jv_types.specs.inner.Declaring.{is_constant_of, needs_value, lacks_constant, field_needs_value, fields_need_values};
+ghost use Rattle.jv_types.specs.inner.Declaring.{is_constant_of, lacks_constant, field_needs_value, fields_need_values};
 ghost use Rattle.jv_types.specs.inner.Declaring.{is_member_of, is_constant_named, is_int, is_truth, is_text};
 ghost use Rattle.jv_types.specs.inner.Tabled.{class_in};
 
@@ -119,23 +119,17 @@ fn is_constant_of(table: &Table<'_>, ty: &TypeName, expr: &Expr) -> bool
     }
 }
 
-// Whether fields of a type have no default value.
-fn needs_value(table: &Table<'_>, ty: &TypeName) -> bool
-    ensures { result ≡ needs_value (program_in table.now) ty.now }
-{
-    match ty {
-        TypeName::Void | TypeName::Int | TypeName::Boolean => false,
-        TypeName::Text => true,
-        TypeName::Named(name) => table.enum_named(name.as_str()).is_some(),
-    }
-}
-
-// Whether a field lacks a constant of its type.
+// Whether a field lacks a constant of its type. Without a value it does where its type has no default
+// value.
 fn lacks_constant(table: &Table<'_>, ty: &TypeName, value: &Option<Expr>) -> bool
     ensures { result ≡ lacks_constant (program_in table.now) ty.now (option_map expr_of value.now) }
 {
     match value {
-        None => needs_value(table, ty),
+        None => match ty {
+            TypeName::Void | TypeName::Int | TypeName::Boolean => false,
+            TypeName::Text => true,
+            TypeName::Named(name) => table.enum_named(name.as_str()).is_some(),
+        },
         Some(expr) => !is_constant_of(table, ty, expr),
     }
 }

@@ -1,11 +1,8 @@
-//! Conditions of statements, and the loops that have them.
+//! The conditions and labels of loops.
 
-ghost use Rattle.std.specs.Prelude.{◌≡◌};
 ghost use Rattle.jv_tree.specs.View.{expr_of};
-ghost use Rattle.jv_rules.specs.Types.{BooleanType};
-ghost use Rattle.jv_rules.specs.Taking.{Fitting};
 ghost use Rattle.jv_types.specs.inner.Scopes.{scope_seen};
-ghost use Rattle.jv_types.specs.inner.Stating.{Answers, value_told, loop_told};
+ghost use Rattle.jv_types.specs.inner.Stating.{Answers, loop_told};
 
 use crate::judged::Wrong;
 use crate::jumps::check_label;
@@ -15,23 +12,6 @@ use crate::value_type::ValueType;
 use crate::values::{Wanted, check_value};
 use jv_tree::Expr;
 use mg_text::{Place, Text};
-
-/// Judges a condition, whose value must be a boolean.
-pub(crate) fn check_condition<'a>(
-    scope: &Scope<'_, 'a>,
-    locals: &Locals<'a>,
-    condition: &'a Expr,
-) -> Result<(), Wrong<'a>>
-    ensures { Answers (value_told (scope_seen scope.now locals.now) (expr_of condition.now) (Fitting BooleanType)) result }
-{
-    check_value(
-        scope,
-        locals,
-        condition,
-        Wanted::Fitting(ValueType::Boolean),
-    )?;
-    Ok(())
-}
 
 /// Judges the condition of a loop, and its label.
 pub(crate) fn check_loop<'a>(
@@ -43,6 +23,11 @@ pub(crate) fn check_loop<'a>(
 ) -> Result<(), Wrong<'a>>
     ensures { Answers (loop_told (scope_seen scope.now locals.now) place label.now (expr_of condition.now)) result }
 {
-    check_condition(scope, locals, condition)?;
+    check_value(
+        scope,
+        locals,
+        condition,
+        Wanted::Fitting(ValueType::Boolean),
+    )?;
     check_label(scope, locals, place, label)
 }

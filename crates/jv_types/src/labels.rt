@@ -1,23 +1,21 @@
 //! Classes whose methods answer with other labels than their typestates. Each typestate is judged
 //! once, by its own results, which its classes have too once no signature differs.
 
-ghost use Rattle.std.specs.Prelude.{◌≡◌, [], IfOk, OnOk, None, map, option_map, if◌then◌else◌};
+ghost use Rattle.std.specs.Prelude.{◌≡◌, [], IfOk, None, option_map};
 ghost use Rattle.std.specs.List.{list_any};
-ghost use Rattle.mg_text.specs.Interned.{with_text};
 ghost use Rattle.jv_rules.specs.inner.Deciding.{first_by};
 ghost use Rattle.jv_types.specs.Tables.{program_in};
 ghost use Rattle.jv_types.specs.declared.demands.Demand.TheVariants as demands;
 ghost use Rattle.jv_types.specs.inner.Blaming.{blamed_of};
 ghost use Rattle.jv_types.specs.inner.Declaring.{broken_in_class};
 ghost use Rattle.jv_types.specs.inner.Kept.{typestate_in};
-ghost use Rattle.jv_types.specs.inner.Offering.{offers_seen, labels_differ, is_mislabelled, mislabelled};
+ghost use Rattle.jv_types.specs.inner.Offering.{offers_seen, labels_differ, mislabelled};
 ghost use Rattle.jv_types.specs.inner.Tabled.{class_in, IsEntryOf, AreEntriesOf};
 
 use crate::blame::{Blamed, note};
 use crate::demands::{Demand, broken_by, other_labels};
 use crate::entry::ClassEntry;
 use crate::name_table::Table;
-use crate::protocols::Protocol;
 use mg_text::{Memory, Names};
 use std::alloc::Global;
 use ts_tree::Method;
@@ -34,46 +32,19 @@ fn some_differ(alloc: Global, table: &Table<'_>, offers: &[&Method]) -> Result<b
     Ok(false)
 }
 
-// Notes the name of a typestate that has such a method.
-fn note_mislabelled(
-    alloc: Global,
-    table: &Table<'_>,
-    met: &mut Names,
-    protocol: &Protocol<'_>,
-) -> Result<(), Memory>
-    ensures { OnOk result (met.new
-        ≡ (if is_mislabelled (program_in table.now) protocol.now.of.now then with_text met.old protocol.now.of.now.name else met.old)) }
-{
-    let differ = some_differ(alloc, table, protocol.offers.as_slice())?;
-    if !differ {
-        return Ok(());
-    }
-    let typestate = protocol.of;
-    note(met, typestate.name.as_str())?;
-    Ok(())
-}
-
-// Notes the names of the typestates that have such a method.
-fn note_all(
-    alloc: Global,
-    table: &Table<'_>,
-    met: &mut Names,
-    protocols: &[Protocol<'_>],
-) -> Result<(), Memory>
-    ensures { OnOk result (met.new ≡ mislabelled (program_in table.now) met.old (map (λ p. p.of.now) protocols.now)) }
-{
-    for protocol in protocols {
-        note_mislabelled(alloc, table, met, protocol)?;
-    }
-    Ok(())
-}
-
 // The names of the typestates that have such a method.
 fn mislabelled(alloc: Global, table: &Table<'_>) -> Result<Names, Memory>
     ensures { IfOk result (λ n. n ≡ mislabelled (program_in table.now) [] (program_in table.now).typestates) }
 {
     let mut met = Names::new(alloc);
-    note_all(alloc, table, &mut met, table.protocols.as_slice())?;
+    for protocol in table.protocols.as_slice() {
+        let differ = some_differ(alloc, table, protocol.offers.as_slice())?;
+        if !differ {
+            continue;
+        }
+        let typestate = protocol.of;
+        note(&mut met, typestate.name.as_str())?;
+    }
     Ok(met)
 }
 

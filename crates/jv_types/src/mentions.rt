@@ -10,7 +10,7 @@ ghost use Rattle.jv_rules.specs.inner.Deciding.{first_by};
 ghost use Rattle.jv_types.specs.Tables.{program_in};
 ghost use Rattle.jv_types.specs.inner.Blaming.{blamed_of};
 ghost use Rattle.jv_types.specs.inner.Repeating.{member_seen};
-ghost use Rattle.jv_types.specs.inner.Declaring.{is_usable_class, is_usable, unknown_class, unknown_in_class};
+ghost use Rattle.jv_types.specs.inner.Declaring.{is_usable_class, unknown_class, unknown_in_class};
 ghost use Rattle.jv_types.specs.inner.Tabled.{class_in};
 
 use crate::blame::Blamed;
@@ -32,17 +32,8 @@ fn is_usable_class(table: &Table<'_>, name: &str) -> bool
     }
 }
 
-// Whether an enum or a class with a typestate has this name.
-fn is_usable(table: &Table<'_>, name: &str) -> bool
-    ensures { result ≡ is_usable (program_in table.now) name.now }
-{
-    if table.enum_named(name).is_some() {
-        return true;
-    }
-    is_usable_class(table, name)
-}
-
-// A type that is written at this place, where it is unknown.
+// A type that is written at this place, where it is unknown: no enum and no class with a typestate
+// has its name.
 fn unknown_type<'a>(table: &Table<'_>, place: Place, ty: &'a TypeName) -> Option<Blamed<'a>>
     ensures { option_map blamed_of result ≡ unknown_class (program_in table.now) (Written place ty.now) }
 {
@@ -50,7 +41,10 @@ fn unknown_type<'a>(table: &Table<'_>, place: Place, ty: &'a TypeName) -> Option
         TypeName::Void | TypeName::Int | TypeName::Boolean | TypeName::Text => None,
         TypeName::Named(name) => {
             let name = name.as_str();
-            if is_usable(table, name) {
+            if table.enum_named(name).is_some() {
+                return None;
+            }
+            if is_usable_class(table, name) {
                 return None;
             }
             Some(Blamed { place, name })

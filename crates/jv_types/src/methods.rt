@@ -1,21 +1,18 @@
 //! The conditions on methods, one method after another in file and text order.
 
-ghost use Rattle.std.specs.Prelude.{◌≡◌, Option, None as Missing, IfErr, OnOk, map};
-ghost use Rattle.mg_read.specs.Culprit.{Culprit};
-ghost use Rattle.jv_rules.specs.declared.condition.Condition.{Condition as Kind};
+ghost use Rattle.std.specs.Prelude.{◌≡◌, None as Missing, IfErr, OnOk, map};
 ghost use Rattle.jv_tree.specs.View.{class_of, method_of};
 ghost use Rattle.jv_rules.specs.Faults.{IsFault};
 ghost use Rattle.jv_rules.specs.inner.Deciding.{is_void};
 ghost use Rattle.jv_types.specs.Outcome.{TellsFault};
 ghost use Rattle.jv_types.specs.Tables.{program_in};
-ghost use Rattle.jv_types.specs.inner.Judging.{Tells};
 ghost use Rattle.jv_types.specs.inner.Methods.{fault_at_end, fault_in_method, fault_in_methods, fault_in_classes};
 ghost use Rattle.jv_types.specs.inner.Stating.{Answers};
 ghost use Rattle.jv_types.specs.inner.Tabled.{class_in, IsEntryOf, AreEntriesOf};
 
 use crate::completes::completes;
 use crate::entry::ClassEntry;
-use crate::fault::{TypeFault, type_fault};
+use crate::fault::{TypeFault, fault_of};
 use crate::judged::Wrong;
 use crate::locals::Locals;
 use crate::name_table::Table;
@@ -99,16 +96,6 @@ fn check_classes<'a>(
         check_class(alloc, table, class)?;
     }
     Ok(())
-}
-
-// The fault that was found.
-fn fault_of(alloc: Global, wrong: Wrong<'_>) -> TypeFault
-    ensures { (fault : Option (Kind × Culprit)) → Tells wrong.entry fault → TellsFault (λ r. r ≡ fault) result }
-{
-    match wrong {
-        Wrong::Memory => TypeFault::Memory,
-        Wrong::Fault(condition, place, name) => type_fault(alloc, condition, place, name),
-    }
 }
 
 /// Judges the methods of a program whose declarations have no type fault.

@@ -6,9 +6,9 @@ ghost use Rattle.jv_rules.specs.Scope.{is_variable};
 ghost use Rattle.jv_rules.specs.Taking.{Fitting, Writable, ClassVariable};
 ghost use Rattle.jv_rules.specs.Typing.{operator_type};
 ghost use Rattle.jv_types.specs.inner.View.{type_seen};
-ghost use Rattle.jv_types.specs.inner.Judging.{is_this, misfit, misfits, added_misfit, compared_misfit, operand_misfit, at_place};
+ghost use Rattle.jv_types.specs.inner.Judging.{is_this, misfit, misfits, compared_misfit, operand_misfit, at_place};
 
-use crate::value_type::{ValueType, fits, is_writable};
+use crate::value_type::{ValueType, fits};
 use jv_tree::{Expr, ExprKind, Op};
 use mg_text::Place;
 
@@ -52,15 +52,17 @@ pub(crate) fn misfit(taken: ValueType<'_>, expr: &Expr, given: ValueType<'_>) ->
     Some(expr.place)
 }
 
-// The place of a value that can't be written.
+/// The place of a value that can't be written.
 #[tactic(auto, using(crate::proofs::Seen::seen))]
 pub(crate) fn unwritable(expr: &Expr, given: ValueType<'_>) -> Option<Place>
     ensures { option_map at_place result ≡ misfit Writable (expr_of expr.now) (type_seen given.entry) }
 {
-    if is_writable(given) {
-        return None;
+    match given {
+        ValueType::Int => None,
+        ValueType::Boolean => None,
+        ValueType::Text => None,
+        _ => Some(expr.place),
     }
-    Some(expr.place)
 }
 
 /// The place of a value that is no variable of a class.
@@ -93,25 +95,6 @@ fn misfits(
     match misfit(taken, left, one) {
         Some(place) => Some(place),
         None => misfit(taken, right, other),
-    }
-}
-
-// The operand of `+` that is wrong.
-fn added_misfit(
-    left: &Expr,
-    one: ValueType<'_>,
-    right: &Expr,
-    other: ValueType<'_>,
-) -> Option<Place>
-    ensures { option_map at_place result ≡ added_misfit (expr_of left.now) (type_seen one.entry) (expr_of right.now)
-        (type_seen other.entry) }
-{
-    match one {
-        ValueType::Text => unwritable(right, other),
-        _ => match other {
-            ValueType::Text => unwritable(left, one),
-            _ => misfits(ValueType::Int, left, one, right, other),
-        },
     }
 }
 
@@ -156,7 +139,13 @@ pub(crate) fn operand_misfit(
     match op {
         Op::Or | Op::And => misfits(ValueType::Boolean, left, one, right, other),
         Op::Eq | Op::Ne => compared_misfit(left, one, right, other),
-        Op::Add => added_misfit(left, one, right, other),
+        Op::Add => match one {
+            ValueType::Text => unwritable(right, other),
+            _ => match other {
+                ValueType::Text => unwritable(left, one),
+                _ => misfits(ValueType::Int, left, one, right, other),
+            },
+        },
         Op::Lt | Op::Le | Op::Gt | Op::Ge => misfits(ValueType::Int, left, one, right, other),
         Op::Sub | Op::Mul | Op::Div | Op::Rem => misfits(ValueType::Int, left, one, right, other),
     }

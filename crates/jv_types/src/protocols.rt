@@ -4,12 +4,11 @@ ghost use Rattle.std.specs.Prelude.{◌≡◌, [], ◌++◌, IfOk, OnOk, Some, m
 ghost use Rattle.std.specs.Coded.{codes};
 ghost use Rattle.std.specs.List.{list_any};
 ghost use Rattle.std.specs.Str.{bytes_eq};
-ghost use Rattle.mg_text.specs.Interned.{with_text};
 ghost use Rattle.ts_tree.specs.View.{method_of as offer_of, state_of};
 ghost use Rattle.jv_rules.specs.Program.{offers_in};
 ghost use Rattle.jv_types.specs.inner.Blaming.{noted};
 ghost use Rattle.jv_types.specs.inner.Entries.{OffersAll};
-ghost use Rattle.jv_types.specs.inner.Offering.{offers_seen, new_among, firsts_among, AreAlike};
+ghost use Rattle.jv_types.specs.inner.Offering.{offers_seen, firsts_among, AreAlike};
 
 use crate::blame::note;
 use mg_text::{Memory, Names};
@@ -17,7 +16,6 @@ use std::alloc::Global;
 use ts_tree::{Method, State, Typestate};
 
 /// A typestate and the methods that its states offer.
-#[derive(Drop)]
 pub struct Protocol<'a> {
     pub of: &'a Typestate,
     // All of them, in the order of the states.
@@ -29,6 +27,18 @@ pub struct Protocol<'a> {
     ghost first: { offers_seen firsts.items ≡ firsts_among [] (offers_in of.now.states) } by { Prim.hlevel codes },
     ghost alike: { AreAlike (offers_in of.now.states) } by { Prim.hlevel codes },
     ghost named: { OffersAll (Some of.now) names },
+}
+
+// One call lets go of it.
+impl Drop for Protocol<'_> {
+    fn drop(self) {
+        let Protocol {
+            of: _,
+            offers: _,
+            firsts: _,
+            names: _,
+        } = self;
+    }
 }
 
 impl Protocol<'_> {
@@ -61,23 +71,6 @@ fn offers_of<'a>(alloc: Global, states: &'a [State]) -> Result<Vec<&'a Method>, 
     Ok(all)
 }
 
-// Adds a method, where its name is new.
-fn add_first<'a>(
-    names: &mut Names,
-    firsts: &mut Vec<&'a Method>,
-    offer: &'a Method,
-) -> Result<(), Memory>
-    ensures names { OnOk result (names.new ≡ with_text names.old offer.now.name) }
-    ensures firsts { OnOk result (offers_seen firsts.new.items ≡ offers_seen firsts.old.items ++ new_among names.old (offer_of offer.now)) }
-{
-    let fresh = note(names, offer.name.as_str())?;
-    if !fresh {
-        return Ok(());
-    }
-    firsts.push(offer)?;
-    Ok(())
-}
-
 // The first method of each name that was not met, and these names.
 fn first_offers<'a>(
     alloc: Global,
@@ -89,7 +82,11 @@ fn first_offers<'a>(
 {
     let mut firsts = Vec::new(alloc);
     for offer in offers {
-        add_first(names, &mut firsts, offer)?;
+        let fresh = note(names, offer.name.as_str())?;
+        if !fresh {
+            continue;
+        }
+        firsts.push(*offer)?;
     }
     Ok(firsts)
 }

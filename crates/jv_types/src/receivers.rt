@@ -13,7 +13,7 @@ use crate::locals::Locals;
 use crate::operands::{is_this, no_variable};
 use crate::scope::Scope;
 use crate::value_type::ValueType;
-use crate::variable::{is_protocol, own_field, variable_type};
+use crate::variable::{own_field, variable_type};
 use jv_tree::{Expr, ExprKind, Field};
 use mg_text::Place;
 
@@ -27,24 +27,32 @@ fn is_own(scope: &Scope<'_, '_>, locals: &Locals<'_>, name: &str) -> bool
     }
 }
 
-/// Whether a name is that of a method of the own protocol.
-pub(crate) fn calls_protocol(scope: &Scope<'_, '_>, locals: &Locals<'_>, name: &str) -> bool
-    ensures { result ≡ is_protocol (scope_seen scope.now locals.now) name.now }
-{
-    if is_own(scope, locals, name) {
-        return is_protocol(scope, name);
-    }
-    false
+/// What a call on the own object is.
+#[derive(Clone, Copy)]
+pub(crate) struct OwnCall {
+    /// One of a method of the own protocol.
+    pub is_protocol: bool,
+    /// One of a helper.
+    pub is_helper: bool,
 }
 
-/// Whether a name is that of a helper.
-pub(crate) fn calls_helper(scope: &Scope<'_, '_>, locals: &Locals<'_>, name: &str) -> bool
-    ensures { result ≡ is_helper (scope_seen scope.now locals.now) name.now }
+/// What a call of this name on the own object is. It is neither where the name is not that of an
+/// instance method.
+pub(crate) fn own_call(scope: &Scope<'_, '_>, locals: &Locals<'_>, name: &str) -> OwnCall
+    ensures protocol { result.is_protocol ≡ is_protocol (scope_seen scope.now locals.now) name.now }
+    ensures helper { result.is_helper ≡ is_helper (scope_seen scope.now locals.now) name.now }
 {
     if is_own(scope, locals, name) {
-        return !is_protocol(scope, name);
+        let is_protocol = scope.table.is_offered(scope.class, name);
+        return OwnCall {
+            is_protocol,
+            is_helper: !is_protocol,
+        };
     }
-    false
+    OwnCall {
+        is_protocol: false,
+        is_helper: false,
+    }
 }
 
 /// Whether a name is that of a class, `Session` included.

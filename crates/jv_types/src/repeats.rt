@@ -27,23 +27,20 @@ fn is_built_in(name: &str) -> bool
         || name == "Session"
 }
 
-/// The name of a class or an enum.
-pub(crate) fn name_of<'a>(decl: &'a Decl) -> &'a str
-    ensures { result.now ≡ (decl_entry (decl_of decl.now)).name }
+// The place and the name of a class or an enum.
+fn declared<'a>(decl: &'a Decl) -> Blamed<'a>
+    ensures place { result.place ≡ (decl_entry (decl_of decl.now)).place }
+    ensures name { result.name.now ≡ (decl_entry (decl_of decl.now)).name }
 {
     match decl {
-        Decl::Class(class) => class.name.as_str(),
-        Decl::Enum(of) => of.name.as_str(),
-    }
-}
-
-// The place of the name.
-fn place_of(decl: &Decl) -> Place
-    ensures { result ≡ (decl_entry (decl_of decl.now)).place }
-{
-    match decl {
-        Decl::Class(class) => class.place,
-        Decl::Enum(of) => of.place,
+        Decl::Class(class) => Blamed {
+            place: class.place,
+            name: class.name.as_str(),
+        },
+        Decl::Enum(of) => Blamed {
+            place: of.place,
+            name: of.name.as_str(),
+        },
     }
 }
 
@@ -52,14 +49,13 @@ fn type_met<'a>(met: &mut Names, decls: &[&'a Decl]) -> Result<Option<Blamed<'a>
     ensures { IfOk result (λ o. option_map blamed_of o ≡ repeat_type met.old (map (λ d. decl_of d.now) decls.now)) }
 {
     for decl in decls {
-        let name = name_of(decl);
-        let place = place_of(decl);
-        if is_built_in(name) {
-            return Ok(Some(Blamed { place, name }));
+        let declared = declared(decl);
+        if is_built_in(declared.name) {
+            return Ok(Some(declared));
         }
-        let fresh = note(met, name)?;
+        let fresh = note(met, declared.name)?;
         if !fresh {
-            return Ok(Some(Blamed { place, name }));
+            return Ok(Some(declared));
         }
     }
     Ok(None)
@@ -145,15 +141,6 @@ fn member_met<'a>(
     Ok(None)
 }
 
-// The first member whose name an earlier one of its kind has.
-fn repeated_member<'a>(alloc: Global, members: &[Member<'a>]) -> Result<Option<Blamed<'a>>, Memory>
-    ensures { IfOk result (λ o. option_map blamed_of o ≡ repeat_member [] [] (map member_seen members.now)) }
-{
-    let mut fields = Names::new(alloc);
-    let mut methods = Names::new(alloc);
-    member_met(&mut fields, &mut methods, members)
-}
-
 // The first constant that was met, or stands twice, at the enum's place.
 fn constant_met<'a>(
     met: &mut Names,
@@ -172,18 +159,6 @@ fn constant_met<'a>(
     Ok(None)
 }
 
-// The first constant that stands twice, at the enum's place.
-fn repeated_constant<'a>(
-    alloc: Global,
-    place: Place,
-    constants: &'a [Text],
-) -> Result<Option<Blamed<'a>>, Memory>
-    ensures { IfOk result (λ o. option_map blamed_of o ≡ repeat_constant place [] constants.now) }
-{
-    let mut met = Names::new(alloc);
-    constant_met(&mut met, place, constants)
-}
-
 // The first member of a declaration that shares its name.
 fn repeated_in<'a>(alloc: Global, decl: &'a Decl) -> Result<Option<Blamed<'a>>, Memory>
     ensures { IfOk result (λ o. option_map blamed_of o ≡ repeat_in (decl_of decl.now)) }
@@ -191,9 +166,14 @@ fn repeated_in<'a>(alloc: Global, decl: &'a Decl) -> Result<Option<Blamed<'a>>, 
     match decl {
         Decl::Class(class) => {
             let members = members(alloc, class)?;
-            repeated_member(alloc, members.as_slice())
+            let mut fields = Names::new(alloc);
+            let mut methods = Names::new(alloc);
+            member_met(&mut fields, &mut methods, members.as_slice())
         }
-        Decl::Enum(of) => repeated_constant(alloc, of.place, of.constants.as_slice()),
+        Decl::Enum(of) => {
+            let mut met = Names::new(alloc);
+            constant_met(&mut met, of.place, of.constants.as_slice())
+        }
     }
 }
 

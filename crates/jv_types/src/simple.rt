@@ -1,8 +1,8 @@
-//! Statements with no statement inside: declarations, assignments, `return` and printing.
+//! Statements with no statement inside: declarations, assignments and `return`.
 
-ghost use Rattle.std.specs.Prelude.{◌≡◌, Some, None as Missing, is_some, option_map, OnOk};
+ghost use Rattle.std.specs.Prelude.{◌≡◌, None as Missing, is_some, option_map, OnOk};
 ghost use Rattle.jv_tree.specs.View.{expr_of, stmt_of};
-ghost use Rattle.jv_tree.specs.Source.{Local, Assign, Print, Return, Eval};
+ghost use Rattle.jv_tree.specs.Source.{Local, Assign, Return};
 ghost use Rattle.jv_rules.specs.Scope.{declared_named, behind};
 ghost use Rattle.jv_rules.specs.Taking.{result_of};
 ghost use Rattle.jv_types.specs.inner.Scopes.{scope_seen};
@@ -59,57 +59,17 @@ pub(crate) fn check_assign<'a>(
     ensures { Answers (stmt_fault (scope_seen scope.now locals.now) (Assign place (expr_of target.now) (expr_of value.now))) result }
 {
     let assigned = check_expr(scope, locals, target)?;
-    check_value(scope, locals, value, Wanted::Fitting(assigned.ty))?;
-    Ok(())
+    check_value(scope, locals, value, Wanted::Fitting(assigned.ty))
 }
 
-/// Judges a statement that prints a value.
-pub(crate) fn check_print<'a>(
-    scope: &Scope<'_, 'a>,
-    locals: &Locals<'a>,
-    place: Place,
-    value: &'a Expr,
-) -> Result<(), Wrong<'a>>
-    ensures { Answers (stmt_fault (scope_seen scope.now locals.now) (Print place (expr_of value.now))) result }
-{
-    check_value(scope, locals, value, Wanted::Writable)?;
-    Ok(())
-}
-
-// What `return` takes in a method.
-fn wanted_result<'a>(scope: &Scope<'_, 'a>, locals: &Locals<'a>) -> Wanted<'a>
+/// What `return` takes in a method.
+pub(crate) fn wanted_result<'a>(scope: &Scope<'_, 'a>, locals: &Locals<'a>) -> Wanted<'a>
     ensures { wanted_seen result ≡ returned_wanted (result_of (scope_seen scope.now locals.now)) }
 {
     match meant(scope.table, &scope.method.result) {
         ValueType::NoValue => Wanted::Nothing,
         ty => Wanted::Fitting(ty),
     }
-}
-
-/// Judges `return` with a value.
-pub(crate) fn check_returned<'a>(
-    scope: &Scope<'_, 'a>,
-    locals: &Locals<'a>,
-    place: Place,
-    value: &'a Expr,
-) -> Result<(), Wrong<'a>>
-    ensures { Answers (stmt_fault (scope_seen scope.now locals.now) (Return place (Some (expr_of value.now)))) result }
-{
-    check_value(scope, locals, value, wanted_result(scope, locals))?;
-    Ok(())
-}
-
-/// Judges an expression that stands alone.
-pub(crate) fn check_eval<'a>(
-    scope: &Scope<'_, 'a>,
-    locals: &Locals<'a>,
-    place: Place,
-    value: &'a Expr,
-) -> Result<(), Wrong<'a>>
-    ensures { Answers (stmt_fault (scope_seen scope.now locals.now) (Eval place (expr_of value.now))) result }
-{
-    check_expr(scope, locals, value)?;
-    Ok(())
 }
 
 /// Judges `return` without a value.

@@ -8,15 +8,16 @@ ghost use Rattle.jv_rules.specs.Scope as targets;
 ghost use Rattle.jv_types.specs.inner.Scopes.{scope_seen};
 ghost use Rattle.jv_types.specs.inner.Stating.{Answers, stmt_fault, stmts_fault, groups_fault};
 
-use crate::heads::{check_condition, check_loop};
+use crate::exprs::check_expr;
+use crate::heads::check_loop;
 use crate::judged::Wrong;
 use crate::jumps::{check_break, check_continue, label_text};
 use crate::locals::Locals;
 use crate::scope::{Around, Scope};
-use crate::simple::{
-    check_assign, check_eval, check_local, check_print, check_return, check_returned, declare_local,
-};
+use crate::simple::{check_assign, check_local, check_return, declare_local, wanted_result};
 use crate::switches::check_choice;
+use crate::value_type::ValueType;
+use crate::values::{Wanted, check_value};
 use jv_tree::{Group, Stmt, StmtKind};
 use mg_text::Text;
 
@@ -46,7 +47,12 @@ pub(crate) fn check_stmt<'a>(
             scope, locals, place, target, value,
         ),
         StmtKind::If(ref condition, ref inner, ref otherwise) => {
-            check_condition(scope, locals, condition)?;
+            check_value(
+                scope,
+                locals,
+                condition,
+                Wanted::Fitting(ValueType::Boolean),
+            )?;
             match otherwise {
                 None => check_stmt(scope, locals, inner),
                 Some(otherwise) => {
@@ -66,16 +72,22 @@ pub(crate) fn check_stmt<'a>(
         StmtKind::Switch(ref value, ref groups, _) => {
             let groups = groups.as_slice();
             check_choice(scope, locals, place, value, groups)?;
-            check_chosen(scope, locals, groups)
+            check_groups(scope, locals, groups)
         }
         StmtKind::Break(ref label) => check_break(scope, locals, place, label),
         StmtKind::Continue(ref label) => check_continue(scope, locals, place, label),
         StmtKind::Return(ref value) => match value {
             None => check_return(scope, locals, place),
-            Some(value) => check_returned(scope, locals, place, value),
+            Some(value) => {
+                let wanted = wanted_result(scope, locals);
+                check_value(scope, locals, value, wanted)
+            }
         },
-        StmtKind::Print(ref value) => check_print(scope, locals, place, value),
-        StmtKind::Eval(ref value) => check_eval(scope, locals, place, value),
+        StmtKind::Print(ref value) => check_value(scope, locals, value, Wanted::Writable),
+        StmtKind::Eval(ref value) => {
+            check_expr(scope, locals, value)?;
+            Ok(())
+        }
     }
 }
 
@@ -93,22 +105,6 @@ fn check_inner<'a>(
     let around = Around::Loop(label_text(label), &*scope.around);
     let within = (&*scope).within(&around);
     check_stmt(&within, locals, stmt)
-}
-
-// Judges the groups of a switch, in their switch.
-#[cycle(stmts)]
-fn check_chosen<'a>(
-    scope: &Scope<'_, 'a>,
-    locals: &mut Locals<'a>,
-    groups: &'a [Group],
-) -> Result<(), Wrong<'a>>
-    ensures told { Answers (groups_fault (within targets.Switch (scope_seen scope.now locals.old)) (groups_of (map group_of groups.now)))
-        result }
-    ensures kept { OnOk result (locals.new ≡ locals.old) }
-{
-    let around = Around::Switch(&*scope.around);
-    let within = (&*scope).within(&around);
-    check_groups(&within, locals, groups)
 }
 
 /// Judges statements in their order.
@@ -130,18 +126,21 @@ pub(crate) fn check_stmts<'a>(
     Ok(())
 }
 
-// Judges the groups of a switch. A local is not in scope in the next group.
+// Judges the groups of a switch, in their switch. A local is not in scope in the next group.
 #[cycle(stmts)]
 fn check_groups<'a>(
     scope: &Scope<'_, 'a>,
     locals: &mut Locals<'a>,
     groups: &'a [Group],
 ) -> Result<(), Wrong<'a>>
-    ensures told { Answers (groups_fault (scope_seen scope.now locals.old) (groups_of (map group_of groups.now))) result }
+    ensures told { Answers (groups_fault (within targets.Switch (scope_seen scope.now locals.old)) (groups_of (map group_of groups.now)))
+        result }
     ensures kept { OnOk result (locals.new ≡ locals.old) }
 {
+    let around = Around::Switch(&*scope.around);
+    let within = (&*scope).within(&around);
     for group in groups {
-        check_stmts(scope, locals, group.body.as_slice())?;
+        check_stmts(&within, locals, group.body.as_slice())?;
     }
     Ok(())
 }

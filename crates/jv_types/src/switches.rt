@@ -12,6 +12,7 @@ ghost use Rattle.jv_types.specs.inner.Scopes.{scope_seen};
 ghost use Rattle.jv_types.specs.inner.Stating.{Answers, bad_case, cases_told, choice_told};
 
 use crate::blame::note;
+use crate::exprs::check_expr;
 use crate::fields::has_constant;
 use crate::judged::Wrong;
 use crate::jumps::label_text;
@@ -19,7 +20,7 @@ use crate::locals::Locals;
 use crate::name_table::Table;
 use crate::scope::Scope;
 use crate::value_type::ValueType;
-use crate::values::{Wanted, check_value};
+use crate::values::{Wanted, wanted_misfit};
 use jv_rules::Condition;
 use jv_tree::{Expr, Group};
 use mg_text::{Memory, Names, Place, Text};
@@ -90,20 +91,6 @@ fn label_met<'a>(
     Ok(None)
 }
 
-// The first label that stands twice or is no constant of the enum. That of a default is empty.
-fn bad_case<'a>(
-    alloc: Global,
-    table: &Table<'_>,
-    ty: ValueType<'_>,
-    labels: &[&'a Option<Text>],
-) -> Result<Option<&'a str>, Memory>
-    ensures { IfOk result (λ o. option_map (λ n. n.now) o ≡ bad_case (is_case_of (program_in table.now) (Some (type_seen ty.entry)))
-        [] false (map (λ l. l.now) labels.now)) }
-{
-    let mut met = Names::new(alloc);
-    label_met(&mut met, table, ty, labels)
-}
-
 // Judges the cases and defaults of a switch.
 fn check_cases<'a>(
     scope: &Scope<'_, 'a>,
@@ -118,7 +105,8 @@ fn check_cases<'a>(
         result }
 {
     let labels = labels_of(scope.alloc, groups)?;
-    let bad = bad_case(scope.alloc, scope.table, ty, labels.as_slice())?;
+    let mut met = Names::new(scope.alloc);
+    let bad = label_met(&mut met, scope.table, ty, labels.as_slice())?;
     match bad {
         Some(name) => Err(Wrong::Fault(Condition::BadLabel, place, name)),
         None => Ok(()),
@@ -136,6 +124,9 @@ pub(crate) fn check_choice<'a>(
     ensures { Answers (choice_told (scope_seen scope.now locals.now) place (expr_of value.now) (groups_of (map group_of groups.now)))
         result }
 {
-    let ty = check_value(scope, locals, value, Wanted::AnyEnum)?;
-    check_cases(scope, locals, place, value, ty, groups)
+    let checked = check_expr(scope, locals, value)?;
+    match wanted_misfit(Wanted::AnyEnum, value, checked.ty) {
+        Some(at) => Err(Wrong::Fault(Condition::TypeMismatch, at, "")),
+        None => check_cases(scope, locals, place, value, checked.ty, groups),
+    }
 }

@@ -3,7 +3,7 @@
 ghost use Rattle.std.specs.Prelude.{◌≡◌};
 ghost use Rattle.jv_rules.specs.Types.{meant};
 ghost use Rattle.jv_rules.specs.Typing.{plain_type};
-ghost use Rattle.jv_rules.specs.inner.Deciding.{same_type, fits, is_writable};
+ghost use Rattle.jv_rules.specs.inner.Deciding.{same_type, fits};
 ghost use Rattle.jv_types.specs.inner.View.{type_seen};
 ghost use Rattle.jv_types.specs.Tables.{program_in};
 
@@ -83,17 +83,5 @@ pub(crate) fn fits(taken: ValueType<'_>, given: ValueType<'_>) -> bool
             _ => same_type(taken, given),
         },
         _ => same_type(taken, given),
-    }
-}
-
-/// Whether a value can be written.
-pub(crate) fn is_writable(given: ValueType<'_>) -> bool
-    ensures { result ≡ is_writable (type_seen given.entry) }
-{
-    match given {
-        ValueType::Int => true,
-        ValueType::Boolean => true,
-        ValueType::Text => true,
-        _ => false,
     }
 }

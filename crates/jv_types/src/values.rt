@@ -1,11 +1,11 @@
-//! Values that are taken: their types, and whether these are what is wanted.
+//! Values that are taken: whether their types are what is wanted.
 
 ghost use Rattle.std.specs.Prelude.{◌≡◌, option_map};
 ghost use Rattle.jv_tree.specs.View.{expr_of};
 ghost use Rattle.jv_types.specs.inner.View.{type_seen};
 ghost use Rattle.jv_types.specs.inner.Judging.{misfit, at_place};
 ghost use Rattle.jv_types.specs.inner.Scopes.{scope_seen};
-ghost use Rattle.jv_types.specs.inner.Stating.{wanted_seen, JudgesValue};
+ghost use Rattle.jv_types.specs.inner.Stating.{wanted_seen, value_told, Answers};
 
 use crate::exprs::check_expr;
 use crate::judged::Wrong;
@@ -30,9 +30,9 @@ pub(crate) enum Wanted<'a> {
     Nothing,
 }
 
-// The place of a value that isn't what is wanted.
+/// The place of a value that isn't what is wanted.
 #[tactic(auto, using(crate::proofs::Seen::seen))]
-fn wanted_misfit(wanted: Wanted<'_>, expr: &Expr, given: ValueType<'_>) -> Option<Place>
+pub(crate) fn wanted_misfit(wanted: Wanted<'_>, expr: &Expr, given: ValueType<'_>) -> Option<Place>
     ensures { option_map at_place result ≡ misfit (wanted_seen wanted.entry) (expr_of expr.now) (type_seen given.entry) }
 {
     match wanted {
@@ -46,18 +46,18 @@ fn wanted_misfit(wanted: Wanted<'_>, expr: &Expr, given: ValueType<'_>) -> Optio
     }
 }
 
-/// Judges an expression and whether its value is what is wanted: its type, or the first fault.
+/// Judges an expression and whether its value is what is wanted.
 pub(crate) fn check_value<'a>(
     scope: &Scope<'_, 'a>,
     locals: &Locals<'a>,
     expr: &'a Expr,
     wanted: Wanted<'_>,
-) -> Result<ValueType<'a>, Wrong<'a>>
-    ensures { JudgesValue (scope_seen scope.now locals.now) (expr_of expr.now) (wanted_seen wanted.entry) result }
+) -> Result<(), Wrong<'a>>
+    ensures { Answers (value_told (scope_seen scope.now locals.now) (expr_of expr.now) (wanted_seen wanted.entry)) result }
 {
     let checked = check_expr(scope, locals, expr)?;
     match wanted_misfit(wanted, expr, checked.ty) {
         Some(at) => Err(Wrong::Fault(Condition::TypeMismatch, at, "")),
-        None => Ok(checked.ty),
+        None => Ok(()),
     }
 }

@@ -1,12 +1,10 @@
-//! What names of variables, and calls on the own class, name at a place.
+//! What names of variables name at a place.
 
 ghost use Rattle.std.specs.Prelude.{◌≡◌, option_map};
-ghost use Rattle.jv_tree.specs.View.{field_of as field_seen, method_of};
-ghost use Rattle.jv_meaning.specs.Program.{method_named};
-ghost use Rattle.jv_rules.specs.Program.{is_of_protocol};
+ghost use Rattle.jv_tree.specs.View.{field_of as field_seen};
 ghost use Rattle.jv_rules.specs.Scope.{own_field, field_type, variable_type};
 ghost use Rattle.jv_types.specs.inner.View.{type_seen};
-ghost use Rattle.jv_types.specs.inner.Scopes.{scope_seen, class_seen, program_seen};
+ghost use Rattle.jv_types.specs.inner.Scopes.{scope_seen};
 
 use crate::locals::Locals;
 use crate::scope::Scope;
@@ -53,11 +51,4 @@ pub(crate) fn variable_type<'a>(
         Some(ty) => Some(ty),
         None => field_type(scope, locals, name),
     }
-}
-
-/// Whether the typestate of the own class has a method of this name.
-pub(crate) fn is_protocol(scope: &Scope<'_, '_>, name: &str) -> bool
-    ensures { result ≡ is_of_protocol (program_seen scope.now) (class_seen scope.now) name.now }
-{
-    scope.table.is_offered(scope.class, name)
 }

@@ -17,7 +17,7 @@ use std::alloc::Global;
 pub const MAX_BYTES: usize = 1_048_576;
 
 /// A call, with the number of its line, which counts from 1.
-#[derive(Clone, Copy, Debug)]
+#[derive(Clone, Copy)]
 pub struct CallLine<'a> {
     pub line: u32,
     pub method: &'a str,
@@ -25,7 +25,7 @@ pub struct CallLine<'a> {
 }
 
 /// Why a file holds no calls.
-#[derive(Clone, Copy, Debug, PartialEq, Eq)]
+#[derive(Clone, Copy)]
 pub enum CallsFault {
     /// The file holds over 1,048,576 bytes. The place is the file's start.
     TooLarge { place: Place },
@@ -58,18 +58,6 @@ pub fn read_calls<'a>(
         let place = Place::start(file);
         return Err(CallsFault::TooLarge { place });
     }
-    read_lines(alloc, file, bytes)
-}
-
-// The same where the file isn't too large.
-fn read_lines<'a>(
-    alloc: Global,
-    file: u32,
-    bytes: &'a [u8],
-) -> Result<List<CallLine<'a>>, CallsFault>
-    requires { length bytes.now ≤ 1048576 }
-    ensures { IsRead file bytes.now result }
-{
     let mut calls = List::new(alloc);
     let mut rest = Some(bytes);
     let mut line: u32 = 1;

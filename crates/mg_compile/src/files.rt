@@ -25,7 +25,7 @@ use mg_text::{Bytes, List, Memory, Text};
 use std::alloc::Global;
 
 /// A class file: its name, which is that of its class with `.class` behind it, and its bytes.
-#[derive(Debug, Drop)]
+#[derive(Drop)]
 pub struct ClassFile {
     pub name: Text,
     pub bytes: Bytes,

@@ -13,7 +13,7 @@ use std::alloc::Global;
 use std::marker::Model;
 
 /// A file to be written, with the line that is said where that fails.
-#[derive(Debug, Drop)]
+#[derive(Drop)]
 pub struct Output {
     name: Text,
     text: Bytes,
@@ -64,7 +64,7 @@ impl Output {
 }
 
 /// One thing that is done outside.
-#[derive(Debug, Drop)]
+#[derive(Drop)]
 pub enum Action {
     /// A file is written.
     Write(Output),
@@ -75,7 +75,7 @@ pub enum Action {
 }
 
 /// What is done outside, in this order, and the status that it then has.
-#[derive(Debug, Drop)]
+#[derive(Drop)]
 pub struct Delivery {
     pub actions: List<Action>,
     pub status: Status,

@@ -1,6 +1,7 @@
 //! The lines that are said of words, refusals, files and memory.
 
 ghost use Rattle.std.specs.Prelude.{◌≡◌, ◌++◌, IfOk, OnOk, option_map, string_bytes};
+ghost use Rattle.std.specs.List.{flat_map};
 ghost use Rattle.mg_delivery.specs.Lines.{words_line, name_at, spot_text, named_text, refusal_line, read_line, write_line, not_offered_line};
 
 use mg_refusal::{Refusal, Spot};
@@ -10,17 +11,33 @@ use std::alloc::Global;
 /// The line of want of memory, which takes none.
 pub const MEMORY: &str = "mungo: memory\n";
 
+// Appends texts, one after another.
+fn put(line: &mut String, parts: &[&str]) -> Result<(), Memory>
+    ensures { OnOk result (string_bytes line.new ≡ string_bytes line.old ++ flat_map (λ p. p.now) parts.now) }
+{
+    for part in parts {
+        line.push_str(part)?;
+    }
+    Ok(())
+}
+
+// The line of these texts.
+fn line_of(alloc: Global, parts: &[&str]) -> Result<Text, Memory>
+    ensures { IfOk result (λ t. t ≡ flat_map (λ p. p.now) parts.now) }
+{
+    let mut line = String::new(alloc);
+    put(&mut line, parts)?;
+    Ok(Text::from_string(line))
+}
+
 /// The words are no command.
 pub fn wrong_words(alloc: Global, word: Option<&Text>) -> Result<Text, Memory>
     ensures { IfOk result (λ t. t ≡ words_line (option_map (λ w. w.now) word.entry)) }
 {
-    let mut line = String::from_str(alloc, "mungo: words")?;
-    if let Some(word) = word {
-        line.push_str(" ")?;
-        line.push_str(word.as_str())?;
+    match word {
+        Some(word) => line_of(alloc, &["mungo: words", " ", word.as_str(), "\n"]),
+        None => line_of(alloc, &["mungo: words", "\n"]),
     }
-    line.push_str("\n")?;
-    Ok(Text::from_string(line))
 }
 
 /// The files of these names are refused.
@@ -29,8 +46,7 @@ pub fn refused(alloc: Global, names: &[Text], refusal: &Refusal) -> Result<Text,
 {
     let mut line = String::new(alloc);
     push_spot(&mut line, names, refusal.spot())?;
-    line.push_str(": ")?;
-    line.push_str(refusal.kind())?;
+    put(&mut line, &[": ", refusal.kind()])?;
     push_named(&mut line, refusal.name())?;
     line.push_str("\n")?;
     Ok(Text::from_string(line))
@@ -41,19 +57,20 @@ fn push_spot(line: &mut String, names: &[Text], spot: Spot) -> Result<(), Memory
     ensures { OnOk result (string_bytes line.new ≡ string_bytes line.old ++ spot_text names.now spot) }
 {
     match spot {
-        Spot::Nowhere => line.push_str("mungo")?,
+        Spot::Nowhere => put(line, &["mungo"]),
         Spot::Text(place) => {
+            let name = name_of(names, place.file);
             let number = place.line;
             let column = place.column;
-            line.push_str(name_of(names, place.file))?;
-            write!(line, ":{number}:{column}")?;
+            write!(line, "{name}:{number}:{column}")?;
+            Ok(())
         }
         Spot::Bytes { file, offset } => {
-            line.push_str(name_of(names, file))?;
-            write!(line, ":{offset}")?;
+            let name = name_of(names, file);
+            write!(line, "{name}:{offset}")?;
+            Ok(())
         }
     }
-    Ok(())
 }
 
 // The name of the file of a number.
@@ -70,40 +87,32 @@ fn name_of(names: &[Text], file: u32) -> &str
 fn push_named(line: &mut String, name: Option<&Text>) -> Result<(), Memory>
     ensures { OnOk result (string_bytes line.new ≡ string_bytes line.old ++ named_text (option_map (λ n. n.now) name.entry)) }
 {
-    if let Some(name) = name {
-        line.push_str(" ")?;
-        line.push_str(name.as_str())?;
+    match name {
+        Some(name) => put(line, &[" ", name.as_str()]),
+        None => Ok(()),
     }
-    Ok(())
 }
 
 /// A file couldn't be read.
 pub fn unread(alloc: Global, file: &Text) -> Result<Text, Memory>
     ensures { IfOk result (λ t. t ≡ read_line file.now) }
 {
-    let mut line = String::from_str(alloc, "mungo: read ")?;
-    line.push_str(file.as_str())?;
-    line.push_str("\n")?;
-    Ok(Text::from_string(line))
+    line_of(alloc, &["mungo: read ", file.as_str(), "\n"])
 }
 
 /// A file couldn't be written.
 pub fn unwritten(alloc: Global, file: &Text) -> Result<Text, Memory>
     ensures { IfOk result (λ t. t ≡ write_line file.now) }
 {
-    let mut line = String::from_str(alloc, "mungo: write ")?;
-    line.push_str(file.as_str())?;
-    line.push_str("\n")?;
-    Ok(Text::from_string(line))
+    line_of(alloc, &["mungo: write ", file.as_str(), "\n"])
 }
 
 /// A call of this line isn't offered.
 pub fn not_offered(alloc: Global, number: u32) -> Result<Text, Memory>
     ensures { IfOk result (λ t. t ≡ not_offered_line number) }
 {
-    let mut line = String::from_str(alloc, "line ")?;
-    write!(line, "{number}")?;
-    line.push_str(": not offered")?;
+    let mut line = String::new(alloc);
+    write!(line, "line {number}: not offered")?;
     line.push_str("\n")?;
     Ok(Text::from_string(line))
 }

@@ -5,7 +5,7 @@ ghost use Rattle.mg_delivery.specs.Numbers.{number_of};
 
 /// How a run of the program ended. The five from `Zero` on come where a program was run: the first
 /// that applies of `Bound`, `Broken`, `Zero`, `Mismatch`, `Waits` and `Done`.
-#[derive(Clone, Copy, Debug, PartialEq, Eq)]
+#[derive(Clone, Copy, PartialEq, Eq)]
 pub enum Status {
     /// The command was carried out; of `run`, the `main` of each role returned.
     Done,

@@ -4,7 +4,7 @@ use mg_text::{Bytes, List, Text};
 use vm_world::RoleRan;
 
 /// A run of several roles, of class files.
-#[derive(Debug, Drop)]
+#[derive(Drop)]
 pub struct Ran {
     /// How many instructions each role took, and how it stands, in the order of the roles.
     pub roles: List<RoleRan>,

@@ -1,13 +1,14 @@
 -- Texts of things that stand in a row.
 use Rattle.std.proofs.Common.{◌≡◌, ℕ, zero, suc, ◌+◌, ◌-◌, ◌%◌, ◌<◌, List, [], ◌∷◌, ◌++◌, map, length, take, get_or, sym, ap, ◌∙◌, subst}
-use Rattle.std.proofs.Common.{add-zero, add-one, append_assoc, arith}
+use Rattle.std.proofs.Common.{add-zero, add-one, append_assoc, arith, codes}
 use Rattle.std.specs.Prelude.{Result, Ok, Err, IfOk}
+use Rattle.std.specs.Fmt.{decimal}
 use Rattle.std.specs.List.{flat_map, range_with_len}
 use Rattle.std.proofs.lemmas.Grind.{flat_map-append}
 use Rattle.std.proofs.lemmas.List.{append-nil, take_more, length-take}
 use Rattle.rand_pcg.specs.Lcg.{Lcg}
 use Rattle.rand_pcg.specs.Pcg.{pcg32}
-use Rattle.mg_load.specs.Workload.{words, round, rounds}
+use Rattle.mg_load.specs.Workload.{words, round, rounds, branch, group}
 
 range_more : (a n : ℕ) → range_with_len a (suc n) ≡ range_with_len a n ++ (a + n) ∷ []
 range_more a zero = ap (λ k. k ∷ []) (sym (add-zero a))
@@ -72,9 +73,44 @@ pub made_of : {E : Type 0} (text wanted : List ℕ) (r : Result (List ℕ) E) �
 made_of text wanted (Ok b) e made = made ∙ e
 made_of text wanted (Err x) e made = tt
 
--- three texts behind one that stands there
-pub three_put : (before first second third x y z : List ℕ) → first ≡ before ++ x → second ≡ first ++ y → third ≡ second ++ z →
-    third ≡ before ++ (x ++ (y ++ z))
-three_put before first second third x y z one two three =
-    three ∙ ap (λ l. l ++ z) (two ∙ ap (λ l. l ++ y) one ∙ append_assoc before x y) ∙ append_assoc before (x ++ y) z
-    ∙ ap (λ l. before ++ l) (append_assoc x y z)
+-- three texts, and then two in place of the last of them
+three_then : (a b c d e : List ℕ) → (a ++ (b ++ c)) ++ (d ++ e) ≡ a ++ (b ++ ((c ++ d) ++ e))
+three_then a b c d e =
+    append_assoc a (b ++ c) (d ++ e)
+    ∙ ap (λ l. a ++ l) (append_assoc b c (d ++ e) ∙ ap (λ l. b ++ l) (sym (append_assoc c d e)))
+
+five_then : (a b c d e f g : List ℕ) → (a ++ (b ++ (c ++ (d ++ e)))) ++ (f ++ g) ≡ a ++ (b ++ (c ++ (d ++ ((e ++ f) ++ g))))
+five_then a b c d e f g =
+    append_assoc a (b ++ (c ++ (d ++ e))) (f ++ g)
+    ∙ ap (λ l. a ++ l) (append_assoc b (c ++ (d ++ e)) (f ++ g) ∙ ap (λ l. b ++ l) (three_then c d e f g))
+
+-- a branch, written at once
+pub branch_is : (there back : List ℕ) (number : ℕ) → codes "            m" ++ (decimal number ++ (codes "(int) " ++ (there
+    ++ (codes ";\n            r" ++ (decimal number
+    ++ (codes "(int) " ++ (back ++ codes ";\n            continue X;\n        } or {\n")))))))
+    ≡ branch there back number
+branch_is there back number =
+    let after : List ℕ = codes "            continue X;\n        } or {\n" in
+    let second : List ℕ = decimal number ++ (codes "(int) " ++ (back ++ codes ";\n")) in
+    sym (ap (λ l. (codes "            m" ++ (decimal number ++ (codes "(int) " ++ (there ++ codes ";\n")))) ++ l)
+    (append_assoc (codes "            r") second after)
+    ∙ five_then (codes "            m") (decimal number) (codes "(int) ") there (codes ";\n") (codes "            r") (second ++ after)
+    ∙ ap (λ l. codes "            m" ++ (decimal number ++ (codes "(int) " ++ (there ++ (codes ";\n            r" ++ l)))))
+    (append_assoc (decimal number) (codes "(int) " ++ (back ++ codes ";\n")) after
+    ∙ ap (λ l. decimal number ++ l) (append_assoc (codes "(int) ") (back ++ codes ";\n") after
+    ∙ ap (λ l. codes "(int) " ++ l) (append_assoc back (codes ";\n") after))))
+
+-- what is done at a branch, written at once
+pub group_is : (number : ℕ) → codes "                case m" ++ (decimal number
+    ++ (codes ":\n                    sum = sum + b.receive_m" ++ (decimal number
+    ++ (codes "IntFromA();\n                    b.send_r" ++ (decimal number
+    ++ codes "IntToA(sum);\n                    continue loop;\n")))))
+    ≡ group number
+group_is number =
+    let last : List ℕ = decimal number ++ codes "IntToA(sum);\n                    continue loop;\n" in
+    let first : List ℕ = codes "                case m" ++ (decimal number ++ codes ":\n") in
+    sym (ap (λ l. first ++ l)
+    (three_then (codes "                    sum = sum + b.receive_m") (decimal number) (codes "IntFromA();\n")
+    (codes "                    b.send_r") last)
+    ∙ three_then (codes "                case m") (decimal number) (codes ":\n") (codes "                    sum = sum + b.receive_m")
+    (decimal number ++ (codes "IntFromA();\n                    b.send_r" ++ last)))

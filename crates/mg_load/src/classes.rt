@@ -74,14 +74,13 @@ pub(crate) fn server(alloc: Global, n: u32) -> Result<Bytes, Memory>
 fn push_group(out: &mut String, number: u32) -> Result<(), Memory>
     ensures { OnOk result (string_bytes out.new ≡ string_bytes out.old ++ group number) }
 {
-    write!(out, "                case m{number}:\n")?;
     write!(
         out,
-        "                    sum = sum + b.receive_m{number}IntFromA();\n"
-    )?;
-    write!(
-        out,
-        "                    b.send_r{number}IntToA(sum);\n                    continue loop;\n"
+        "                case m{number}:
+                    sum = sum + b.receive_m{number}IntFromA();
+                    b.send_r{number}IntToA(sum);
+                    continue loop;
+"
     )?;
     Ok(())
 }

@@ -1,6 +1,6 @@
 //! The four files of a workload, and the line that tells how large it was.
 
-ghost use Rattle.std.specs.Prelude.{◌≡◌, ◌<◌, ◌≤◌, IfOk};
+ghost use Rattle.std.specs.Prelude.{◌≡◌, ◌<◌, ◌≤◌, IfOk, map};
 ghost use Rattle.mg_load.specs.Workload.{file_names, file_texts, loaded_line};
 
 use crate::classes::{client, server};
@@ -13,7 +13,7 @@ use std::alloc::Global;
 pub const MOST: u32 = 400;
 
 /// The files of a workload: their names and what they hold, in one order.
-#[derive(Debug, Drop)]
+#[derive(Drop)]
 pub struct Workload {
     pub names: List<Text>,
     pub contents: List<Bytes>,
@@ -26,12 +26,18 @@ pub struct Workload {
 pub fn file_names(alloc: Global) -> Result<List<Text>, Memory>
     ensures { IfOk result (λ l. l.items ≡ file_names) }
 {
-    let mut names = List::new(alloc);
-    names.push(Text::of(alloc, "A.scr")?)?;
-    names.push(Text::of(alloc, "B.scr")?)?;
-    names.push(Text::of(alloc, "AMain.java")?)?;
-    names.push(Text::of(alloc, "BMain.java")?)?;
-    Ok(names)
+    texts_of(alloc, &["A.scr", "B.scr", "AMain.java", "BMain.java"])
+}
+
+// These words, each as a text.
+fn texts_of(alloc: Global, words: &[&str]) -> Result<List<Text>, Memory>
+    ensures { IfOk result (λ l. l.items ≡ map (λ w. w.now) words.now) }
+{
+    let mut texts = List::new(alloc);
+    for word in words {
+        texts.push(Text::of(alloc, word)?)?;
+    }
+    Ok(texts)
 }
 
 /// The workload of so many branches, whose order a number picks: a protocol and a class for each of
@@ -45,13 +51,14 @@ pub fn load_files(alloc: Global, n: u32, seed: u64) -> Result<Workload, Memory>
     ensures names { IfOk result (λ w. w.names.items ≡ file_names) }
     ensures contents { IfOk result (λ w. w.contents.items ≡ file_texts n seed) }
 {
-    let names = file_names(alloc)?;
-    let picks = picks(alloc, n, seed)?;
     let mut contents = List::new(alloc);
     contents.push(protocol(alloc, "A", "to B", "from B", n)?)?;
     contents.push(protocol(alloc, "B", "from A", "to A", n)?)?;
+    let picks = picks(alloc, n, seed)?;
     contents.push(client(alloc, picks.as_slice())?)?;
+    drop(picks);
     contents.push(server(alloc, n)?)?;
+    let names = file_names(alloc)?;
     Ok(Workload { names, contents })
 }
 

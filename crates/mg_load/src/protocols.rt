@@ -33,8 +33,13 @@ pub(crate) fn protocol(
 fn push_branch(out: &mut String, there: &str, back: &str, number: u32) -> Result<(), Memory>
     ensures { OnOk result (string_bytes out.new ≡ string_bytes out.old ++ branch there.now back.now number) }
 {
-    write!(out, "            m{number}(int) {there};\n")?;
-    write!(out, "            r{number}(int) {back};\n")?;
-    out.push_str("            continue X;\n        } or {\n")?;
+    write!(
+        out,
+        "            m{number}(int) {there};
+            r{number}(int) {back};
+            continue X;
+        }} or {{
+"
+    )?;
     Ok(())
 }

@@ -5,7 +5,7 @@ use scr_global_read::GlobalFault;
 use scr_project::ProjectFault;
 
 /// Why the roles of a file's global protocol have no files.
-#[derive(Debug, PartialEq, Eq, Drop)]
+#[derive(Drop)]
 pub enum ProjectedFault {
     /// The file holds no global protocol.
     Unread(GlobalFault),

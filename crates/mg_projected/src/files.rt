@@ -1,6 +1,6 @@
 //! From the bytes of a file to the texts of its roles' local protocols.
 
-ghost use Rattle.std.specs.Prelude.{◌≡◌, ◌++◌, Some, None, Err, IfOk, Contains, codes};
+ghost use Rattle.std.specs.Prelude.{◌≡◌, Some, None, Err, IfOk, Contains};
 ghost use Rattle.scr_global_tree.specs.Global.{tree_of};
 ghost use Rattle.scr_tree.specs.Local.{tree_of as local_of};
 ghost use Rattle.mg_projected.specs.Projected.{file_of, Answer, Outcome, answer_of, IsAnswered};
@@ -19,29 +19,23 @@ use scr_tree::Local;
 use std::alloc::Global;
 
 /// The file of a role: its name, and its text.
-#[derive(Debug, Drop)]
+#[derive(Drop)]
 pub struct RoleFile {
     pub name: Text,
     pub text: Text,
-}
-
-// The name of the file of a role.
-fn file_name(alloc: Global, role: &Text) -> Result<Text, Memory>
-    ensures { IfOk result (λ t. t ≡ role.now ++ codes ".scr") }
-{
-    let mut name = String::new(alloc);
-    name.push_str(role.as_str())?;
-    name.push_str(".scr")?;
-    Ok(Text::from_string(name))
 }
 
 // The file of a role that does this.
 fn file_with(alloc: Global, role: &Text, local: &Local) -> Result<RoleFile, Memory>
     ensures { IfOk result (λ f. f ≡ file_of role.now (local_of local.now)) }
 {
+    let mut name = String::from_str(alloc, role.as_str())?;
+    name.push_str(".scr")?;
     let text = print_local(alloc, local)?;
-    let name = file_name(alloc, role)?;
-    Ok(RoleFile { name, text })
+    Ok(RoleFile {
+        name: Text::from_string(name),
+        text,
+    })
 }
 
 // The file of a role.

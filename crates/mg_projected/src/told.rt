@@ -121,8 +121,6 @@ fn stop_of_unmet(alloc: Global, place: Place, role: &Text, fault: ScrFault) -> S
 fn role_words(alloc: Global, role: &Text, word: &str) -> Result<Text, Memory>
     ensures { IfOk result (λ t. t ≡ role.now ++ codes " " ++ word.now) }
 {
-    let mut text = String::from_str(alloc, role.as_str())?;
-    text.push_str(" ")?;
-    text.push_str(word)?;
+    let text = format!(in alloc; "{} {word}", role.as_str())?;
     Ok(Text::from_string(text))
 }

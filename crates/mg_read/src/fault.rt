@@ -4,7 +4,7 @@
 use mg_text::{Memory, Place};
 
 /// Why a text does not separate into tokens.
-#[derive(Clone, Copy, Debug, PartialEq, Eq)]
+#[derive(Clone, Copy, Debug)]
 pub enum LexFault {
     /// The first offset, in bytes, at which no token and nothing between tokens begins, or at
     /// which the bytes stop to be UTF-8. No token begins at a byte that starts none, at the quote
@@ -27,7 +27,7 @@ impl From<Memory> for LexFault {
 }
 
 /// Why tokens could not be read.
-#[derive(Clone, Copy, Debug, PartialEq, Eq)]
+#[derive(Clone, Copy)]
 pub enum ParseFault {
     /// Want of memory.
     Memory,

@@ -16,7 +16,7 @@ pub use placing::place_within;
 use std::alloc::{AllocError, AllocFailed};
 
 /// Why tokens could not be read.
-#[derive(Clone, Copy, Debug, PartialEq, Eq)]
+#[derive(Clone, Copy)]
 pub enum ReadError {
     /// Want of memory.
     Memory,

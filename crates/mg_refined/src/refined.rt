@@ -1,6 +1,6 @@
 //! From the two files of a command to what is told of their typestates.
 
-ghost use Rattle.std.specs.Prelude.{◌≡◌, [], ◌∷◌, ℕ, Bool, All, Some, List as Seq, IfOk, OnOk, codes, length, map, slice_get};
+ghost use Rattle.std.specs.Prelude.{◌≡◌, ℕ, Bool, All, Some, List as Seq, IfOk, OnOk, codes, length, map, slice_get};
 ghost use Rattle.ts_tree.specs.Typestate.{Typestate as States};
 ghost use Rattle.mg_sources.specs.Files.{EndsWith, sources};
 ghost use Rattle.mg_sources.specs.Reading.{States as ReadStates};
@@ -18,7 +18,7 @@ use ts_refine::Verdict;
 use ts_tree::Typestate;
 
 /// What is told of two typestates: lines of text, and whether the first stands for the second.
-#[derive(Debug, Drop)]
+#[derive(Drop)]
 pub struct Told {
     pub text: Text,
     pub stands: bool,
@@ -54,15 +54,8 @@ fn refined(alloc: Global, names: &[Text], contents: &[Bytes]) -> Result<Told, St
         (FirstRefusal (sources names.now contents.now)) result }
 {
     let parts = read_parts(alloc, names, contents)?;
-    Ok(judged(alloc, parts.as_slice())?)
-}
-
-// What is told of two parts that are typestates.
-fn judged(alloc: Global, parts: &[Part]) -> Result<Told, Memory>
-    requires { (a b : States) × (map part_of parts.now ≡ ReadStates a ∷ ReadStates b ∷ []) }
-    ensures { IfOk result (λ t. (a b : States) → map part_of parts.now ≡ ReadStates a ∷ ReadStates b ∷ [] → Tells a b t.text t.stands) }
-{
-    tell(alloc, typestate_at(parts, 0), typestate_at(parts, 1))
+    let both = parts.as_slice();
+    Ok(tell(alloc, typestate_at(both, 0), typestate_at(both, 1))?)
 }
 
 // The typestate that stands there.

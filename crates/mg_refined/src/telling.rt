@@ -13,8 +13,7 @@ use ts_refine::{PathCall, Reason};
 pub(crate) fn yes_text(alloc: Global, count: usize) -> Result<Text, Memory>
     ensures { IfOk result (λ t. t ≡ told.yes_text count) }
 {
-    let mut text = String::from_str(alloc, "yes, ")?;
-    write!(text, "{count} pairs\n")?;
+    let text = format!(in alloc; "yes, {count} pairs\n")?;
     Ok(Text::from_string(text))
 }
 
@@ -42,13 +41,17 @@ fn push_calls(text: &mut String, calls: &[PathCall]) -> Result<(), Memory>
 fn push_call(text: &mut String, call: &PathCall) -> Result<(), Memory>
     ensures { OnOk result (string_bytes text.new ≡ string_bytes text.old ++ call_line (call_of call.now)) }
 {
-    text.push_str(call.method.as_str())?;
-    if let Some(label) = &call.answer {
-        text.push_str(" ")?;
-        text.push_str(label.as_str())?;
+    let method = call.method.as_str();
+    match &call.answer {
+        Some(label) => {
+            write!(text, "{method} {}\n", label.as_str())?;
+            Ok(())
+        }
+        None => {
+            write!(text, "{method}\n")?;
+            Ok(())
+        }
     }
-    text.push_str("\n")?;
-    Ok(())
 }
 
 // The line of a reason, with the name of its method.
@@ -70,8 +73,6 @@ fn push_reason(text: &mut String, reason: &Reason) -> Result<(), Memory>
 fn push_flaw(text: &mut String, word: &str, method: &Text) -> Result<(), Memory>
     ensures { OnOk result (string_bytes text.new ≡ string_bytes text.old ++ told.flaw_line word.now method.now) }
 {
-    text.push_str(word)?;
-    text.push_str(method.as_str())?;
-    text.push_str("\n")?;
+    write!(text, "{word}{}\n", method.as_str())?;
     Ok(())
 }

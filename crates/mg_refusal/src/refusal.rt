@@ -4,7 +4,7 @@ use mg_text::{Place, Text};
 use std::marker::Model;
 
 /// Where a refusal stands.
-#[derive(Clone, Copy, Debug, PartialEq, Eq)]
+#[derive(Clone, Copy, PartialEq, Eq)]
 pub enum Spot {
     /// In no file.
     Nowhere,
@@ -16,7 +16,7 @@ pub enum Spot {
 
 /// Why files are refused: a kind, by its word, the spot where it stands, and what is named there, if
 /// anything is.
-#[derive(Debug, Drop)]
+#[derive(Drop)]
 pub struct Refusal {
     kind: &'static str,
     spot: Spot,

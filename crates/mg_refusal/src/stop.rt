@@ -5,7 +5,7 @@ use mg_text::{Memory, Place, Text};
 use std::alloc::{AllocError, AllocFailed};
 
 /// Why a command goes no further with its files.
-#[derive(Debug, Drop)]
+#[derive(Drop)]
 pub enum Stop {
     /// They are refused.
     Refused(Refusal),

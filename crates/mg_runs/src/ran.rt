@@ -5,7 +5,7 @@ use mg_text::{Bytes, List, Text};
 use vm_world::RoleRan;
 
 /// A run of several roles.
-#[derive(Debug, Drop)]
+#[derive(Drop)]
 pub struct Ran {
     /// The class files of the program, in the order of its classes.
     pub files: List<ClassFile>,

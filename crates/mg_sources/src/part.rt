@@ -35,7 +35,8 @@ pub(crate) fn read_part(alloc: Global, number: u32, name: &Text, bytes: &[u8]) -
         result }
 {
     if ends_with(name, b".scr") {
-        return read_scribble(alloc, number, bytes);
+        let local = read_protocol(alloc, number, bytes)?;
+        return Ok(Part::Protocol(local));
     }
     if ends_with(name, b".protocol") {
         return read_states(alloc, number, bytes);
@@ -48,15 +49,6 @@ fn ends_with(name: &Text, suffix: &[u8]) -> bool
     ensures { IsTrue result ↔ EndsWith suffix.now name.now }
 {
     name.as_str().as_bytes().ends_with(suffix)
-}
-
-// A local protocol, as a part.
-fn read_scribble(alloc: Global, number: u32, bytes: &[u8]) -> Result<Part, Stop>
-    ensures { (name : Seq ℕ) → IsOf Scribble (source_of number name bytes.now)
-        → Answers (λ part. Reads (source_of number name bytes.now) (part_of part)) (Refuses (source_of number name bytes.now)) result }
-{
-    let local = read_protocol(alloc, number, bytes)?;
-    Ok(Part::Protocol(local))
 }
 
 /// The local protocol that one file spells.

@@ -27,11 +27,21 @@ use ts_tree::Typestate;
 
 /// The Java files of a program and its typestates, in the order of the words, and the number of
 /// the file of each typestate.
-#[derive(Drop)]
 pub struct Sources {
     pub files: List<File>,
     pub typestates: List<Typestate>,
     pub origins: List<u32>,
+}
+
+// One call lets go of it, wherever a function ends.
+impl Drop for Sources {
+    fn drop(self) {
+        let Sources {
+            files: _,
+            typestates: _,
+            origins: _,
+        } = self;
+    }
 }
 
 /// The program that these files are, by the endings of their names and by what they hold.

@@ -443,3 +443,12 @@ pub not_wanted : (given : Kept) (value : Word) (r : RoleClass) → r ≡ role_re
     → is_wanted (asked_of given).order r.role ≡ false → IsNoValue (asked_of given) named.Role value
 not_wanted given value r e is = role_fits given value r e (λ fits.
     never_both (is_wanted (asked_of given).order r.role) (is_it_wanted (asked_of given).order r.role fits.1.1) is)
+
+-- a class alone, seen through a reference
+pub class_given : (class : Option (Bor Word)) → is_some class ≡ true → is_some (option_map (λ w. w.now) class) ≡ true
+class_given None e = absurd cc
+class_given (Some w) e = refl
+
+pub class_free : (class : Option (Bor Word)) → is_some class ≡ false → is_some (option_map (λ w. w.now) class) ≡ false
+class_free None e = refl
+class_free (Some w) e = absurd cc

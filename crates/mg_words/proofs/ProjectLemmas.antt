@@ -30,9 +30,6 @@ begins_folder : (folder : Option Word) → IfSome folder IsFileName → CanBegin
 begins_folder None name = let b = begins_protocol None some_source name named in (some_source ∷ b.0, b.1)
 begins_folder (Some f) name = let b = begins_protocol (Some f) some_source name named in (some_source ∷ b.0, b.1)
 
-begins_project : CanBegin AreCommand (project ∷ [])
-begins_project = begins_folder None tt
-
 begins_out : CanBegin AreCommand (project ∷ out ∷ [])
 begins_out = let b = begins_folder (Some some_class) is_name in (some_class ∷ b.0, b.1)
 
@@ -81,9 +78,6 @@ plain_first : (folder : Option Word) (files : List Word) (word : Word) (more aft
 plain_first folder files word more after plain e n r is = plain n more (e ∙ ap (λ (w : Word). w ∷ more) (head_is is))
 
 -- ---- what is judged
-
-pub few_project : (rest : List Word) → length rest ≡ 0 → AreWrong (project ∷ rest) None
-few_project rest e = few (project ∷ []) rest e begins_project (λ command. folder_is_none command None)
 
 pub few_out : (rest : List Word) → length rest ≡ 0 → AreWrong (project ∷ out ∷ rest) None
 few_out rest e = few (project ∷ out ∷ []) rest e begins_out out_is_none

@@ -22,7 +22,8 @@ use Rattle.mg_words.proofs.Verbs.{compile_load, run_load, exec_load}
 use Rattle.mg_words.proofs.Verbs.{verify, translate_verify, conform_verify, check_verify, compile_verify, run_verify, exec_verify}
 use Rattle.mg_words.specs.declared.runs.Input.{Input}
 use Rattle.mg_words.specs.declared.runs.Input.TheVariants as input
-use Rattle.mg_words.specs.inner.Judging.{IsFirstOther, made, verb_of, IsFor, AreFor, Keeps}
+use Rattle.mg_words.specs.declared.words.Placed.TheVariants as placed
+use Rattle.mg_words.specs.inner.Judging.{IsFirstOther, IsPlaced, made, verb_of, IsFor, AreFor, Keeps}
 
 abbrev pub out : Word
 out = codes "--out"
@@ -137,9 +138,6 @@ begins_files folder before name each = (
 pub begins_empty : CanBegin AreCommand []
 begins_empty = let b = begins_files None [] tt (none_yet _) in (translate ∷ b.0, b.1)
 
-begins_translate : CanBegin AreCommand (translate ∷ [])
-begins_translate = begins_files None [] tt (none_yet _)
-
 begins_out : CanBegin AreCommand (translate ∷ out ∷ [])
 begins_out = let b = begins_files (Some some_class) [] is_name (none_yet _) in (some_class ∷ b.0, b.1)
 
@@ -193,9 +191,6 @@ begins_classes folder before name each = (
     ),
   ),
 )
-
-begins_compile : CanBegin AreCommand (compile ∷ [])
-begins_compile = begins_classes None [] tt (none_yet _)
 
 begins_class_out : CanBegin AreCommand (compile ∷ out ∷ [])
 begins_class_out = let b = begins_classes (Some some_class) [] is_name (none_yet _) in (some_class ∷ b.0, b.1)
@@ -411,9 +406,6 @@ few_none rest e = few [] rest e begins_empty none_is_none
 no_files : (command : Command) (folder : Option Word) → IsCommand command (translate ∷ (out_words folder ++ [])) → ⊥
 no_files command folder is = (translate_files command folder [] (λ n r. filled) is).0 refl
 
-pub few_translate : (rest : List Word) → length rest ≡ 0 → AreWrong (translate ∷ rest) None
-few_translate rest e = few (translate ∷ []) rest e begins_translate (λ command. no_files command None)
-
 pub few_out : (rest : List Word) → length rest ≡ 0 → AreWrong (translate ∷ out ∷ rest) None
 few_out rest e = few (translate ∷ out ∷ []) rest e begins_out out_is_none
 
@@ -439,9 +431,6 @@ few_check rest e = few (check ∷ []) rest e begins_check (λ command is. (check
 
 no_sources : (command : Command) (folder : Option Word) → IsCommand command (compile ∷ (out_words folder ++ [])) → ⊥
 no_sources command folder is = (compile_files command folder [] (λ n r. filled) is).0 refl
-
-pub few_compile : (rest : List Word) → length rest ≡ 0 → AreWrong (compile ∷ rest) None
-few_compile rest e = few (compile ∷ []) rest e begins_compile (λ command. no_sources command None)
 
 pub few_class_out : (rest : List Word) → length rest ≡ 0 → AreWrong (compile ∷ out ∷ rest) None
 few_class_out rest e = few (compile ∷ out ∷ []) rest e begins_class_out class_out_is_none
@@ -729,3 +718,17 @@ named_folder (Some f) h = h
 pub no_folder : (folder : Option (Bor Word)) → option_map (λ f. f.now) folder ≡ None → folder ≡ None
 no_folder None e = refl
 no_folder (Some f) e = let no : ⊥ = cc in absurd no
+
+-- words whose folder is lacking, or can't be one
+pub wrong_placed : (first : Word) → AreWrong (first ∷ out ∷ []) None
+    → ((word : Word) (rest : List Word) → (IsFileName word → ⊥) → AreWrong (first ∷ out ∷ word ∷ rest) (Some word))
+    → (words : List Word) (word : Option (Bor Word)) → IsPlaced words (placed.Wrong word)
+    → AreWrong (first ∷ words) (option_map (λ w. w.now) word)
+wrong_placed first few wrong words None e = subst (λ (z : List Word). AreWrong (first ∷ z) None) (sym e) few
+wrong_placed first few wrong words (Some word) (rest, e, isnt) =
+    subst (λ (z : List Word). AreWrong (first ∷ z) (Some word.now)) (sym e) (wrong word.now rest isnt)
+
+-- words with a folder, or without one, and then these files
+pub placed_at : (first : Word) (words before files : List Word) (word : Option Word) → words ≡ before ++ files
+    → AreWrong (first ∷ (before ++ files)) word → AreWrong (first ∷ words) word
+placed_at first words before files word e h = subst (λ (z : List Word). AreWrong (first ∷ z) word) (sym e) h

@@ -11,7 +11,7 @@ use mg_text::{List, Memory, Names, Text};
 use std::alloc::Global;
 
 /// A role, and the class whose `main` it runs.
-#[derive(Debug, Drop)]
+#[derive(Drop)]
 pub struct RoleClass {
     /// The role's name.
     pub role: Text,

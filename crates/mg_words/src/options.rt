@@ -1,6 +1,6 @@
 //! The options of a run, one after the other: which can follow those before it, and what is asked for with it.
 
-ghost use Rattle.std.specs.Prelude.{◌≡◌, ◌≢◌, ◌↔◌, IsTrue, true, All, is_some, option_map};
+ghost use Rattle.std.specs.Prelude.{◌≡◌, ◌≢◌, ◌↔◌, IsTrue, true, All};
 ghost use Rattle.mg_words.specs.Words.{role_names};
 ghost use Rattle.scr_tree.specs.Words.{IsName};
 ghost use Rattle.mg_words.specs.inner.Judging.{asked_of, IsNamed, IsStep, IsWith, can_follow, are_whole, lacks_role, is_wanted, names_in};
@@ -190,7 +190,7 @@ fn with_role<'a>(asked: Asked<'a>, value: &'a Text) -> Option<Asked<'a>>
     ensures { IsWith asked.entry named.Role value.now result }
 {
     let named = role_of(value);
-    if is_alone(&asked) {
+    if asked.class.is_some() {
         return None;
     }
     if !is_name(named.role) {
@@ -206,13 +206,6 @@ fn with_role<'a>(asked: Asked<'a>, value: &'a Text) -> Option<Asked<'a>>
         return None;
     }
     Some(asked)
-}
-
-// Whether a class was named that runs alone.
-fn is_alone(asked: &Asked<'_>) -> bool
-    ensures { result ≡ is_some (option_map (λ w. w.now) asked.now.class) }
-{
-    asked.class.is_some()
 }
 
 // Whether there is no order, or it names this role.

@@ -1,7 +1,7 @@
 //! The words behind `run` and `exec`: options in any order, and then files.
 
 ghost use Rattle.std.specs.Prelude.{◌≡◌, ◌<◌, ◌∷◌, length, option_map};
-ghost use Rattle.mg_words.specs.inner.Judging.{asked_of, command_of, made, verb_of, IsFor, is_barred, IsFirstOther, IsJudged, IsRunnable};
+ghost use Rattle.mg_words.specs.inner.Judging.{asked_of, verb_of, IsFor, is_barred, IsFirstOther, IsJudged, IsRunnable};
 ghost use Rattle.mg_words.specs.inner.Judging.{IsPlain};
 
 use crate::asked::Asked;
@@ -79,7 +79,10 @@ fn judge_runnable<'a>(input: Input, asked: Asked<'a>, files: &'a [Text]) -> Judg
     if let Some(word) = other_input(input, files) {
         return Judged::Wrong(Some(word));
     }
-    Judged::Known(command(input, asked, files))
+    match input {
+        Input::Sources => Judged::Known(Command::Run { asked, files }),
+        Input::Classes => Judged::Known(Command::Exec { asked, files }),
+    }
 }
 
 // The first word that is no name of a file that may be run.
@@ -89,15 +92,5 @@ fn other_input(input: Input, files: &[Text]) -> Option<&Text>
     match input {
         Input::Sources => other_source(files),
         Input::Classes => other_file(files, b".class"),
-    }
-}
-
-// The command that runs these files.
-fn command<'a>(input: Input, asked: Asked<'a>, files: &'a [Text]) -> Command<'a>
-    ensures { command_of result ≡ made input (asked_of asked.entry) files.now }
-{
-    match input {
-        Input::Sources => Command::Run { asked, files },
-        Input::Classes => Command::Exec { asked, files },
     }
 }

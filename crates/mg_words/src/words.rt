@@ -1,9 +1,9 @@
 //! The words of the command line.
 //! They are judged from left to right, so that the first that can't follow is known.
 
-ghost use Rattle.std.specs.Prelude.{◌≡◌, ◌∷◌, ◌++◌, List, codes, IfSome, None, option_map};
-ghost use Rattle.mg_words.specs.Words.{Word, IsFileName, out_words, files_of};
-ghost use Rattle.mg_words.specs.inner.Judging.{IsJudged, command_of};
+ghost use Rattle.std.specs.Prelude.{◌≡◌, ◌∷◌, codes};
+ghost use Rattle.mg_words.specs.Words.{files_of};
+ghost use Rattle.mg_words.specs.inner.Judging.{IsJudged, IsPlaced, command_of};
 
 use crate::asked::Asked;
 use crate::names::{is_file, is_file_name, is_word, other_file, other_source};
@@ -128,52 +128,51 @@ pub fn judge(words: &[Text]) -> Judged<'_>
     }
 }
 
+// A folder that words begin with, if they do, and the words behind it.
+enum Placed<'a> {
+    In(Option<&'a Text>, &'a [Text]),
+    // They can't go on: because of this word, or because words are lacking.
+    Wrong(Option<&'a Text>),
+}
+
+// The folder that `--out` names before files, where it stands first.
+fn split_folder(words: &[Text]) -> Placed<'_>
+    ensures { IsPlaced words.now result }
+{
+    let Some((option, rest)) = words.split_first() else {
+        return Placed::In(None, words);
+    };
+    if !is_word(option, "--out") {
+        return Placed::In(None, words);
+    }
+    match rest.split_first() {
+        None => Placed::Wrong(None),
+        Some((folder, files)) => {
+            if is_file_name(folder) {
+                Placed::In(Some(folder), files)
+            } else {
+                Placed::Wrong(Some(folder))
+            }
+        }
+    }
+}
+
 // The same of the words behind `translate`.
 fn judge_translate(words: &[Text]) -> Judged<'_>
     ensures { IsJudged (codes "translate" ∷ words.now) result }
 {
-    match words.split_first() {
-        None => Judged::Wrong(None),
-        Some((option, rest)) => {
-            if is_word(option, "--out") {
-                judge_folder(rest)
-            } else {
-                judge_files(None, words)
+    match split_folder(words) {
+        Placed::Wrong(word) => Judged::Wrong(word),
+        Placed::In(folder, files) => {
+            if let Some(word) = other_file(files, b".scr") {
+                return Judged::Wrong(Some(word));
             }
+            if files.is_empty() {
+                return Judged::Wrong(None);
+            }
+            Judged::Known(Command::Translate { folder, files })
         }
     }
-}
-
-// The same of the words behind `translate --out`.
-fn judge_folder(words: &[Text]) -> Judged<'_>
-    ensures { IsJudged (codes "translate" ∷ codes "--out" ∷ words.now) result }
-{
-    match words.split_first() {
-        None => Judged::Wrong(None),
-        Some((folder, rest)) => {
-            if is_file_name(folder) {
-                judge_files(Some(folder), rest)
-            } else {
-                Judged::Wrong(Some(folder))
-            }
-        }
-    }
-}
-
-// The same of the words behind the options of `translate`, which are its files.
-fn judge_files<'a>(folder: Option<&'a Text>, files: &'a [Text]) -> Judged<'a>
-    requires name { IfSome folder (λ f. IsFileName f.now) }
-    requires option { folder ≡ None → (rest : List Word) → files.now ≡ codes "--out" ∷ rest → ⊥ }
-    ensures { IsJudged (codes "translate"
-        ∷ (out_words (option_map (λ f. f.now) folder.entry) ++ files.now)) result }
-{
-    if let Some(word) = other_file(files, b".scr") {
-        return Judged::Wrong(Some(word));
-    }
-    if files.is_empty() {
-        return Judged::Wrong(None);
-    }
-    Judged::Known(Command::Translate { folder, files })
 }
 
 // The same of the words behind `conform`.
@@ -232,52 +231,20 @@ fn judge_refine(words: &[Text]) -> Judged<'_>
 fn judge_project(words: &[Text]) -> Judged<'_>
     ensures { IsJudged (codes "project" ∷ words.now) result }
 {
-    match words.split_first() {
-        None => Judged::Wrong(None),
-        Some((option, rest)) => {
-            if is_word(option, "--out") {
-                judge_role_folder(rest)
-            } else {
-                judge_global(None, words)
+    match split_folder(words) {
+        Placed::Wrong(word) => Judged::Wrong(word),
+        Placed::In(folder, files) => match files.split_first() {
+            None => Judged::Wrong(None),
+            Some((file, surplus)) => {
+                if !is_file(file, b".scr") {
+                    return Judged::Wrong(Some(file));
+                }
+                match surplus.split_first() {
+                    None => Judged::Known(Command::Project { folder, files }),
+                    Some((word, _)) => Judged::Wrong(Some(word)),
+                }
             }
-        }
-    }
-}
-
-// The same of the words behind `project --out`.
-fn judge_role_folder(words: &[Text]) -> Judged<'_>
-    ensures { IsJudged (codes "project" ∷ codes "--out" ∷ words.now) result }
-{
-    match words.split_first() {
-        None => Judged::Wrong(None),
-        Some((folder, rest)) => {
-            if is_file_name(folder) {
-                judge_global(Some(folder), rest)
-            } else {
-                Judged::Wrong(Some(folder))
-            }
-        }
-    }
-}
-
-// The same of the words behind the options of `project`, which are its file.
-fn judge_global<'a>(folder: Option<&'a Text>, files: &'a [Text]) -> Judged<'a>
-    requires name { IfSome folder (λ f. IsFileName f.now) }
-    requires option { folder ≡ None → (rest : List Word) → files.now ≡ codes "--out" ∷ rest → ⊥ }
-    ensures { IsJudged (codes "project"
-        ∷ (out_words (option_map (λ f. f.now) folder.entry) ++ files.now)) result }
-{
-    match files.split_first() {
-        None => Judged::Wrong(None),
-        Some((file, surplus)) => {
-            if !is_file(file, b".scr") {
-                return Judged::Wrong(Some(file));
-            }
-            match surplus.split_first() {
-                None => Judged::Known(Command::Project { folder, files }),
-                Some((word, _)) => Judged::Wrong(Some(word)),
-            }
-        }
+        },
     }
 }
 
@@ -311,48 +278,18 @@ fn judge_verify(files: &[Text]) -> Judged<'_>
 fn judge_compile(words: &[Text]) -> Judged<'_>
     ensures { IsJudged (codes "compile" ∷ words.now) result }
 {
-    match words.split_first() {
-        None => Judged::Wrong(None),
-        Some((option, rest)) => {
-            if is_word(option, "--out") {
-                judge_class_folder(rest)
-            } else {
-                judge_sources(None, words)
+    match split_folder(words) {
+        Placed::Wrong(word) => Judged::Wrong(word),
+        Placed::In(folder, files) => {
+            if let Some(word) = other_source(files) {
+                return Judged::Wrong(Some(word));
             }
+            if files.is_empty() {
+                return Judged::Wrong(None);
+            }
+            Judged::Known(Command::Compile { folder, files })
         }
     }
-}
-
-// The same of the words behind `compile --out`.
-fn judge_class_folder(words: &[Text]) -> Judged<'_>
-    ensures { IsJudged (codes "compile" ∷ codes "--out" ∷ words.now) result }
-{
-    match words.split_first() {
-        None => Judged::Wrong(None),
-        Some((folder, rest)) => {
-            if is_file_name(folder) {
-                judge_sources(Some(folder), rest)
-            } else {
-                Judged::Wrong(Some(folder))
-            }
-        }
-    }
-}
-
-// The same of the words behind the options of `compile`, which are its files.
-fn judge_sources<'a>(folder: Option<&'a Text>, files: &'a [Text]) -> Judged<'a>
-    requires name { IfSome folder (λ f. IsFileName f.now) }
-    requires option { folder ≡ None → (rest : List Word) → files.now ≡ codes "--out" ∷ rest → ⊥ }
-    ensures { IsJudged (codes "compile"
-        ∷ (out_words (option_map (λ f. f.now) folder.entry) ++ files.now)) result }
-{
-    if let Some(word) = other_source(files) {
-        return Judged::Wrong(Some(word));
-    }
-    if files.is_empty() {
-        return Judged::Wrong(None);
-    }
-    Judged::Known(Command::Compile { folder, files })
 }
 
 // The same of the words behind `load`.

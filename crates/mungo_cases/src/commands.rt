@@ -31,8 +31,9 @@ mod programs;
 mod torn;
 mod world;
 
-use crate::commands::asked::answer;
-use cases::{Answers, CasesFault, tell};
+use crate::commands::asked::tell_asked;
+use crate::commands::programs::Programs;
+use cases::{Answer, Answers, CasesFault, tell};
 use mg_text::Memory;
 use std::alloc::Global;
 use std::rt::Files;
@@ -63,20 +64,25 @@ struct Commands<'a, R: Files> {
 }
 
 impl<'a, R: Files> Answers for Commands<'a, R> {
-    fn answer(&self, alloc: Global, _file: &str, given: &[u8]) -> Result<String, Memory> {
+    fn answer(
+        &self,
+        alloc: Global,
+        answer: &mut Answer,
+        _file: &str,
+        given: &[u8],
+    ) -> Result<(), Memory> {
         match str::from_utf8(given) {
-            Ok(given) => answer(alloc, self.rt, given),
-            Err(_) => Ok(String::from_str(alloc, "what is given is no UTF-8")?),
+            Ok(given) => tell_asked(alloc, answer, self.rt, given),
+            Err(_) => {
+                answer.add("what is given is no UTF-8");
+                Ok(())
+            }
         }
     }
 }
 
 /// Tells the cases of programs and of commands.
 pub(crate) fn tell_all<R: Files + Print + AllocGlobal>(rt: &R) -> Result<(), CasesFault> {
-    programs::tell(rt)?;
-    let commands = Commands { rt };
-    for file in FILES {
-        tell(rt, &commands, file)?;
-    }
-    Ok(())
+    tell(rt, &Programs, &programs::FILES)?;
+    tell(rt, &Commands { rt }, &FILES)
 }

@@ -45,12 +45,17 @@ struct Machines {
 }
 
 impl Answers for Machines {
-    fn answer(&self, alloc: Global, file: &str, given: &[u8]) -> Result<String, Memory> {
-        let mut answer = Answer::new(alloc);
-        if let Err(why) = self.tell(alloc, &mut answer, file, given) {
-            answer.add(why.told()?)?;
+    fn answer(
+        &self,
+        alloc: Global,
+        answer: &mut Answer,
+        file: &str,
+        given: &[u8],
+    ) -> Result<(), Memory> {
+        if let Err(why) = self.tell(alloc, answer, file, given) {
+            why.tell(answer);
         }
-        Ok(answer.into_text())
+        Ok(())
     }
 }
 
@@ -108,8 +113,6 @@ fn read_bases<R: Files + AllocGlobal>(rt: &R) -> Result<Machines, CasesFault> {
 /// Tells the cases of class files and machines.
 pub(crate) fn tell_all<R: Files + Print + AllocGlobal>(rt: &R) -> Result<(), CasesFault> {
     let machines = read_bases(rt)?;
-    for file in FILES {
-        tell(rt, &machines, file)?;
-    }
-    tell(rt, &Worlds { rt }, "worlds.txt")
+    tell(rt, &machines, &FILES)?;
+    tell(rt, &Worlds { rt }, &["worlds.txt"])
 }

@@ -15,7 +15,7 @@ use crate::reading::bases::as_text;
 use crate::reading::globals::Projecting;
 use crate::reading::java::Java;
 use crate::reading::refining::Refining;
-use cases::{Answers, CasesFault, plain, tell};
+use cases::{Answer, Answers, CasesFault, tell};
 use mg_text::Memory;
 use std::alloc::Global;
 use std::rt::Files;
@@ -55,60 +55,58 @@ const FILES: [&str; 26] = [
 struct Reading;
 
 impl Answers for Reading {
-    fn answer(&self, alloc: Global, file: &str, given: &[u8]) -> Result<String, Memory> {
+    fn answer(
+        &self,
+        alloc: Global,
+        answer: &mut Answer,
+        file: &str,
+        given: &[u8],
+    ) -> Result<(), Memory> {
         let text = as_text(given);
         match file {
-            "escapes.txt" => plain(alloc, text),
-            "texts.txt" => bases::kept(alloc, text),
-            "lists.txt" => bases::listed(alloc, text),
-            "places.txt" => bases::place(alloc, text),
-            "names.txt" => bases::numbered(alloc, text),
-            "java_words.txt" => bases::java_word(alloc, text),
-            "sets.txt" => bases::joined(alloc, text),
-            "written.txt" => written::written(alloc, given),
-            "calls.txt" => typestates::called(alloc, text),
-            "walks.txt" => walks::walked(alloc, text),
-            _ => read(alloc, file, given),
+            "texts.txt" => bases::kept(alloc, answer, text),
+            "lists.txt" => bases::listed(alloc, answer, text),
+            "names.txt" => bases::numbered(alloc, answer, text),
+            "sets.txt" => bases::joined(alloc, answer, text),
+            "typestates.txt" | "states.txt" | "trees.txt" | "layouts.txt" | "reached.txt" => {
+                typestates::tell(alloc, answer, file, given)
+            }
+            "calls.txt" => typestates::called(alloc, answer, text),
+            "walks.txt" => walks::walked(alloc, answer, text),
+            "protocols.txt"
+            | "bodies.txt"
+            | "parts.txt"
+            | "whole.txt"
+            | "printed.txt"
+            | "generated.txt"
+            | "label_calls.txt"
+            | "apis.txt" => { protocols::tell(alloc, answer, file, given) }
+            _ => {
+                add_part(alloc, answer, file, given);
+                Ok(())
+            }
         }
     }
 }
 
-// The answer to what a case gives whose whole text is read.
-fn read(alloc: Global, file: &str, given: &[u8]) -> Result<String, Memory> {
+// Adds the answer to what a case gives that is no whole file.
+fn add_part(alloc: Global, answer: &mut Answer, file: &str, given: &[u8]) {
     match file {
-        "reserved_words.txt" => protocols::reserved_word(alloc, given),
-        "tokens.txt" => protocols::tokens_of(alloc, given),
-        "whole.txt" => protocols::whole(alloc, given),
-        "printed.txt" => protocols::printed(alloc, given),
-        "protocols.txt" | "bodies.txt" | "parts.txt" => protocols::judged(alloc, given),
-        "trees.txt" => typestates::tree(alloc, given),
-        "layouts.txt" => typestates::laid_out(alloc, given),
-        "reached.txt" => typestates::reached(alloc, given),
-        "numbered.txt" => typestates::numbered(alloc, given),
-        "typestates.txt" | "states.txt" => typestates::judged(alloc, given),
-        "generated.txt" => walks::generated(alloc, given),
-        "label_calls.txt" => walks::label_call(alloc, given),
-        "apis.txt" => walks::api_of(alloc, given),
-        _ => plain(alloc, "a file of no kind"),
+        "escapes.txt" => answer.add(as_text(given)),
+        "places.txt" => bases::place(answer, as_text(given)),
+        "java_words.txt" => bases::java_word(answer, as_text(given)),
+        "reserved_words.txt" => protocols::reserved_word(answer, given),
+        "tokens.txt" => protocols::tokens_of(alloc, answer, given),
+        "written.txt" => written::written(alloc, answer, given),
+        "numbered.txt" => typestates::numbered(alloc, answer, given),
+        _ => answer.add("a file of no kind"),
     }
-}
-
-// Tells the files of an area in their order.
-fn tell_area<R: Files + Print + AllocGlobal>(
-    rt: &R,
-    answers: &impl Answers,
-    files: &[&str],
-) -> Result<(), CasesFault> {
-    for file in files {
-        tell(rt, answers, *file)?;
-    }
-    Ok(())
 }
 
 /// Tells the cases of all that is read.
 pub(crate) fn tell_all<R: Files + Print + AllocGlobal>(rt: &R) -> Result<(), CasesFault> {
-    tell_area(rt, &Reading, &FILES)?;
-    tell_area(rt, &Projecting, &globals::FILES)?;
-    tell_area(rt, &Refining, &refining::FILES)?;
-    tell_area(rt, &Java, &java::FILES)
+    tell(rt, &Reading, &FILES)?;
+    tell(rt, &Projecting, &globals::FILES)?;
+    tell(rt, &Refining, &refining::FILES)?;
+    tell(rt, &Java, &java::FILES)
 }

@@ -24,7 +24,7 @@ use std::alloc::Global;
 
 /// The condition that a file doesn't meet, with the place and the name of what is at fault. The
 /// name is empty where nothing is named.
-#[derive(Debug, Drop)]
+#[derive(Drop)]
 pub struct Fault {
     pub condition: GlobalCondition,
     pub place: Place,

@@ -5,7 +5,7 @@ use mg_text::{Memory, Place, Text};
 
 /// Why a file holds no global protocol, in the order in which faults are judged. `name` is what is
 /// at fault.
-#[derive(Debug, PartialEq, Eq, Drop)]
+#[derive(Debug, Drop)]
 pub enum GlobalFault {
     /// The file holds over 1,048,576 bytes. The place is the file's start.
     TooLarge { place: Place },

@@ -7,13 +7,24 @@ use crate::GStatement;
 use mg_text::{List, Text};
 
 /// A valid global protocol: the roles, and what they do.
-#[derive(Debug, Drop)]
 pub struct Global {
     file: u32,
     name: Text,
     roles: List<Text>,
     body: List<GStatement>,
     ghost valid: { ∥ IsValid (written file name roles.items body.items) ∥₁ },
+}
+
+// One call lets go of it, wherever a function ends.
+impl Drop for Global {
+    fn drop(self) {
+        let Global {
+            file: _,
+            name: _,
+            roles: _,
+            body: _,
+        } = self;
+    }
 }
 
 impl Global {

@@ -4,7 +4,7 @@ use mg_text::{List, Place, Text};
 use scr_tree::Payload;
 
 /// A statement of a global protocol, with the place of its first token.
-#[derive(Debug, Drop)]
+#[derive(Drop)]
 pub enum GStatement {
     /// A role sends a message to another one.
     Message {

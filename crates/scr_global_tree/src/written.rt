@@ -6,7 +6,7 @@ use mg_text::{List, Text};
 use scr_tree::{Carries, Declaration, Role};
 
 /// The parts of a file.
-#[derive(Debug, Drop)]
+#[derive(Drop)]
 pub struct WrittenGlobal {
     /// The types that are declared, in the order of the text.
     pub types: List<Declaration>,

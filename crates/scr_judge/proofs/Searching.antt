@@ -1,15 +1,17 @@
 -- A search comes to every node to which edges lead.
 use Rattle.std.proofs.Common.{Ok, drop, take_all, ◌≡◌, ◌≢◌, ◌⊎◌, ⊎_elim, inl, inr, ℕ, suc, zero, ◌+◌, ◌*◌, ◌<◌, ◌≤◌, ◌==◌, Bool, true}
 use Rattle.std.proofs.Common.{false, cond, List, [], ◌∷◌, ◌++◌, length, get_or, set, take, map, replicate, Contains, refl, sym, ap, subst}
-use Rattle.std.proofs.Common.{◌∙◌, arith, true≢false}
+use Rattle.std.proofs.Common.{◌∙◌, arith, true≢false, Vec}
+use Rattle.std.specs.Global.{Global}
 use Rattle.std.proofs.Math.ListN.{length-set, length-replicate, length-append}
-use Rattle.std.proofs.lemmas.List.{take_more, at_drop_all, append-nil, get_or-set_same, get_or-set_other}
+use Rattle.std.proofs.lemmas.List.{take_more, at_drop_all, append-nil, get_or-set_same, get_or-set_other, length-map}
 use Rattle.std.proofs.lemmas.List.Elements.{Contains-push, Contains-push_cases, Contains-append_left, Contains-append_right}
 use Rattle.std.proofs.lemmas.List.Elements.{Contains-append_cases}
 use Rattle.std.proofs.lemmas.List.Sums.{sum_by-set}
 use Rattle.std.proofs.lemmas.Grind.{common_steps}
-use Rattle.scr_judge.specs.inner.Round.{Graph, HasEdge, Reaches, there, onward}
+use Rattle.scr_judge.specs.inner.Round.{Graph, HasEdge, Reaches, there, onward, Falls}
 use Rattle.scr_judge.specs.inner.Search.{unseen, IsSeen, Came, Spreads, OnFalseOk}
+use Rattle.scr_judge.specs.inner.View.{graph_of}
 use Rattle.scr_judge.proofs.Members.{Contains-nil, Contains-cons_cases}
 use Rattle.scr_judge.proofs.Ranks.{further}
 
@@ -20,6 +22,9 @@ one_is v w h = ⊎_elim (λ same. same) (λ none. absurd (Contains-nil w none)) 
 
 same_or_not : (v w : ℕ) → (v ≡ w) ⊎ (v ≢ w)
 same_or_not v w = grind arith
+
+low_or_past : (v i : ℕ) → (v < i) ⊎ (i ≤ v)
+low_or_past v i = grind arith
 
 -- ---- one node
 
@@ -204,6 +209,28 @@ pub row_past : {Y : Type 0} (ys : List Y) (i : ℕ) (d : Y) → length ys ≤ i 
 row_past [] i d past = refl
 row_past (y ∷ ys) zero d past = absurd (omega arith)
 row_past (y ∷ ys) (suc i) d past = row_past ys i d (omega arith)
+
+-- no edge of the nodes before one leads to a higher rank
+module _ (targets : List (Vec ℕ Global)) (ranks : List ℕ) where
+  abbrev pub FallsBefore : ℕ → Type 0
+  FallsBefore i = (v w : ℕ) → v < i → HasEdge (graph_of targets) v w → get_or ranks w 0 ≤ get_or ranks v 0
+
+  -- nor does one of its own
+  pub falls_more : (i : ℕ) (x : Vec ℕ Global) → i < length targets → x ≡ get_or targets i x → FallsBefore i →
+      ((w : ℕ) → Contains x.items w → get_or ranks w 0 ≤ get_or ranks i 0) → FallsBefore (i + 1)
+  falls_more i x within is before here v w less edge =
+      ⊎_elim (λ low. before v w low edge)
+      (λ past. let same : v ≡ i = omega (arith, less, past) in
+      subst (λ (k : ℕ). get_or ranks w 0 ≤ get_or ranks k 0) (sym same)
+      (here w (subst (λ (es : List ℕ). Contains es w) (row_at (λ (y : Vec ℕ Global). y.items) targets i x [] within is)
+      (subst (λ (k : ℕ). HasEdge (graph_of targets) k w) same edge))))
+      (low_or_past v i)
+
+  pub falls_end : (i : ℕ) → length targets ≤ i → FallsBefore i → Falls (graph_of targets) ranks
+  falls_end i past all v w edge =
+      let within = edge_within (graph_of targets) v w edge in
+      let size : length (graph_of targets) ≡ length targets = length-map targets (λ (y : Vec ℕ Global). y.items) in
+      all v w (omega (arith, within, size, past)) edge
 
 -- ---- what the program has
 

@@ -1,6 +1,7 @@
 //! What a role does, action by action in the order of the text.
 
 ghost use Rattle.std.specs.Prelude.{◌≡◌, ◌++◌, ◌↔◌, ℕ, IfOk, OnOk, IsTrue, map, option_map};
+ghost use Rattle.std.specs.List.{flat_map};
 ghost use Rattle.scr_tree.specs.CallNames.{label_call};
 ghost use Rattle.scr_tree.specs.Meaning.{message_of};
 ghost use Rattle.scr_tree.specs.View.{front, statements};
@@ -158,12 +159,18 @@ fn label_call(alloc: Global, me: &Text, number: u32, peer: &Text) -> Result<Text
     ensures { IfOk result (λ t. t ≡ label_call me.now number peer.now) }
 {
     let digits = format!(in alloc; "{number}")?;
-    let mut name = String::new(alloc);
-    name.push_str("receive_")?;
-    name.push_str(me.as_str())?;
-    name.push_str("Choice")?;
-    name.push_str(digits.as_str())?;
-    name.push_str("LabelFrom")?;
-    name.push_str(peer.as_str())?;
-    Ok(Text::from_string(name))
+    let me = me.as_str();
+    let peer = peer.as_str();
+    let name = text_of(
+        alloc,
+        &["receive_", me, "Choice", digits.as_str(), "LabelFrom", peer],
+    )?;
+    Ok(name)
+}
+
+// Pieces of a text, one behind another.
+fn text_of(alloc: Global, pieces: &[&str]) -> Result<Text, Memory>
+    ensures { IfOk result (λ t. t ≡ flat_map (λ p. p.now) pieces.now) }
+{
+    Ok(Text::from_string(pieces.concat(alloc)?))
 }

@@ -7,10 +7,10 @@ ghost use Rattle.mg_read.specs.Culprit.{culprit};
 ghost use Rattle.scr_tree.specs.Actions.{NameClash, all_actions};
 ghost use Rattle.scr_tree.specs.Written.{parts_in, me_in, body_of, written_of};
 ghost use Rattle.scr_judge.specs.inner.Listed.{Clash};
-ghost use Rattle.scr_judge.specs.inner.View.{deed_of, named_of, clash_of, call_of, does, clashing};
+ghost use Rattle.scr_judge.specs.inner.View.{deed_of, culprit_of, named_of, call_of, does, clashing};
 
 use crate::actions::{Action, Deed, collect_all, collect_parts};
-use crate::culprit::Named;
+use crate::culprit::{Culprit, Named, with_name};
 use mg_text::Memory;
 use scr_tree::{Message, Written};
 use std::alloc::Global;
@@ -26,35 +26,28 @@ pub fn find_name_clash(alloc: Global, written: &Written) -> Result<Option<Named>
     let me = &first.me.name;
     let next = collect_all(alloc, me, &mut actions, 1, first.body.as_slice())?;
     collect_parts(alloc, &mut actions, next, written.others.as_slice())?;
-    match first_clash(alloc, actions.as_slice())? {
-        None => Ok(None),
-        Some(action) => {
-            let name = action.call.copy()?;
-            Ok(Some(Named {
-                place: action.place,
-                name,
-            }))
-        }
-    }
+    let clash = first_clash(alloc, actions.as_slice())?;
+    with_name(alloc, clash)
 }
 
-fn first_clash<'b, 'a>(
-    alloc: Global,
-    actions: &'b [Action<'a>],
-) -> Result<Option<&'b Action<'a>>, Memory>
-    ensures { IfOk result (λ r. Judged (Clash call_of does clashing) (with_earlier actions.now) (clash_of r)) }
+fn first_clash<'a>(alloc: Global, actions: &'a [Action<'_>]) -> Result<Option<Culprit<'a>>, Memory>
+    ensures { IfOk result (λ r. Judged (Clash call_of does clashing) (with_earlier actions.now) (culprit_of r)) }
 {
     // Of each call name the index of the first action that has it.
     let mut firsts: HashMap<String, usize> = HashMap::new(alloc);
     for (i, action) in actions.iter().enumerate() {
-        match firsts.get(action.call.as_str()) {
+        let name = action.call.as_str();
+        match firsts.get(name) {
             Some(first) => {
                 if !is_same_deed(&actions[*first], action) {
-                    return Ok(Some(action));
+                    return Ok(Some(Culprit {
+                        place: action.place,
+                        name,
+                    }));
                 }
             }
             None => {
-                let key = String::from_str(alloc, action.call.as_str())?;
+                let key = String::from_str(alloc, name)?;
                 firsts.insert(key, i)?;
             }
         }

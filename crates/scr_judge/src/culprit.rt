@@ -9,14 +9,14 @@ use mg_text::{Memory, Place, Text};
 use std::alloc::Global;
 
 /// What is at fault: where it stands, and its name, which is empty where nothing is named.
-#[derive(Clone, Copy, Debug)]
+#[derive(Clone, Copy)]
 pub struct Culprit<'a> {
     pub place: Place,
     pub name: &'a str,
 }
 
 /// What is at fault, with a name of its own.
-#[derive(Debug, Drop)]
+#[derive(Drop)]
 pub struct Named {
     pub place: Place,
     pub name: Text,

@@ -13,7 +13,7 @@ ghost use Rattle.scr_tree.specs.declared.written.WrittenPart.{WrittenPart as Par
 ghost use Rattle.scr_judge.specs.inner.Cycles.{IsRound};
 ghost use Rattle.scr_judge.specs.inner.Gone.{part_name};
 ghost use Rattle.scr_judge.specs.inner.Own.{FirstIn, all_parts};
-ghost use Rattle.scr_judge.specs.inner.Round.{Falls, Reaches, FoundBad, IsGuarded, all_edges, edges_at, gone, leaves_to, numbers_of};
+ghost use Rattle.scr_judge.specs.inner.Round.{Falls, Reaches, FoundBad, IsGuarded, all_edges, edges_at, gone, numbers_of};
 ghost use Rattle.scr_judge.specs.inner.Round.{titles, with_edges, with_texts};
 ghost use Rattle.scr_judge.specs.inner.View.{culprit_of, goal_of, graph_of, told_names};
 
@@ -99,16 +99,7 @@ fn numbers_of(alloc: Global, names: &Names, sought: &[&str]) -> Result<Vec<u32>,
     Ok(numbers)
 }
 
-// Where a protocol goes on with no message.
-fn leaves_to(alloc: Global, names: &Names, part: &WrittenPart) -> Result<Vec<u32>, Memory>
-    ensures { IfOk result (λ v. v.items ≡ leaves_to names.now part.now) }
-{
-    let mut gone = Vec::new(alloc);
-    gone_all(true, &mut gone, part.body.as_slice())?;
-    numbers_of(alloc, names, gone.as_slice())
-}
-
-// Adds the edges of a protocol.
+// Adds the edges of a protocol: to where it goes on with no message.
 fn add_edges(
     alloc: Global,
     names: &Names,
@@ -120,7 +111,9 @@ fn add_edges(
     let Some(from) = names.find(part.name.as_str()) else {
         return Ok(());
     };
-    let more = leaves_to(alloc, names, part)?;
+    let mut gone = Vec::new(alloc);
+    gone_all(true, &mut gone, part.body.as_slice())?;
+    let more = numbers_of(alloc, names, gone.as_slice())?;
     add_to(targets, from.0, more.as_slice())
 }
 

@@ -5,7 +5,7 @@ ghost use Rattle.std.specs.List.{flat_map};
 ghost use Rattle.mg_read.specs.First.{Judged};
 ghost use Rattle.scr_tree.specs.Going.{RolesDiffer, told_in};
 ghost use Rattle.scr_tree.specs.Written.{parts_in, role_name, part_written, written_of};
-ghost use Rattle.scr_judge.specs.inner.Gone.{same_names, same_header, arguments_differ, roles_differ};
+ghost use Rattle.scr_judge.specs.inner.Gone.{same_names, arguments_differ, roles_differ};
 ghost use Rattle.scr_judge.specs.inner.Listed.{first_among};
 ghost use Rattle.scr_judge.specs.inner.View.{culprit_of};
 
@@ -43,7 +43,8 @@ fn find_told_in<'a>(first: &WrittenPart, parts: &'a [WrittenPart]) -> Option<Cul
 fn find_told<'a>(first: &WrittenPart, part: &'a WrittenPart) -> Option<Culprit<'a>>
     ensures { culprit_of result ≡ roles_differ first.now part.now }
 {
-    let same = is_same_header(first, part);
+    let listed = are_same_roles(part.roles.as_slice(), first.roles.as_slice());
+    let same = both(listed, part.me.name == first.me.name);
     match culprit_unless(same, part.place, part.name.as_str()) {
         Some(culprit) => Some(culprit),
         None => find_given(first, part.arguments.as_slice()),
@@ -62,14 +63,6 @@ fn find_given<'a>(first: &WrittenPart, given: &'a [Arguments]) -> Option<Culprit
         }
     }
     None
-}
-
-// Whether two protocols are of one role and list the same roles.
-fn is_same_header(first: &WrittenPart, part: &WrittenPart) -> bool
-    ensures { result ≡ same_header first.now part.now }
-{
-    let listed = are_same_roles(part.roles.as_slice(), first.roles.as_slice());
-    both(listed, part.me.name == first.me.name)
 }
 
 // Whether roles have the same names in the same order.

@@ -138,19 +138,26 @@ impl Search {
         if value_at(self.numbers.as_slice(), node) == 0 {
             self.enter(visit.node)?;
         }
-        match edges.as_slice().get(visit.next) {
-            Some(target) => {
-                self.visits.push(Visit {
-                    node: visit.node,
-                    next: visit.next.saturating_add(1),
-                })?;
-                self.look(node, *target)
-            }
-            None => {
-                self.leave(visit.node);
-                Ok(())
-            }
+        let Some(target) = edges.as_slice().get(visit.next) else {
+            self.leave(visit.node);
+            return Ok(());
+        };
+        self.visits.push(Visit {
+            node: visit.node,
+            next: visit.next.saturating_add(1),
+        })?;
+        let number = value_at(self.numbers.as_slice(), *target as usize);
+        if number == 0 {
+            self.visits.push(Visit {
+                node: *target,
+                next: 0,
+            })?;
+            return Ok(());
         }
+        if value_at(self.ranks.as_slice(), *target as usize) == 0 {
+            self.lower(node, number);
+        }
+        Ok(())
     }
 
     // Comes to a node.
@@ -164,24 +171,6 @@ impl Search {
         put(self.numbers.as_mut_slice(), node as usize, count);
         put(self.lows.as_mut_slice(), node as usize, count);
         self.open.push(node)?;
-        Ok(())
-    }
-
-    // Looks at where an edge of a node leads.
-    fn look(&mut self, node: usize, target: u32) -> Result<(), Memory>
-        ensures { length self.new.ranks.items ≡ length self.old.ranks.items }
-    {
-        let number = value_at(self.numbers.as_slice(), target as usize);
-        if number == 0 {
-            self.visits.push(Visit {
-                node: target,
-                next: 0,
-            })?;
-            return Ok(());
-        }
-        if value_at(self.ranks.as_slice(), target as usize) == 0 {
-            self.lower(node, number);
-        }
         Ok(())
     }
 

@@ -1,6 +1,6 @@
 //! How many states there are.
 
-ghost use Rattle.std.specs.Prelude.{◌≡◌, ◌↔◌, ◌<◌, [], ◌∷◌, false, IsTrue, length};
+ghost use Rattle.std.specs.Prelude.{◌≡◌, [], ◌∷◌, false};
 ghost use Rattle.mg_read.specs.First.{Judged};
 ghost use Rattle.scr_tree.specs.View.{front, statements};
 ghost use Rattle.scr_tree.specs.Tree.{Nothing};
@@ -20,21 +20,14 @@ const MAX_STATES: u32 = 1000;
 pub fn find_too_many_states(file: u32, written: &Written) -> Option<Culprit<'_>>
     ensures { Judged (TooManyStates file) (all_states me_in body_of (parts_in (written_of file written.now)) ∷ []) (culprit_of result) }
 {
-    if has_too_many_states(written) {
+    let count = count_file(written);
+    if count > MAX_STATES {
         return Some(Culprit {
             place: Place::start(file),
             name: "",
         });
     }
     None
-}
-
-// Whether there are more states than are allowed.
-#[tactic(auto, using(crate::proofs::Counting::too_many))]
-fn has_too_many_states(written: &Written) -> bool
-    ensures { IsTrue result ↔ (1000 < length (all_states me_in body_of (parts_in (written_of 0 written.now)))) }
-{
-    count_file(written) > MAX_STATES
 }
 
 // Counts up to one state too many in all protocols.

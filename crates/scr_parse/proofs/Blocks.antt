@@ -6,7 +6,6 @@ use Rattle.mg_text.specs.declared.place.Place.{Place}
 use Rattle.mg_read.specs.Reader.{Reader, all_of}
 use Rattle.mg_read.proofs.Steps.{bind_some, some_is, Takes}
 use Rattle.mg_read.proofs.Lists.{Each, IsExact, Starts, all_sound, all_complete}
-use Rattle.mg_read.proofs.Loop.{with_front}
 use Rattle.mg_read.proofs.Turns.{front_sound, front_complete, shorter}
 use Rattle.scr_tree.specs.Tok.{Tok, named, marked}
 use Rattle.scr_tree.specs.declared.token.Mark.TheVariants as marks
@@ -129,16 +128,14 @@ module _ {S : Type 0} (G : S → List Tok → Type 0) where
     unfolding branches_with
     branches_sound ts x e =
         let s = bind_some (block_with f ts) _ x e in
-        let o = bind_some (with_front (s.0.0 ∷ []) (all_of (is_at marks.Or) (other_with f) s.0.1)) _ x s.2 in
         let one = block_sound ts s.0 s.1 in
-        let more = front_sound (is_at marks.Or) (other_with f) OtherOf Anything other_exact (s.0.0 ∷ []) s.0.1 o.0 o.1 in
-        subst (λ (y : List (List S) × List Tok). Takes (BranchesOf y.0) ts y.1) (some_is _ x o.2)
-        (record {
+        let more = front_sound (is_at marks.Or) (other_with f) OtherOf Anything other_exact (s.0.0 ∷ []) s.0.1 x s.2 in
+        record {
           front = one.front ++ more.2.front;
-          parts = one.parts ∙ ap (λ (r : List Tok). one.front ++ r) more.2.parts ∙ sym (append_assoc one.front more.2.front o.0.1);
+          parts = one.parts ∙ ap (λ (r : List Tok). one.front ++ r) more.2.parts ∙ sym (append_assoc one.front more.2.front x.1);
           holds = subst (λ (l : List (List S)). BranchesOf l (one.front ++ more.2.front)) (sym more.1)
               (one.front, more.2.front, refl, one.holds, more.2.holds);
-        })
+        }
 
     pub branches_complete : (x : List (List S)) (ts rest : List Tok) → NotOr rest → BranchesOf x ts
         → branches_with f (ts ++ rest) ≡ Some (x, rest)

@@ -73,16 +73,14 @@ pub roles_sound : (ts : List Tok) (x : List Role × List Tok) → roles_at ts �
 unfolding roles_at
 roles_sound ts x e =
     let s = bind_some (role_at ts) _ x e in
-    let o = bind_some (more_roles_at (s.0.0 ∷ []) s.0.1) _ x s.2 in
-    let more = front_sound (is_at marks.Comma) other_role_at OtherOf Anything other_exact (s.0.0 ∷ []) s.0.1 o.0 o.1 in
+    let more = front_sound (is_at marks.Comma) other_role_at OtherOf Anything other_exact (s.0.0 ∷ []) s.0.1 x s.2 in
     let one = role_sound ts s.0 s.1 in
-    subst (λ (y : List Role × List Tok). Takes (Listed marks.Comma IsRole y.0) ts y.1) (some_is _ x o.2)
-    (record {
+    record {
       front = one.front ++ more.2.front;
-      parts = one.parts ∙ ap (λ (r : List Tok). one.front ++ r) more.2.parts ∙ sym (append_assoc one.front more.2.front o.0.1);
+      parts = one.parts ∙ ap (λ (r : List Tok). one.front ++ r) more.2.parts ∙ sym (append_assoc one.front more.2.front x.1);
       holds = subst (λ (l : List Role). Listed marks.Comma IsRole l (one.front ++ more.2.front)) (sym more.1)
           (one.front, more.2.front, refl, one.holds, more.2.holds);
-    })
+    }
 
 pub roles_complete : (rs : List Role) (ts rest : List Tok) → is_at marks.Comma rest ≡ false → Listed marks.Comma IsRole rs ts
     → roles_at (ts ++ rest) ≡ Some (rs, rest)

@@ -5,7 +5,6 @@ use Rattle.mg_text.specs.Call.{Name}
 use Rattle.mg_read.specs.Reader.{all_of}
 use Rattle.mg_read.proofs.Steps.{bind_some, some_is, chosen, Takes}
 use Rattle.mg_read.proofs.Lists.{IsExact, Starts}
-use Rattle.mg_read.proofs.Loop.{with_front}
 use Rattle.scr_tree.specs.Tok.{Tok, named, quoted, marked}
 use Rattle.scr_tree.specs.declared.token.Mark.{Mark}
 use Rattle.scr_tree.specs.declared.token.Mark.TheVariants as marks
@@ -55,16 +54,14 @@ module _ (m : Mark) where
   unfolding names_at
   names_sound ts x e =
       let s = bind_some (name_at ts) _ x e in
-      let o = bind_some (with_front (s.0.0.1 ∷ []) (all_of (is_at m) (other_name_at m) s.0.1)) _ x s.2 in
-      let more = front_sound (is_at m) (other_name_at m) (Behind m IsNaming) Anything other_exact (s.0.0.1 ∷ []) s.0.1 o.0 o.1 in
+      let more = front_sound (is_at m) (other_name_at m) (Behind m IsNaming) Anything other_exact (s.0.0.1 ∷ []) s.0.1 x s.2 in
       let first : List Tok = named s.0.0.0 s.0.0.1 ∷ [] in
-      subst (λ (y : List Name × List Tok). Takes (Listed m IsNaming y.0) ts y.1) (some_is _ x o.2)
-      (record {
+      record {
         front = first ++ more.2.front;
         parts = after (name_is ts s.0 s.1) more.2.parts;
         holds = subst (λ (l : List Name). Listed m IsNaming l (first ++ more.2.front)) (sym more.1)
             (first, more.2.front, refl, (s.0.0.0, refl), more.2.holds);
-      })
+      }
 
   pub names_complete : (x : List Name) (ts rest : List Tok) → is_at m rest ≡ false → Listed m IsNaming x ts
       → names_at m (ts ++ rest) ≡ Some (x, rest)

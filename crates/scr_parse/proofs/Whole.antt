@@ -34,13 +34,11 @@ unfolding title_at
 title_sound ts x e =
     let a = bind_some (mark_at marks.Local ts) _ x e in
     let b = bind_some (mark_at marks.Protocol a.0.1) _ x a.2 in
-    let n = bind_some (name_at b.0.1) _ x b.2 in
-    subst (λ (y : (Place × Name) × List Tok). Takes (TitleOf y.0) ts y.1) (some_is _ x n.2)
-    (record {
-      front = marked a.0.0 marks.Local ∷ marked b.0.0 marks.Protocol ∷ named n.0.0.0 n.0.0.1 ∷ [];
-      parts = after (mark_is marks.Local ts a.0 a.1) (after (mark_is marks.Protocol a.0.1 b.0 b.1) (name_is b.0.1 n.0 n.1));
+    record {
+      front = marked a.0.0 marks.Local ∷ marked b.0.0 marks.Protocol ∷ named x.0.0 x.0.1 ∷ [];
+      parts = after (mark_is marks.Local ts a.0 a.1) (after (mark_is marks.Protocol a.0.1 b.0 b.1) (name_is b.0.1 x b.2));
       holds = (a.0.0, b.0.0, refl);
-    })
+    }
 
 -- ---- the tokens in front of those that are left
 

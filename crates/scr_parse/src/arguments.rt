@@ -4,7 +4,7 @@
 ghost use Rattle.std.specs.Prelude.{◌≡◌, ◌++◌, IfOk, OnOk, map};
 ghost use Rattle.scr_tree.specs.Tok.{tok, toks};
 ghost use Rattle.scr_tree.specs.Written.{arguments_of};
-ghost use Rattle.scr_parse.specs.inner.Reading.{given_in, given_behind, given_by, arguments_in};
+ghost use Rattle.scr_parse.specs.inner.Reading.{given_in, given_by, arguments_in};
 
 use crate::carries::names_up;
 use mg_text::{List, Memory, Place};
@@ -33,22 +33,6 @@ fn add_given(
     }
 }
 
-// The same of the tokens behind a `do`.
-fn add_behind(
-    alloc: Global,
-    found: &mut List<Arguments>,
-    place: Place,
-    tokens: &[Token],
-) -> Result<(), Memory>
-    ensures { OnOk result (map arguments_of found.new.items
-        ≡ map arguments_of found.old.items ++ given_behind place (toks tokens.now)) }
-{
-    match tokens.split_first() {
-        Some((first, after)) => add_given(alloc, found, place, first, after),
-        None => Ok(()),
-    }
-}
-
 // Appends what the `do` is given that a token is, if it is one.
 fn add_arguments(
     alloc: Global,
@@ -64,7 +48,10 @@ fn add_arguments(
             if *mark != Mark::Do {
                 return Ok(());
             }
-            add_behind(alloc, found, token.place, after)
+            match after.split_first() {
+                Some((name, behind)) => add_given(alloc, found, token.place, name, behind),
+                None => Ok(()),
+            }
         }
         TokenKind::Name(_) | TokenKind::Quoted(_) => Ok(()),
     }

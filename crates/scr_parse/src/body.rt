@@ -6,7 +6,7 @@ ghost use Rattle.scr_tree.specs.Tree.{Statements};
 ghost use Rattle.scr_parse.specs.Answer.{Gives};
 ghost use Rattle.scr_parse.specs.inner.Kinds.{IsTable};
 ghost use Rattle.scr_parse.specs.inner.View.{alone, all_alone, blocks_alone};
-ghost use Rattle.scr_parse.specs.inner.Reading.{direction_at, payload_at, message_at, do_at, says_at, continue_with, plain_at};
+ghost use Rattle.scr_parse.specs.inner.Reading.{direction_at, payload_at, says_at, do_at, continue_with, plain_at};
 ghost use Rattle.scr_parse.specs.inner.Reading.{a_choice, a_rec, a_continue};
 
 use crate::fault::ParseFault;
@@ -42,36 +42,8 @@ pub fn payload_of(alloc: Global, tokens: &[Token]) -> Result<(List<Text>, &[Toke
 }
 
 // name "(" payload ")" direction name ";"
-#[tactic(auto, unfolding(crate::specs::inner::Reading::message_at))]
+#[tactic(auto, using(crate::proofs::Views::alones), unfolding(crate::specs::inner::Reading::says_at, crate::specs::inner::Reading::message_at))]
 fn message_of<'a>(
-    alloc: Global,
-    types: &Types,
-    tokens: &'a [Token],
-) -> Result<(Message, &'a [Token]), ParseFault>
-    requires { IsTable types.now }
-    ensures { Gives (λ x. (x.0, toks x.1.now)) result (message_at types.now.declared.items (toks tokens.now)) }
-{
-    let (place, label, rest) = name_of(tokens)?;
-    let (_, rest) = mark_of(rest, Mark::OpenParen)?;
-    let (carried, rest) = payload_of(alloc, rest)?;
-    let (_, rest) = mark_of(rest, Mark::CloseParen)?;
-    let (direction, rest) = direction_of(rest)?;
-    let (_, peer, rest) = name_of(rest)?;
-    let (_, rest) = mark_of(rest, Mark::Semicolon)?;
-    let payload = types.kind_of(carried.as_slice());
-    let message = Message {
-        place,
-        direction,
-        peer,
-        label,
-        payload,
-    };
-    Ok((message, rest))
-}
-
-// A message, as a statement.
-#[tactic(auto, using(crate::proofs::Views::alones), unfolding(crate::specs::inner::Reading::says_at))]
-fn says_of<'a>(
     alloc: Global,
     types: &Types,
     tokens: &'a [Token],
@@ -79,7 +51,22 @@ fn says_of<'a>(
     requires { IsTable types.now }
     ensures { Gives (λ x. (alone x.0, toks x.1.now)) result (says_at types.now.declared.items (toks tokens.now)) }
 {
-    let (message, rest) = message_of(alloc, types, tokens)?;
+    let (place, label, rest) = name_of(tokens)?;
+    let (_, rest) = mark_of(rest, Mark::OpenParen)?;
+    let (carried, rest) = payload_of(alloc, rest)?;
+    let payload = types.kind_of(carried.as_slice());
+    drop(carried);
+    let (_, rest) = mark_of(rest, Mark::CloseParen)?;
+    let (direction, rest) = direction_of(rest)?;
+    let (_, peer, rest) = name_of(rest)?;
+    let (_, rest) = mark_of(rest, Mark::Semicolon)?;
+    let message = Message {
+        place,
+        direction,
+        peer,
+        label,
+        payload,
+    };
     Ok((Statement::Message(message), rest))
 }
 
@@ -153,7 +140,7 @@ impl Nest for OfLocal {
         } else if is_mark(tokens, Mark::Do) {
             do_of(alloc, tokens)
         } else {
-            says_of(alloc, types, tokens)
+            message_of(alloc, types, tokens)
         }
     }
 }

@@ -4,7 +4,7 @@
 ghost use Rattle.std.specs.Prelude.{◌≡◌, ◌++◌, IfOk, OnOk, map};
 ghost use Rattle.scr_tree.specs.Tok.{tok, toks};
 ghost use Rattle.scr_tree.specs.Written.{carries_of};
-ghost use Rattle.scr_parse.specs.inner.Reading.{names_in, names_up, carried_by, carried_unless, carries_in};
+ghost use Rattle.scr_parse.specs.inner.Reading.{names_in, names_up, carried_unless, carries_in};
 
 use crate::front::is_mark;
 use mg_text::{List, Memory, Text};
@@ -40,16 +40,20 @@ pub(crate) fn names_up(alloc: Global, tokens: &[Token]) -> Result<List<Text>, Me
     Ok(names)
 }
 
-// Appends what the message carries whose label a token is, if it is one.
+// Appends what the message carries whose label a token is, if it is one. Behind a `do` it is none.
 fn add_carried(
     alloc: Global,
     found: &mut List<Carries>,
+    behind_do: bool,
     token: &Token,
     after: &[Token],
 ) -> Result<(), Memory>
     ensures { OnOk result (map carries_of found.new.items
-        ≡ map carries_of found.old.items ++ carried_by (tok token.now) (toks after.now)) }
+        ≡ map carries_of found.old.items ++ carried_unless behind_do (tok token.now) (toks after.now)) }
 {
+    if behind_do {
+        return Ok(());
+    }
     match &token.kind {
         TokenKind::Name(_) => {
             if !is_mark(after, Mark::OpenParen) {
@@ -66,23 +70,6 @@ fn add_carried(
     }
 }
 
-// Appends what the message carries whose label a token is, if it is one. Behind a `do` it is none.
-fn add_unless(
-    alloc: Global,
-    found: &mut List<Carries>,
-    behind_do: bool,
-    token: &Token,
-    after: &[Token],
-) -> Result<(), Memory>
-    ensures { OnOk result (map carries_of found.new.items
-        ≡ map carries_of found.old.items ++ carried_unless behind_do (tok token.now) (toks after.now)) }
-{
-    if behind_do {
-        return Ok(());
-    }
-    add_carried(alloc, found, token, after)
-}
-
 /// What the messages carry, in the order of the text.
 pub fn carries_of(alloc: Global, tokens: &[Token]) -> Result<List<Carries>, Memory>
     ensures { IfOk result (λ l. map carries_of l.items ≡ carries_in (toks tokens.now)) }
@@ -92,7 +79,7 @@ pub fn carries_of(alloc: Global, tokens: &[Token]) -> Result<List<Carries>, Memo
     let mut rest = tokens;
     'messages: while let Some((first, after)) = rest.split_first() {
         let is_do = is_mark(rest, Mark::Do);
-        add_unless(alloc, &mut found, behind_do, first, after)?;
+        add_carried(alloc, &mut found, behind_do, first, after)?;
         behind_do = is_do;
         rest = after;
     }

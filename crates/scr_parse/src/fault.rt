@@ -3,7 +3,7 @@
 use mg_text::{Memory, Place};
 
 /// Why tokens could not be read.
-#[derive(Clone, Copy, Debug, PartialEq, Eq)]
+#[derive(Clone, Copy)]
 pub enum ParseFault {
     /// Want of memory.
     Memory,

@@ -1,7 +1,7 @@
 //! The token at the front of a row: a mark, a name or a quoted text, and names with a mark
 //! between them.
 
-ghost use Rattle.std.specs.Prelude.{◌≡◌, [], ◌∷◌};
+ghost use Rattle.std.specs.Prelude.{◌≡◌};
 ghost use Rattle.mg_read.specs.Reader.{all_of};
 ghost use Rattle.mg_read.proofs.Loop.{with_front};
 ghost use Rattle.scr_tree.specs.Tok.{toks};
@@ -110,16 +110,7 @@ pub(crate) fn names_of(
     ensures { Gives (λ x. (x.0.items, toks x.1.now)) result (names_at mark (toks tokens.now)) }
 {
     let (_, first, rest) = name_of(tokens)?;
-    let names = one(alloc, first)?;
-    let (names, rest) = more_names_of(names, rest, mark)?;
-    Ok((names, rest))
-}
-
-// A list of one text.
-fn one(alloc: Global, text: Text) -> Result<List<Text>, ParseFault>
-    ensures { Gives (λ x. x.items) result (Some (text ∷ [])) }
-{
-    let mut texts = List::new(alloc);
-    texts.push(text)?;
-    Ok(texts)
+    let mut names = List::new(alloc);
+    names.push(first)?;
+    more_names_of(names, rest, mark)
 }

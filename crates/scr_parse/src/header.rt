@@ -1,10 +1,10 @@
 //! What stands before the body of a protocol: the module's name, which is dropped, the
 //! protocol's name, and its roles.
 
-ghost use Rattle.std.specs.Prelude.{◌≡◌, [], ◌∷◌, ◌++◌};
+ghost use Rattle.std.specs.Prelude.{◌≡◌};
 ghost use Rattle.scr_tree.specs.Tok.{toks};
 ghost use Rattle.scr_parse.specs.Answer.{Gives};
-ghost use Rattle.scr_parse.specs.inner.Reading.{module_at, after_module, title_at, role_at, earlier_role_at, other_role_at, more_roles_at};
+ghost use Rattle.scr_parse.specs.inner.Reading.{after_module, title_at, role_at, earlier_role_at, other_role_at, more_roles_at};
 ghost use Rattle.scr_parse.specs.inner.Reading.{roles_at, is_other_role, earlier_roles_at, self_at, myself_at, at_header_at};
 ghost use Rattle.scr_parse.specs.inner.Reading.{self_header_at, header_at};
 
@@ -21,27 +21,18 @@ pub(crate) struct Header {
     pub roles: List<Role>,
 }
 
-// "module" name { "." name } ";": the tokens behind it.
-#[tactic(auto, unfolding(crate::specs::inner::Reading::module_at))]
-fn module_of(alloc: Global, tokens: &[Token]) -> Result<&[Token], ParseFault>
-    ensures { Gives (λ x. toks x.now) result (module_at (toks tokens.now)) }
+/// [ "module" name { "." name } ";" ]: the tokens behind it.
+#[tactic(auto, unfolding(crate::specs::inner::Reading::after_module, crate::specs::inner::Reading::module_at))]
+pub fn after_module(alloc: Global, tokens: &[Token]) -> Result<&[Token], ParseFault>
+    ensures { Gives (λ x. toks x.now) result (after_module (toks tokens.now)) }
 {
+    if !is_mark(tokens, Mark::Module) {
+        return Ok(tokens);
+    }
     let (_, rest) = mark_of(tokens, Mark::Module)?;
     let (_, rest) = names_of(alloc, rest, Mark::Dot)?;
     let (_, rest) = mark_of(rest, Mark::Semicolon)?;
     Ok(rest)
-}
-
-/// [ module ]: the tokens behind it.
-#[tactic(auto, unfolding(crate::specs::inner::Reading::after_module))]
-pub fn after_module(alloc: Global, tokens: &[Token]) -> Result<&[Token], ParseFault>
-    ensures { Gives (λ x. toks x.now) result (after_module (toks tokens.now)) }
-{
-    if is_mark(tokens, Mark::Module) {
-        module_of(alloc, tokens)
-    } else {
-        Ok(tokens)
-    }
 }
 
 // "local" "protocol" name
@@ -51,8 +42,7 @@ pub(crate) fn title_of(tokens: &[Token]) -> Result<(Place, Text, &[Token]), Pars
 {
     let (_, rest) = mark_of(tokens, Mark::Local)?;
     let (_, rest) = mark_of(rest, Mark::Protocol)?;
-    let (place, name, rest) = name_of(rest)?;
-    Ok((place, name, rest))
+    name_of(rest)
 }
 
 // "role" name
@@ -98,24 +88,15 @@ fn more_roles_of(roles: List<Role>, tokens: &[Token]) -> Result<(List<Role>, &[T
     Ok((roles, rest))
 }
 
-// Roles, and one more.
-fn with_role(roles: List<Role>, role: Role) -> Result<List<Role>, ParseFault>
-    ensures { Gives (λ x. x.items) result (Some (roles.items ++ role ∷ [])) }
-{
-    let mut roles = roles;
-    roles.push(role)?;
-    Ok(roles)
-}
-
 /// role { "," role }
 #[tactic(auto, unfolding(crate::specs::inner::Reading::roles_at))]
 pub fn roles_of(alloc: Global, tokens: &[Token]) -> Result<(List<Role>, &[Token]), ParseFault>
     ensures { Gives (λ x. (x.0.items, toks x.1.now)) result (roles_at (toks tokens.now)) }
 {
     let (first, rest) = role_of(tokens)?;
-    let roles = with_role(List::new(alloc), first)?;
-    let (roles, rest) = more_roles_of(roles, rest)?;
-    Ok((roles, rest))
+    let mut roles = List::new(alloc);
+    roles.push(first)?;
+    more_roles_of(roles, rest)
 }
 
 // Whether "role" comes next, with no "self" behind it.
@@ -168,17 +149,6 @@ fn myself_of(tokens: &[Token]) -> Result<(Role, &[Token]), ParseFault>
     self_of(tokens)
 }
 
-// A copy of a role.
-fn copy_of(role: &Role) -> Result<Role, ParseFault>
-    ensures { Gives (λ x. x) result (Some role.now) }
-{
-    let name = role.name.copy()?;
-    Ok(Role {
-        place: role.place,
-        name,
-    })
-}
-
 // "at" name "(" roles ")"
 #[tactic(auto, unfolding(crate::specs::inner::Reading::at_header_at))]
 fn at_header_of(alloc: Global, tokens: &[Token]) -> Result<(Header, &[Token]), ParseFault>
@@ -201,8 +171,12 @@ fn self_header_of(alloc: Global, tokens: &[Token]) -> Result<(Header, &[Token]),
     let (_, rest) = mark_of(tokens, Mark::OpenParen)?;
     let (earlier, rest) = earlier_roles_of(alloc, rest)?;
     let (me, rest) = myself_of(rest)?;
-    let listed = copy_of(&me)?;
-    let roles = with_role(earlier, listed)?;
+    let name = me.name.copy()?;
+    let mut roles = earlier;
+    roles.push(Role {
+        place: me.place,
+        name,
+    })?;
     let (roles, rest) = more_roles_of(roles, rest)?;
     let (_, rest) = mark_of(rest, Mark::CloseParen)?;
     Ok((Header { me, roles }, rest))

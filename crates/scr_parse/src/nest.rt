@@ -1,7 +1,7 @@
 //! Statements one inside another: blocks, choices and loops, one function a production.
 //! Local and global protocols have them alike; what their own statements are, a `Nest` says.
 
-ghost use Rattle.std.specs.Prelude.{◌≡◌, [], ◌∷◌, Some, map, List as Seq};
+ghost use Rattle.std.specs.Prelude.{◌≡◌, map, List as Seq};
 ghost use Rattle.mg_text.specs.Call.{Name};
 ghost use Rattle.mg_text.specs.declared.place.Place.{Place};
 ghost use Rattle.mg_read.specs.Reader.{Reader, all_of};
@@ -61,18 +61,6 @@ pub trait Nest {
 fn first_place(tokens: &[Token]) -> Option<Place> {
     let (first, _) = tokens.split_first()?;
     Some(first.place)
-}
-
-// A list of one block.
-fn one_block<N: Nest>(
-    alloc: Global,
-    block: List<N::Statement>,
-) -> Result<List<List<N::Statement>>, ParseFault>
-    ensures { Gives (λ x. map (λ b. map N.tree_of b.items) x.items) result (Some (map N.tree_of block.items ∷ [])) }
-{
-    let mut blocks = List::new(alloc);
-    blocks.push(block)?;
-    Ok(blocks)
 }
 
 // { statement }
@@ -176,9 +164,9 @@ fn branches_of<'a, N: Nest>(
         (nested_at (N.plain_tree_at types.now.declared.items) N.choice_tree N.loop_tree levels) (toks tokens.now)) }
 {
     let (first, rest) = block_of::<N>(alloc, types, tokens, levels)?;
-    let first = one_block::<N>(alloc, first)?;
-    let (branches, rest) = more_branches_of::<N>(alloc, types, first, rest, levels)?;
-    Ok((branches, rest))
+    let mut branches = List::new(alloc);
+    branches.push(first)?;
+    more_branches_of::<N>(alloc, types, branches, rest, levels)
 }
 
 // "choice" "at" name branches

@@ -4,7 +4,7 @@ use mg_text::{Memory, Place, Text};
 use scr_read::ScrFault;
 
 /// Why a global protocol has no local protocol for a role.
-#[derive(Debug, PartialEq, Eq, Drop)]
+#[derive(Drop)]
 pub enum ProjectFault {
     /// The role can't tell which branch of a choice of another role was taken. The place is that of
     /// the first such choice, and the name is the role's.

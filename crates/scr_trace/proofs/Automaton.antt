@@ -1,6 +1,6 @@
 -- What is laid out of a valid local protocol is its automaton.
 use Rattle.std.proofs.Common.{◌≡◌, ℕ, suc, ◌+◌, List, [], ◌∷◌, ◌++◌, ◌-◌, length, map, refl, sym, ap, ◌∙◌, subst, inl, inr, ◌⊎◌, ⊎_elim}
-use Rattle.std.proofs.Common.{Bool, true, false, ◌||◌, if◌then◌else◌, arith}
+use Rattle.std.proofs.Common.{Bool, true, false, ◌||◌, if◌then◌else◌, arith, true≢false}
 use Rattle.std.specs.List.{list_any}
 use Rattle.std.specs.Str.{bytes_eq}
 use Rattle.std.proofs.lemmas.List.{append-nil, length-append}
@@ -110,17 +110,20 @@ any_both test (x ∷ xs) ys e = ⊎_elim
     true_behind true b f = refl
     true_behind false b f = f
 
+no_cons : {X : Type 0} {x : X} {xs : List X} → x ∷ xs ≡ [] → ⊥
+no_cons e = cc
+
 -- a message or a choice is a state
 deed_states : (me : Name) (t : Statements) (way : Way) (n : ℕ) (part : Part) (around : Position) → list_any is_deed (spots way t) ≡ true →
     states_in part around (numbered me n t) ≡ [] → ⊥
-deed_states me Nothing way n part around e none = cc
-deed_states me (Says m rest) way n part around e none = cc
+deed_states me Nothing way n part around e none = true≢false (sym e)
+deed_states me (Says m rest) way n part around e none = no_cons none
 deed_states me (Choice place at bs rest) way n part around e none = go (bytes_eq at me) none
   where
     go : (b : Bool) → states_in part around (if b then ChoiceHere (numbered_in me n bs) (numbered me (n + choices_in me bs) rest) else
         ChoiceThere n (numbered_in me (suc n) bs) (numbered me (suc n + choices_in me bs) rest)) ≡ [] → ⊥
-    go true f = cc
-    go false f = cc
+    go true f = no_cons f
+    go false f = no_cons f
 deed_states me (Rec place name body rest) way n part around e none =
     let p : Protocol = numbered me n body in
     let r : Protocol = numbered me (n + choices me body) rest in

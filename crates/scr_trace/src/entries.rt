@@ -22,11 +22,11 @@ pub fn numbers_of(alloc: Global, local: &Local) -> Result<HashMap<String, u32>, 
     ensures { IfOk result (λ m. (q : Name) → get_by_text m q ≡ number_in (tree_of local.now) q) }
 {
     let others = local.others().as_slice();
-    let mut numbers = numbers_behind(alloc, others)?;
     let Ok(number) = u32::try_from(others.len()) else {
         return Err(Memory);
     };
     let name = String::from_str(alloc, local.name().as_str())?;
+    let mut numbers = numbers_behind(alloc, others)?;
     numbers.insert(name, number)?;
     Ok(numbers)
 }

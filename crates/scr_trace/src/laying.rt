@@ -18,7 +18,6 @@ use std::alloc::Global;
 use std::collections::HashMap;
 
 /// What is laid out of a text, from its end on.
-#[derive(Drop)]
 pub struct Laying<'a> {
     // What the states offer, that of the last state first.
     pub(crate) exits: List<Exits<'a>>,
@@ -30,6 +29,19 @@ pub struct Laying<'a> {
     choices: u32,
     // Where what is laid out begins.
     next: Hop,
+}
+
+// One call lets go of it, wherever a function ends.
+impl Drop for Laying<'_> {
+    fn drop(self) {
+        let Laying {
+            exits: _,
+            loops: _,
+            entries: _,
+            choices: _,
+            next: _,
+        } = self;
+    }
 }
 
 // The `rec`s around a statement, innermost first, with their numbers.

@@ -1,6 +1,7 @@
 //! The names of calls, made and compared.
 
 ghost use Rattle.std.specs.Prelude.{◌≡◌, IfOk, MatchOption, ◌++◌, ◌≢◌, List, ℕ};
+ghost use Rattle.std.specs.List.{flat_map};
 ghost use Rattle.std.specs.Str.{bytes_eq};
 ghost use Rattle.std.specs.Fmt.{decimal};
 ghost use Rattle.scr_tree.specs.CallNames.{label_call, message_call};
@@ -23,14 +24,19 @@ pub fn label_call_name(
     ensures { IfOk result (λ t. t ≡ label_call (tree_of local.now).me number peer.now) }
 {
     let digits = format!(in alloc; "{number}")?;
-    let mut name = String::new(alloc);
-    name.push_str("receive_")?;
-    name.push_str(local.me().as_str())?;
-    name.push_str("Choice")?;
-    name.push_str(digits.as_str())?;
-    name.push_str("LabelFrom")?;
-    name.push_str(peer)?;
-    Ok(Text::from_string(name))
+    let me = local.me().as_str();
+    let name = text_of(
+        alloc,
+        &["receive_", me, "Choice", digits.as_str(), "LabelFrom", peer],
+    )?;
+    Ok(name)
+}
+
+// Pieces of a text, one behind another.
+fn text_of(alloc: Global, pieces: &[&str]) -> Result<Text, Memory>
+    ensures { IfOk result (λ t. t ≡ flat_map (λ p. p.now) pieces.now) }
+{
+    Ok(Text::from_string(pieces.concat(alloc)?))
 }
 
 /// Whether this is the name of the method that sends or receives a message. No name is made.

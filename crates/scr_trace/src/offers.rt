@@ -69,16 +69,16 @@ fn label_offers(
         (map (edge_of (work_of laid.now) (Some behind)) (drafts_of arrows.now))) }
     ensures one { IfOk result (λ offers. length offers.items ≤ 1) }
 {
-    let mut offers = List::new(alloc);
     let count = arrows.len();
     if count == 0 {
-        return Ok(offers);
+        return Ok(List::new(alloc));
     }
     let first = arrows[count - 1];
     let message = first.message;
     let number = laid.choice_number(behind);
     let method = label_call_name(alloc, local, number, message.peer.as_str())?;
     let answers = labels_of(alloc, arrows)?;
+    let mut offers = List::new(alloc);
     offers.push(Offer { method, answers })?;
     Ok(offers)
 }

@@ -17,7 +17,6 @@ use scr_tree::Local;
 use std::alloc::Global;
 
 /// A walk along a local protocol, which stands somewhere in it.
-#[derive(Drop)]
 pub struct Walk<'a> {
     alloc: Global,
     local: &'a Local,
@@ -25,8 +24,20 @@ pub struct Walk<'a> {
     standing: Standing,
 }
 
+// One call lets go of it, wherever a function ends.
+impl Drop for Walk<'_> {
+    fn drop(self) {
+        let Walk {
+            alloc: _,
+            local: _,
+            laid: _,
+            standing: _,
+        } = self;
+    }
+}
+
 /// Why a walk can't take a call. In both cases it stands where it stood.
-#[derive(Clone, Copy, Debug, PartialEq, Eq)]
+#[derive(Clone, Copy, Debug)]
 pub enum StepFault {
     /// No step of the protocol has the call.
     NotOffered,

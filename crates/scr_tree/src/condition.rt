@@ -1,7 +1,7 @@
 //! The conditions that a local protocol meets beside its grammar.
 
 /// A condition, by what it refuses. They stand in the order in which they are judged.
-#[derive(Clone, Copy, Debug, PartialEq, Eq)]
+#[derive(Clone, Copy)]
 pub enum Condition {
     /// A role is listed twice, or a type name is declared with two classes.
     DuplicateName,

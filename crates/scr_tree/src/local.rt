@@ -7,7 +7,7 @@ use crate::{Part, Statement};
 use mg_text::{List, Text};
 
 /// A valid local protocol: what one role does, and the roles that it does it with.
-#[derive(Debug, Drop)]
+#[derive(Debug)]
 pub struct Local {
     file: u32,
     name: Text,
@@ -16,6 +16,20 @@ pub struct Local {
     body: List<Statement>,
     others: List<Part>,
     ghost valid: { ∥ IsValid (written file name me roles.items body.items others.items) ∥₁ },
+}
+
+// One call lets go of it, wherever a function ends.
+impl Drop for Local {
+    fn drop(self) {
+        let Local {
+            file: _,
+            name: _,
+            me: _,
+            roles: _,
+            body: _,
+            others: _,
+        } = self;
+    }
 }
 
 impl Local {

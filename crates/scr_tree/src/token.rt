@@ -40,7 +40,7 @@ pub enum Mark {
 }
 
 /// What a token is.
-#[derive(Debug, Drop)]
+#[derive(Drop)]
 pub enum TokenKind {
     /// A name, which is no reserved word.
     Name(Text),
@@ -51,8 +51,14 @@ pub enum TokenKind {
 }
 
 /// A token, and the place of its first byte.
-#[derive(Debug, Drop)]
 pub struct Token {
     pub place: Place,
     pub kind: TokenKind,
+}
+
+// One call lets go of it, wherever a function ends.
+impl Drop for Token {
+    fn drop(self) {
+        let Token { place: _, kind: _ } = self;
+    }
 }

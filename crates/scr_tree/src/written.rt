@@ -4,12 +4,23 @@ use crate::Statement;
 use mg_text::{List, Place, Text};
 
 /// A declaration `type <language> "class" from ".." as alias;`, with the place of its alias.
-#[derive(Debug, Drop)]
 pub struct Declaration {
     pub place: Place,
     pub language: Text,
     pub class: Text,
     pub alias: Text,
+}
+
+// One call lets go of it, wherever a function ends.
+impl Drop for Declaration {
+    fn drop(self) {
+        let Declaration {
+            place: _,
+            language: _,
+            class: _,
+            alias: _,
+        } = self;
+    }
 }
 
 /// A role that is named, and where.
@@ -20,23 +31,39 @@ pub struct Role {
 }
 
 /// The types that stand between the parentheses of a message, with the message's place.
-#[derive(Debug, Drop)]
 pub struct Carries {
     pub place: Place,
     pub types: List<Text>,
 }
 
+// One call lets go of it, wherever a function ends.
+impl Drop for Carries {
+    fn drop(self) {
+        let Carries { place: _, types: _ } = self;
+    }
+}
+
 /// The roles that stand between the parentheses of a `do`, with its place and the protocol that it
 /// names.
-#[derive(Debug, Drop)]
 pub struct Arguments {
     pub place: Place,
     pub name: Text,
     pub roles: List<Text>,
 }
 
+// One call lets go of it, wherever a function ends.
+impl Drop for Arguments {
+    fn drop(self) {
+        let Arguments {
+            place: _,
+            name: _,
+            roles: _,
+        } = self;
+    }
+}
+
 /// A protocol of a file, with the place of its name.
-#[derive(Debug, Drop)]
+#[derive(Drop)]
 pub struct WrittenPart {
     pub place: Place,
     pub name: Text,
@@ -53,7 +80,7 @@ pub struct WrittenPart {
 }
 
 /// The parts of a file.
-#[derive(Debug, Drop)]
+#[derive(Drop)]
 pub struct Written {
     /// The types that are declared, in the order of the text.
     pub types: List<Declaration>,

@@ -1,13 +1,13 @@
 //! The bodies of API methods.
 
 ghost use Rattle.std.specs.Prelude.{◌≡◌, ◌++◌, [], ◌∷◌, IfOk, OnOk, map, Some as There};
-ghost use Rattle.jv_tree.specs.Source.{Text as Quoted, Return, Eval};
-ghost use Rattle.jv_tree.specs.View.{expr_of, stmt_of};
-ghost use Rattle.stm_api.specs.Api.{send_call, take_call, sent, send_body, take_body, answered, found_by, refusal, look_body, label_test};
-ghost use Rattle.stm_api.specs.Api.{first_label};
+ghost use Rattle.jv_tree.specs.Source.{Text as Quoted, Block, Then, NoStmt, Return};
+ghost use Rattle.jv_tree.specs.View.{expr_of, stmt_of, stmt_kind_of};
+ghost use Rattle.stm_api.specs.Api.{send_call, take_call, sent, send_body, take_body, found_by, refusal, look_body, label_test};
+ghost use Rattle.stm_api.specs.Api.{first_label, constant};
 ghost use Rattle.stm_api.specs.inner.View.{names_of};
 
-use crate::exprs::{call_on, constant, one, session, text, two, variable};
+use crate::exprs::{add_text, add_variable, boxed, call_on, constant, session};
 use jv_tree::{Expr, SessionCall, Stmt, StmtKind, TextCall};
 use mg_text::{List, Memory, Place, Text};
 use scr_tree::{Message, Payload};
@@ -15,21 +15,31 @@ use std::alloc::Global;
 use ts_tree::TypeName;
 
 /// The body of the method that sends a message.
+#[tactic(auto, using(crate::proofs::Trees::views))]
 pub fn send_body(alloc: Global, place: Place, message: &Message) -> Result<List<Stmt>, Memory>
     ensures { IfOk result (λ ss. map stmt_of ss.items ≡ send_body place message.now.peer message.now.label message.now.payload) }
 {
     let args = sent_args(alloc, place, message)?;
     let call = session(alloc, place, send_call(message.payload), args)?;
-    single(alloc, eval(place, call))
+    let mut body = List::new(alloc);
+    add(&mut body, place, StmtKind::Eval(call))?;
+    Ok(body)
 }
 
 /// The body of the method that takes a message, and answers what it carries.
+#[tactic(auto, using(crate::proofs::Trees::views))]
 pub fn take_body(alloc: Global, place: Place, message: &Message) -> Result<List<Stmt>, Memory>
     ensures { IfOk result (λ ss. map stmt_of ss.items ≡ take_body place message.now.peer message.now.label message.now.payload) }
 {
     let args = address(alloc, place, message)?;
     let call = session(alloc, place, take_call(message.payload), args)?;
-    single(alloc, answered(place, message.payload, call))
+    let kind = match message.payload {
+        Payload::Nothing => StmtKind::Eval(call),
+        Payload::Int | Payload::Boolean | Payload::Text => StmtKind::Return(Some(call)),
+    };
+    let mut body = List::new(alloc);
+    add(&mut body, place, kind)?;
+    Ok(body)
 }
 
 // The call of the session that sends this.
@@ -60,9 +70,10 @@ fn take_call(payload: Payload) -> SessionCall
 fn address(alloc: Global, place: Place, message: &Message) -> Result<List<Expr>, Memory>
     ensures { IfOk result (λ es. map expr_of es.items ≡ Quoted place message.now.peer ∷ (Quoted place message.now.label ∷ [])) }
 {
-    let peer = text(alloc, place, message.peer.as_str())?;
-    let label = text(alloc, place, message.label.as_str())?;
-    two(alloc, peer, label)
+    let mut args = List::new(alloc);
+    add_text(alloc, &mut args, place, message.peer.as_str())?;
+    add_text(alloc, &mut args, place, message.label.as_str())?;
+    Ok(args)
 }
 
 // The peer, the label and what a message carries.
@@ -74,20 +85,8 @@ fn sent_args(alloc: Global, place: Place, message: &Message) -> Result<List<Expr
     if message.payload == Payload::Nothing {
         return Ok(args);
     }
-    let value = variable(alloc, place, "value")?;
-    args.push(value)?;
+    add_variable(alloc, &mut args, place, "value")?;
     Ok(args)
-}
-
-// Answers what was taken, if a message carries anything.
-#[tactic(auto, using(crate::proofs::Trees::views))]
-fn answered(place: Place, payload: Payload, call: Expr) -> Stmt
-    ensures { stmt_of result ≡ answered place payload (expr_of call) }
-{
-    match payload {
-        Payload::Nothing => eval(place, call),
-        Payload::Int | Payload::Boolean | Payload::Text => give(place, call),
-    }
 }
 
 /// The body of the method that looks which branch a peer has taken.
@@ -100,39 +99,44 @@ pub fn look_body(
 ) -> Result<List<Stmt>, Memory>
     ensures { IfOk result (λ ss. map stmt_of ss.items ≡ look_body place of.now peer.now (names_of labels.now)) }
 {
-    let found = found(alloc, place, peer)?;
-    let mut body = single(alloc, found)?;
+    let mut body = List::new(alloc);
+    add_found(alloc, &mut body, place, peer)?;
     add_tests(alloc, &mut body, place, of, labels)?;
-    let refusal = refusal(alloc, place, peer)?;
-    body.push(refusal)?;
+    add_refusal(alloc, &mut body, place, peer)?;
     add_first(alloc, &mut body, place, of, labels)?;
     Ok(body)
 }
 
-// Asks the session for the label that a peer has sent.
+// Appends a statement.
 #[tactic(auto, using(crate::proofs::Trees::views))]
-fn found(alloc: Global, place: Place, peer: &str) -> Result<Stmt, Memory>
-    ensures { IfOk result (λ s. stmt_of s ≡ found_by place peer.now) }
+fn add(body: &mut List<Stmt>, place: Place, kind: StmtKind) -> Result<(), Memory>
+    ensures { OnOk result (map stmt_of body.new.items ≡ map stmt_of body.old.items ++ stmt_kind_of kind place ∷ []) }
 {
-    let peer = text(alloc, place, peer)?;
-    let args = one(alloc, peer)?;
-    let call = session(alloc, place, SessionCall::Look, args)?;
-    let name = Text::of(alloc, "found")?;
-    Ok(Stmt {
-        place,
-        kind: StmtKind::Local(TypeName::Text, name, call),
-    })
+    body.push(Stmt { place, kind })
 }
 
-// Refuses the label that a peer has sent.
-fn refusal(alloc: Global, place: Place, peer: &str) -> Result<Stmt, Memory>
-    ensures { IfOk result (λ s. stmt_of s ≡ refusal place peer.now) }
+// Appends that the session is asked for the label that a peer has sent.
+#[tactic(auto, using(crate::proofs::Trees::views))]
+fn add_found(alloc: Global, body: &mut List<Stmt>, place: Place, peer: &str) -> Result<(), Memory>
+    ensures { OnOk result (map stmt_of body.new.items ≡ map stmt_of body.old.items ++ found_by place peer.now ∷ []) }
 {
-    let peer = text(alloc, place, peer)?;
-    let found = variable(alloc, place, "found")?;
-    let args = two(alloc, peer, found)?;
+    let name = Text::of(alloc, "found")?;
+    let mut args = List::new(alloc);
+    add_text(alloc, &mut args, place, peer)?;
+    let call = session(alloc, place, SessionCall::Look, args)?;
+    add(body, place, StmtKind::Local(TypeName::Text, name, call))
+}
+
+// Appends that the label that a peer has sent is refused.
+#[tactic(auto, using(crate::proofs::Trees::views))]
+fn add_refusal(alloc: Global, body: &mut List<Stmt>, place: Place, peer: &str) -> Result<(), Memory>
+    ensures { OnOk result (map stmt_of body.new.items ≡ map stmt_of body.old.items ++ refusal place peer.now ∷ []) }
+{
+    let mut args = List::new(alloc);
+    add_text(alloc, &mut args, place, peer)?;
+    add_variable(alloc, &mut args, place, "found")?;
     let call = session(alloc, place, SessionCall::Refuse, args)?;
-    Ok(eval(place, call))
+    add(body, place, StmtKind::Eval(call))
 }
 
 // Appends a test for each label.
@@ -147,32 +151,45 @@ fn add_tests(
     ensures { OnOk result (map stmt_of body.new.items ≡ map stmt_of body.old.items ++ map (label_test place of.now) (names_of labels.now)) }
 {
     for label in labels {
-        let test = label_test(alloc, place, of, label.as_str())?;
-        body.push(test)?;
+        add_test(alloc, body, place, of, label.as_str())?;
     }
     Ok(())
 }
 
-// Answers a label if it was found.
+// Appends that a label is answered if it was found.
 #[tactic(auto, using(crate::proofs::Trees::views))]
-fn label_test(alloc: Global, place: Place, of: &str, label: &str) -> Result<Stmt, Memory>
-    ensures { IfOk result (λ s. stmt_of s ≡ label_test place of.now label.now) }
+fn add_test(
+    alloc: Global,
+    body: &mut List<Stmt>,
+    place: Place,
+    of: &str,
+    label: &str,
+) -> Result<(), Memory>
+    ensures { OnOk result (map stmt_of body.new.items ≡ map stmt_of body.old.items ++ label_test place of.now label.now ∷ []) }
 {
-    let other = text(alloc, place, label)?;
-    let args = one(alloc, other)?;
+    let then = answering(alloc, place, of, label)?;
+    let mut args = List::new(alloc);
+    add_text(alloc, &mut args, place, label)?;
     let equals = TextCall::Equals.method().name;
     let test = call_on(alloc, place, "found", equals, args)?;
+    add(body, place, StmtKind::If(test, then, None))
+}
+
+// A block that answers a label.
+#[tactic(auto, using(crate::proofs::Trees::views))]
+fn answering(alloc: Global, place: Place, of: &str, label: &str) -> Result<Box<Stmt>, Memory>
+    ensures { IfOk result (λ b. stmt_of b.value
+        ≡ Block place (Then (Return place (There (constant place of.now label.now))) NoStmt) place) }
+{
     let answer = constant(alloc, place, of, label)?;
-    let body = single(alloc, give(place, answer))?;
-    let kind = StmtKind::Block(body, place);
-    let then = Box::new(alloc, Stmt { place, kind })?;
-    Ok(Stmt {
-        place,
-        kind: StmtKind::If(test, then, None),
-    })
+    let mut block = List::new(alloc);
+    add(&mut block, place, StmtKind::Return(Some(answer)))?;
+    let kind = StmtKind::Block(block, place);
+    boxed(alloc, Stmt { place, kind })
 }
 
 // Appends that the first label is answered.
+#[tactic(auto, using(crate::proofs::Trees::views))]
 fn add_first(
     alloc: Global,
     body: &mut List<Stmt>,
@@ -186,37 +203,5 @@ fn add_first(
         return Ok(());
     };
     let answer = constant(alloc, place, of, first.as_str())?;
-    body.push(give(place, answer))?;
-    Ok(())
-}
-
-// Calls.
-#[tactic(auto, using(crate::proofs::Trees::views))]
-fn eval(place: Place, call: Expr) -> Stmt
-    ensures { stmt_of result ≡ Eval place (expr_of call) }
-{
-    Stmt {
-        place,
-        kind: StmtKind::Eval(call),
-    }
-}
-
-// Answers this.
-#[tactic(auto, using(crate::proofs::Trees::views))]
-fn give(place: Place, value: Expr) -> Stmt
-    ensures { stmt_of result ≡ Return place (There (expr_of value)) }
-{
-    Stmt {
-        place,
-        kind: StmtKind::Return(Some(value)),
-    }
-}
-
-// One statement.
-fn single(alloc: Global, stmt: Stmt) -> Result<List<Stmt>, Memory>
-    ensures { IfOk result (λ ss. map stmt_of ss.items ≡ stmt_of stmt ∷ []) }
-{
-    let mut body = List::new(alloc);
-    body.push(stmt)?;
-    Ok(body)
+    add(body, place, StmtKind::Return(Some(answer)))
 }

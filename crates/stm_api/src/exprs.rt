@@ -1,6 +1,6 @@
 //! The expressions that API methods are made of.
 
-ghost use Rattle.std.specs.Prelude.{◌≡◌, [], ◌∷◌, IfOk, map};
+ghost use Rattle.std.specs.Prelude.{◌≡◌, ◌++◌, [], ◌∷◌, IfOk, OnOk, map};
 ghost use Rattle.jv_tree.specs.Source.{Text as Quoted, Variable, MethodCall};
 ghost use Rattle.jv_tree.specs.View.{expr_of, exprs_of};
 ghost use Rattle.stm_api.specs.Api.{session, constant};
@@ -9,28 +9,55 @@ use jv_tree::{Expr, ExprKind, SessionCall};
 use mg_text::{List, Memory, Place, Text};
 use std::alloc::Global;
 
-/// A text.
+/// A value in a box.
+pub fn boxed<T: Drop>(alloc: Global, value: T) -> Result<Box<T>, Memory>
+    ensures { IfOk result (λ b. b.value ≡ value) }
+{
+    Ok(Box::new(alloc, value)?)
+}
+
+/// Appends a text to arguments.
 #[tactic(auto, using(crate::proofs::Trees::views))]
-pub fn text(alloc: Global, place: Place, text: &str) -> Result<Expr, Memory>
-    ensures { IfOk result (λ e. expr_of e ≡ Quoted place text.now) }
+pub fn add_text(
+    alloc: Global,
+    args: &mut List<Expr>,
+    place: Place,
+    text: &str,
+) -> Result<(), Memory>
+    ensures { OnOk result (map expr_of args.new.items ≡ map expr_of args.old.items ++ Quoted place text.now ∷ []) }
 {
     let text = Text::of(alloc, text)?;
-    Ok(Expr {
+    args.push(Expr {
         place,
         kind: ExprKind::Text(text),
     })
 }
 
-/// A variable, or the name of a class.
+/// Appends a variable to arguments.
 #[tactic(auto, using(crate::proofs::Trees::views))]
-pub fn variable(alloc: Global, place: Place, name: &str) -> Result<Expr, Memory>
-    ensures { IfOk result (λ e. expr_of e ≡ Variable place name.now) }
+pub fn add_variable(
+    alloc: Global,
+    args: &mut List<Expr>,
+    place: Place,
+    name: &str,
+) -> Result<(), Memory>
+    ensures { OnOk result (map expr_of args.new.items ≡ map expr_of args.old.items ++ Variable place name.now ∷ []) }
 {
     let name = Text::of(alloc, name)?;
-    Ok(Expr {
+    args.push(Expr {
         place,
         kind: ExprKind::Name(name),
     })
+}
+
+// A variable, or the name of a class.
+#[tactic(auto, using(crate::proofs::Trees::views))]
+fn variable(alloc: Global, place: Place, name: &str) -> Result<Box<Expr>, Memory>
+    ensures { IfOk result (λ b. expr_of b.value ≡ Variable place name.now) }
+{
+    let name = Text::of(alloc, name)?;
+    let kind = ExprKind::Name(name);
+    boxed(alloc, Expr { place, kind })
 }
 
 /// A constant of an enum.
@@ -38,7 +65,7 @@ pub fn variable(alloc: Global, place: Place, name: &str) -> Result<Expr, Memory>
 pub fn constant(alloc: Global, place: Place, of: &str, name: &str) -> Result<Expr, Memory>
     ensures { IfOk result (λ e. expr_of e ≡ constant place of.now name.now) }
 {
-    let of = Box::new(alloc, variable(alloc, place, of)?)?;
+    let of = variable(alloc, place, of)?;
     let name = Text::of(alloc, name)?;
     Ok(Expr {
         place,
@@ -57,7 +84,7 @@ pub fn call_on(
 ) -> Result<Expr, Memory>
     ensures { IfOk result (λ e. expr_of e ≡ MethodCall place (Variable place of.now) name.now (exprs_of (map expr_of args.items))) }
 {
-    let of = Box::new(alloc, variable(alloc, place, of)?)?;
+    let of = variable(alloc, place, of)?;
     let name = Text::of(alloc, name)?;
     Ok(Expr {
         place,
@@ -75,23 +102,4 @@ pub fn session(
     ensures { IfOk result (λ e. expr_of e ≡ session place call (map expr_of args.items)) }
 {
     call_on(alloc, place, "Session", call.method().name, args)
-}
-
-/// One argument.
-pub fn one(alloc: Global, arg: Expr) -> Result<List<Expr>, Memory>
-    ensures { IfOk result (λ es. map expr_of es.items ≡ expr_of arg ∷ []) }
-{
-    let mut args = List::new(alloc);
-    args.push(arg)?;
-    Ok(args)
-}
-
-/// Two arguments.
-pub fn two(alloc: Global, first: Expr, second: Expr) -> Result<List<Expr>, Memory>
-    ensures { IfOk result (λ es. map expr_of es.items ≡ expr_of first ∷ (expr_of second ∷ [])) }
-{
-    let mut args = List::new(alloc);
-    args.push(first)?;
-    args.push(second)?;
-    Ok(args)
 }

@@ -8,6 +8,7 @@ ghost use Rattle.scr_tree.specs.Local.{tree_of};
 ghost use Rattle.jv_tree.specs.View.{decl_of, class_of as kept_class, method_of as kept_method};
 ghost use Rattle.stm_api.specs.Api.{IsApi, written, class_file, class_with, enum_file, enum_files, method_of};
 ghost use Rattle.stm_api.specs.View.{written_of};
+ghost use Rattle.stm_api.specs.Doings.{call_of};
 ghost use Rattle.stm_api.specs.inner.Does.{firsts_of};
 ghost use Rattle.stm_api.specs.inner.View.{doing_of, names_of};
 
@@ -21,7 +22,7 @@ use std::alloc::Global;
 
 /// A file of an API: its name, what it holds, and the text of that. Places are the first of the
 /// protocol's file.
-#[derive(Debug, Drop)]
+#[derive(Drop)]
 pub struct ApiFile {
     pub name: Text,
     pub tree: File,
@@ -81,8 +82,7 @@ fn methods_of(
     let mut seen = Names::new(alloc);
     let mut methods = List::new(alloc);
     for doing in doings {
-        let call = call_of(alloc, local, doing)?;
-        let is_new = add_new(&mut seen, call.as_str())?;
+        let is_new = add_call(alloc, local, doing, &mut seen)?;
         if !is_new {
             continue;
         }
@@ -92,18 +92,25 @@ fn methods_of(
     Ok(methods)
 }
 
-// Adds a name to those that were seen, and answers whether it is new.
-fn add_new(seen: &mut Names, name: &str) -> Result<bool, Memory>
-    ensures added { OnOk result (seen.new ≡ with_text seen.old name.now) }
-    ensures new { IfOk result (λ b. b ≡ not (is_some (position (bytes_eq name.now) seen.old))) }
+// Adds the name of the method that does this to those that were seen, and answers whether it is new.
+fn add_call(
+    alloc: Global,
+    local: &Local,
+    doing: &Doing<'_>,
+    seen: &mut Names,
+) -> Result<bool, Memory>
+    ensures added { OnOk result (seen.new ≡ with_text seen.old (call_of (tree_of local.now).me (doing_of doing.now))) }
+    ensures new { IfOk result (λ b. b
+        ≡ not (is_some (position (bytes_eq (call_of (tree_of local.now).me (doing_of doing.now))) seen.old))) }
 {
-    if seen.find(name).is_some() {
+    let call = call_of(alloc, local, doing)?;
+    if seen.find(call.as_str()).is_some() {
         return Ok(false);
     }
     if seen.len() >= MOST_NAMES {
         return Err(Memory);
     }
-    seen.add(name)?;
+    seen.add(call.as_str())?;
     Ok(true)
 }
 

@@ -7,7 +7,7 @@ ghost use Rattle.scr_tree.specs.Meaning.{message_of};
 ghost use Rattle.stm_gen.specs.Laid.{carried_type, carried_params, choice_enum};
 ghost use Rattle.jv_tree.specs.View.{method_of as kept_method, stmt_of};
 ghost use Rattle.stm_api.specs.Doings.{call_of};
-ghost use Rattle.stm_api.specs.Api.{method_of, method_with, message_method, look_method, send_method, take_method, value_param};
+ghost use Rattle.stm_api.specs.Api.{method_of, method_with, look_method, send_method, take_method, value_param};
 ghost use Rattle.stm_api.specs.inner.View.{doing_of, names_of};
 
 use crate::bodies::{look_body, send_body, take_body};
@@ -30,6 +30,7 @@ pub fn call_of(alloc: Global, local: &Local, doing: &Doing<'_>) -> Result<Text, 
 }
 
 /// The method that does this.
+#[tactic(auto, using(crate::proofs::Made::messages))]
 pub fn method_of(
     alloc: Global,
     local: &Local,
@@ -39,21 +40,13 @@ pub fn method_of(
     ensures { IfOk result (λ m. kept_method m ≡ method_of place (tree_of local.now).me (doing_of doing.now)) }
 {
     match doing {
-        Doing::Passes(message) => message_method(alloc, place, message),
+        Doing::Passes(message) => match message.direction {
+            Direction::To => send_method(alloc, place, message),
+            Direction::From => take_method(alloc, place, message),
+        },
         Doing::Asks(number, peer, labels) => {
             look_method(alloc, local, place, *number, peer, labels.as_slice())
         }
-    }
-}
-
-// The method that sends or takes a message.
-#[tactic(auto, using(crate::proofs::Made::messages))]
-fn message_method(alloc: Global, place: Place, message: &Message) -> Result<MethodDecl, Memory>
-    ensures { IfOk result (λ m. kept_method m ≡ message_method place (message_of message.now)) }
-{
-    match message.direction {
-        Direction::To => send_method(alloc, place, message),
-        Direction::From => take_method(alloc, place, message),
     }
 }
 
@@ -149,10 +142,6 @@ fn carried(payload: Payload) -> TypeName
 pub fn choice_enum(alloc: Global, me: &str, number: u32) -> Result<Text, Memory>
     ensures { IfOk result (λ t. t ≡ choice_enum me.now number) }
 {
-    let digits = format!(in alloc; "{number}")?;
-    let mut name = String::new(alloc);
-    name.push_str(me)?;
-    name.push_str("Choice")?;
-    name.push_str(digits.as_str())?;
+    let name = format!(in alloc; "{me}Choice{number}")?;
     Ok(Text::from_string(name))
 }

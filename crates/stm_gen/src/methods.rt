@@ -124,11 +124,7 @@ fn label_method(
 fn choice_enum(alloc: Global, me: &str, number: u32) -> Result<Text, Memory>
     ensures { IfOk result (λ t. t ≡ choice_enum me.now number) }
 {
-    let digits = format!(in alloc; "{number}")?;
-    let mut name = String::new(alloc);
-    name.push_str(me)?;
-    name.push_str("Choice")?;
-    name.push_str(digits.as_str())?;
+    let name = format!(in alloc; "{me}Choice{number}")?;
     Ok(Text::from_string(name))
 }
 

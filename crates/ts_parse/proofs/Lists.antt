@@ -1,10 +1,9 @@
 -- Parts in a row are read where the grammar spells them, and nowhere else.
 use Rattle.std.proofs.Common.{◌≡◌, ◌<◌, List, [], ◌∷◌, ◌++◌, length, Bool, true, false, Some, refl, sym, ap, ◌∙◌, subst, append_assoc}
 use Rattle.std.proofs.Common.{arith}
-use Rattle.mg_read.specs.Reader.{Reader, all_of}
-use Rattle.mg_read.proofs.Steps.{bind_some, some_is, Takes}
+use Rattle.mg_read.specs.Reader.{Reader}
+use Rattle.mg_read.proofs.Steps.{bind_some, Takes}
 use Rattle.mg_read.proofs.Lists.{IsExact, Starts}
-use Rattle.mg_read.proofs.Loop.{with_front}
 use Rattle.mg_read.proofs.Turns.{front_sound, front_complete, shorter}
 use Rattle.ts_parse.specs.declared.token.Mark.{Mark}
 use Rattle.ts_parse.specs.declared.token.Mark.TheVariants as marks
@@ -46,13 +45,11 @@ module _ {A : Type 0} (m : Mark) (f : Reader Tok A) (G : A → List Tok → Type
     unfolding listed_at
     listed_sound ts x e =
         let s = bind_some (f ts) _ x e in
-        let o = bind_some (with_front (s.0.0 ∷ []) (all_of go (behind_at m f) s.0.1)) _ x s.2 in
-        let more = front_sound go (behind_at m f) (Behind m G) Anything behind_exact (s.0.0 ∷ []) s.0.1 o.0 o.1 in
+        let more = front_sound go (behind_at m f) (Behind m G) Anything behind_exact (s.0.0 ∷ []) s.0.1 x s.2 in
         let one = exact.sound ts s.0 s.1 in
-        subst (λ (y : List A × List Tok). Takes (Listed m G y.0) ts y.1) (some_is _ x o.2)
-        (record {
+        record {
           front = one.front ++ more.2.front;
-          parts = one.parts ∙ ap (λ (r : List Tok). one.front ++ r) more.2.parts ∙ sym (append_assoc one.front more.2.front o.0.1);
+          parts = one.parts ∙ ap (λ (r : List Tok). one.front ++ r) more.2.parts ∙ sym (append_assoc one.front more.2.front x.1);
           holds = subst (λ (l : List A). Listed m G l (one.front ++ more.2.front)) (sym more.1) (
             one.front,
             more.2.front,
@@ -60,7 +57,7 @@ module _ {A : Type 0} (m : Mark) (f : Reader Tok A) (G : A → List Tok → Type
             one.holds,
             more.2.holds,
           );
-        })
+        }
 
     -- where go holds before each further part
     pub listed_complete : ((x : A) (ts rest : List Tok) → Behind m G x ts → go (ts ++ rest) ≡ true)

@@ -1,19 +1,19 @@
 //! The entries of a state: methods, and `drop: end`, with commas between them.
 //! Each function gives what it read, and the tokens behind it.
 
-ghost use Rattle.std.specs.Prelude.{◌≡◌, [], ◌∷◌, map};
+ghost use Rattle.std.specs.Prelude.{◌≡◌, map};
 ghost use Rattle.mg_read.specs.Reader.{all_of};
 ghost use Rattle.mg_read.specs.Parsing.{Gives};
 ghost use Rattle.mg_read.proofs.Loop.{with_front};
 ghost use Rattle.ts_parse.specs.declared.token.Mark.TheVariants as marks;
 ghost use Rattle.ts_parse.specs.Tok.{tok, toks};
 ghost use Rattle.ts_parse.specs.Written.{wentry_of};
-ghost use Rattle.ts_parse.specs.inner.Reading.{behind_at, listed_at, is_more, is_word, is_drop, after_end, drop_at, offer_at, entry_at};
-ghost use Rattle.ts_parse.specs.inner.Reading.{after_comma, some_entries_at, entries_at};
+ghost use Rattle.ts_parse.specs.inner.Reading.{behind_at, is_more, is_word, is_drop, after_end, drop_at, entry_at};
+ghost use Rattle.ts_parse.specs.inner.Reading.{some_entries_at, entries_at};
 
 use crate::front::{is_mark, mark_of, name_of};
 use crate::methods::method_of;
-use crate::{Mark, Naming, Token, TokenKind, WrittenEntry};
+use crate::{Mark, Token, TokenKind, WrittenEntry};
 use mg_read::ParseFault;
 use mg_text::List;
 use std::alloc::Global;
@@ -62,28 +62,19 @@ fn drop_of(tokens: &[Token]) -> Result<(WrittenEntry, &[Token]), ParseFault>
     let (word, rest) = name_of(tokens)?;
     let (_, rest) = mark_of(rest, Mark::Colon)?;
     let rest = after_end(rest)?;
-    let Naming { place, text: _ } = word;
-    Ok((WrittenEntry::DropEnd(place), rest))
-}
-
-// A method, as an entry.
-#[tactic(auto, unfolding(crate::specs::inner::Reading::offer_at))]
-fn offer_of(alloc: Global, tokens: &[Token]) -> Result<(WrittenEntry, &[Token]), ParseFault>
-    ensures { Gives (λ x. (wentry_of x.0, toks x.1.now)) result (offer_at (toks tokens.now)) }
-{
-    let (method, rest) = method_of(alloc, tokens)?;
-    Ok((WrittenEntry::Method(method), rest))
+    Ok((WrittenEntry::DropEnd(word.place), rest))
 }
 
 // "drop" ":" "end"  |  method
-#[tactic(auto, unfolding(crate::specs::inner::Reading::entry_at))]
+#[tactic(auto, unfolding(crate::specs::inner::Reading::entry_at, crate::specs::inner::Reading::offer_at))]
 fn entry_of(alloc: Global, tokens: &[Token]) -> Result<(WrittenEntry, &[Token]), ParseFault>
     ensures { Gives (λ x. (wentry_of x.0, toks x.1.now)) result (entry_at (toks tokens.now)) }
 {
     if is_drop(tokens) {
         return drop_of(tokens);
     }
-    offer_of(alloc, tokens)
+    let (method, rest) = method_of(alloc, tokens)?;
+    Ok((WrittenEntry::Method(method), rest))
 }
 
 // Whether a comma comes next, with no "}" behind it.
@@ -128,51 +119,22 @@ fn more_entries_of(
     Ok((entries, rest))
 }
 
-// A list of one entry.
-fn one_entry(alloc: Global, entry: WrittenEntry) -> Result<List<WrittenEntry>, ParseFault>
-    ensures { Gives (λ x. map wentry_of x.items) result (Some (wentry_of entry ∷ [])) }
-{
-    let mut entries = List::new(alloc);
-    entries.push(entry)?;
-    Ok(entries)
-}
-
-// entry { "," entry }
-#[tactic(auto, unfolding(crate::specs::inner::Reading::listed_at))]
-fn listed_entries_of(
-    alloc: Global,
-    tokens: &[Token],
-) -> Result<(List<WrittenEntry>, &[Token]), ParseFault>
-    ensures { Gives (λ x. (map wentry_of x.0.items, toks x.1.now)) result (listed_at marks.Comma is_more entry_at (toks tokens.now)) }
-{
-    let (first, rest) = entry_of(alloc, tokens)?;
-    let entries = one_entry(alloc, first)?;
-    let (entries, rest) = more_entries_of(alloc, entries, rest)?;
-    Ok((entries, rest))
-}
-
-// [ "," ]: the tokens behind it.
-#[tactic(auto, unfolding(crate::specs::inner::Reading::after_comma))]
-fn after_comma(tokens: &[Token]) -> Result<&[Token], ParseFault>
-    ensures { Gives (λ x. toks x.now) result (after_comma (toks tokens.now)) }
-{
-    if is_mark(tokens, Mark::Comma) {
-        let (_, rest) = mark_of(tokens, Mark::Comma)?;
-        return Ok(rest);
-    }
-    Ok(tokens)
-}
-
 // entry { "," entry } [ "," ]
-#[tactic(auto, unfolding(crate::specs::inner::Reading::some_entries_at))]
+#[tactic(auto, unfolding(crate::specs::inner::Reading::some_entries_at, crate::specs::inner::Reading::listed_at, crate::specs::inner::Reading::after_comma))]
 fn some_entries_of(
     alloc: Global,
     tokens: &[Token],
 ) -> Result<(List<WrittenEntry>, &[Token]), ParseFault>
     ensures { Gives (λ x. (map wentry_of x.0.items, toks x.1.now)) result (some_entries_at (toks tokens.now)) }
 {
-    let (entries, rest) = listed_entries_of(alloc, tokens)?;
-    let rest = after_comma(rest)?;
+    let (first, rest) = entry_of(alloc, tokens)?;
+    let mut entries = List::new(alloc);
+    entries.push(first)?;
+    let (entries, rest) = more_entries_of(alloc, entries, rest)?;
+    if !is_mark(rest, Mark::Comma) {
+        return Ok((entries, rest));
+    }
+    let (_, rest) = mark_of(rest, Mark::Comma)?;
     Ok((entries, rest))
 }
 

@@ -1,7 +1,7 @@
 //! The token at the front of a row: a mark or a name, and names with dots between them.
 //! Each function gives what it read, and the tokens behind it.
 
-ghost use Rattle.std.specs.Prelude.{◌≡◌, [], ◌∷◌};
+ghost use Rattle.std.specs.Prelude.{◌≡◌};
 ghost use Rattle.mg_read.specs.Reader.{all_of};
 ghost use Rattle.mg_read.specs.Parsing.{Gives};
 ghost use Rattle.mg_read.proofs.Loop.{with_front};
@@ -120,15 +120,6 @@ fn more_names_of(
     Ok((names, rest))
 }
 
-// A list of one name.
-fn one(alloc: Global, name: Naming) -> Result<List<Naming>, ParseFault>
-    ensures { Gives (λ x. x.items) result (Some (name ∷ [])) }
-{
-    let mut names = List::new(alloc);
-    names.push(name)?;
-    Ok(names)
-}
-
 // name { "." name }
 #[tactic(auto, unfolding(crate::specs::inner::Reading::listed_at))]
 pub(crate) fn path_of(
@@ -138,7 +129,7 @@ pub(crate) fn path_of(
     ensures { Gives (λ x. (x.0.items, toks x.1.now)) result (path_at (toks tokens.now)) }
 {
     let (first, rest) = name_of(tokens)?;
-    let names = one(alloc, first)?;
-    let (names, rest) = more_names_of(names, rest)?;
-    Ok((names, rest))
+    let mut names = List::new(alloc);
+    names.push(first)?;
+    more_names_of(names, rest)
 }

@@ -4,7 +4,7 @@
 ghost use Rattle.std.specs.Prelude.{◌≡◌};
 ghost use Rattle.mg_read.specs.Parsing.{Gives};
 ghost use Rattle.ts_parse.specs.Tok.{toks};
-ghost use Rattle.ts_parse.specs.inner.Reading.{package_at, after_package, after_star, import_at, imports_at, title_at};
+ghost use Rattle.ts_parse.specs.inner.Reading.{after_package, after_star, import_at, imports_at, title_at};
 
 use crate::front::{is_mark, mark_of, name_of, path_of};
 use crate::{Mark, Naming, Token};
@@ -12,27 +12,18 @@ use mg_read::ParseFault;
 use mg_text::{List, Place};
 use std::alloc::Global;
 
-// "package" path ";": the tokens behind it.
-#[tactic(auto, unfolding(crate::specs::inner::Reading::package_at))]
-fn package_of(alloc: Global, tokens: &[Token]) -> Result<&[Token], ParseFault>
-    ensures { Gives (λ x. toks x.now) result (package_at (toks tokens.now)) }
+// [ "package" path ";" ]: the tokens behind it.
+#[tactic(auto, unfolding(crate::specs::inner::Reading::after_package, crate::specs::inner::Reading::package_at))]
+pub(crate) fn after_package(alloc: Global, tokens: &[Token]) -> Result<&[Token], ParseFault>
+    ensures { Gives (λ x. toks x.now) result (after_package (toks tokens.now)) }
 {
+    if !is_mark(tokens, Mark::Package) {
+        return Ok(tokens);
+    }
     let (_, rest) = mark_of(tokens, Mark::Package)?;
     let (_, rest) = path_of(alloc, rest)?;
     let (_, rest) = mark_of(rest, Mark::Semicolon)?;
     Ok(rest)
-}
-
-// [ package ]: the tokens behind it.
-#[tactic(auto, unfolding(crate::specs::inner::Reading::after_package))]
-pub(crate) fn after_package(alloc: Global, tokens: &[Token]) -> Result<&[Token], ParseFault>
-    ensures { Gives (λ x. toks x.now) result (after_package (toks tokens.now)) }
-{
-    if is_mark(tokens, Mark::Package) {
-        package_of(alloc, tokens)
-    } else {
-        Ok(tokens)
-    }
 }
 
 // [ "." "*" ]: the tokens behind it.

@@ -1,7 +1,7 @@
 //! A method of a state: its result, its name, its parameters and where its calls lead.
 //! Each function gives what it read, and the tokens behind it.
 
-ghost use Rattle.std.specs.Prelude.{◌≡◌, [], ◌∷◌, map, option_map};
+ghost use Rattle.std.specs.Prelude.{◌≡◌, map, option_map};
 ghost use Rattle.mg_read.specs.Reader.{all_of};
 ghost use Rattle.mg_read.specs.Parsing.{Gives};
 ghost use Rattle.mg_read.proofs.Loop.{with_front};
@@ -41,8 +41,7 @@ fn param_of(tokens: &[Token]) -> Result<(TypeName, &[Token]), ParseFault>
     if name.text.as_str() == "void" {
         return Err(ParseFault::Syntax(Some(name.place)));
     }
-    let Naming { place: _, text } = name;
-    Ok((type_named(text), rest))
+    Ok((type_named(name.into_text()), rest))
 }
 
 // "," parameter
@@ -72,35 +71,18 @@ fn more_params_of(
     Ok((params, rest))
 }
 
-// A list of one type.
-fn one_type(alloc: Global, param: TypeName) -> Result<List<TypeName>, ParseFault>
-    ensures { Gives (λ x. x.items) result (Some (param ∷ [])) }
-{
-    let mut params = List::new(alloc);
-    params.push(param)?;
-    Ok(params)
-}
-
-// parameter { "," parameter }
-#[tactic(auto, unfolding(crate::specs::inner::Reading::listed_at))]
-fn some_params_of(alloc: Global, tokens: &[Token]) -> Result<(List<TypeName>, &[Token]), ParseFault>
-    ensures { Gives (λ x. (x.0.items, toks x.1.now)) result (listed_at marks.Comma (is_at marks.Comma) param_at (toks tokens.now)) }
-{
-    let (first, rest) = param_of(tokens)?;
-    let params = one_type(alloc, first)?;
-    let (params, rest) = more_params_of(params, rest)?;
-    Ok((params, rest))
-}
-
 // [ parameter { "," parameter } ], up to ")"
-#[tactic(auto, unfolding(crate::specs::inner::Reading::params_at))]
+#[tactic(auto, unfolding(crate::specs::inner::Reading::params_at, crate::specs::inner::Reading::listed_at))]
 fn params_of(alloc: Global, tokens: &[Token]) -> Result<(List<TypeName>, &[Token]), ParseFault>
     ensures { Gives (λ x. (x.0.items, toks x.1.now)) result (params_at (toks tokens.now)) }
 {
     if is_mark(tokens, Mark::CloseParen) {
         return Ok((List::new(alloc), tokens));
     }
-    some_params_of(alloc, tokens)
+    let (first, rest) = param_of(tokens)?;
+    let mut params = List::new(alloc);
+    params.push(first)?;
+    more_params_of(params, rest)
 }
 
 // name ":" name
@@ -141,15 +123,6 @@ fn more_branches_of(
     Ok((branches, rest))
 }
 
-// A list of one branch.
-fn one_branch(alloc: Global, branch: WrittenBranch) -> Result<List<WrittenBranch>, ParseFault>
-    ensures { Gives (λ x. x.items) result (Some (branch ∷ [])) }
-{
-    let mut branches = List::new(alloc);
-    branches.push(branch)?;
-    Ok(branches)
-}
-
 // branch { "," branch }
 #[tactic(auto, unfolding(crate::specs::inner::Reading::listed_at))]
 fn branches_of(
@@ -159,9 +132,9 @@ fn branches_of(
     ensures { Gives (λ x. (x.0.items, toks x.1.now)) result (listed_at marks.Comma (is_at marks.Comma) branch_at (toks tokens.now)) }
 {
     let (first, rest) = branch_of(tokens)?;
-    let branches = one_branch(alloc, first)?;
-    let (branches, rest) = more_branches_of(branches, rest)?;
-    Ok((branches, rest))
+    let mut branches = List::new(alloc);
+    branches.push(first)?;
+    more_branches_of(branches, rest)
 }
 
 // "<" branches ">"
@@ -195,8 +168,7 @@ fn head_of(tokens: &[Token]) -> Result<(TypeName, Naming, &[Token]), ParseFault>
     let (result_name, rest) = name_of(tokens)?;
     let (name, rest) = name_of(rest)?;
     let (_, rest) = mark_of(rest, Mark::OpenParen)?;
-    let Naming { place: _, text } = result_name;
-    Ok((type_named(text), name, rest))
+    Ok((type_named(result_name.into_text()), name, rest))
 }
 
 // type name "(" parameters ")" ":" target

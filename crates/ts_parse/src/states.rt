@@ -10,7 +10,7 @@ ghost use Rattle.ts_parse.specs.inner.Reading.{state_at, states_at, typestate_at
 use crate::entries::entries_of;
 use crate::front::{is_mark, mark_of, name_of};
 use crate::head::{after_package, imports_of, title_of};
-use crate::{Mark, Naming, Token, WrittenState, WrittenTypestate};
+use crate::{Mark, Token, WrittenState, WrittenTypestate};
 use mg_read::ParseFault;
 use mg_text::List;
 use std::alloc::Global;
@@ -50,8 +50,8 @@ fn typestate_of(alloc: Global, tokens: &[Token]) -> Result<(WrittenTypestate, &[
     let (title, rest) = title_of(tokens)?;
     let (states, rest) = states_of(alloc, rest)?;
     let (_, rest) = mark_of(rest, Mark::CloseBrace)?;
-    let Naming { place: _, text } = title;
-    Ok((WrittenTypestate { name: text, states }, rest))
+    let name = title.into_text();
+    Ok((WrittenTypestate { name, states }, rest))
 }
 
 /// The file that all of the tokens spell.

@@ -4,7 +4,7 @@
 use mg_text::{Place, Text};
 
 /// A reserved word, or a sign.
-#[derive(Clone, Copy, Debug, PartialEq, Eq)]
+#[derive(Clone, Copy, PartialEq, Eq)]
 pub enum Mark {
     Typestate,
     Package,
@@ -24,15 +24,21 @@ pub enum Mark {
 }
 
 /// What a token is.
-#[derive(Debug, Drop)]
+#[derive(Drop)]
 pub enum TokenKind {
     Name(Text),
     Mark(Mark),
 }
 
 /// A token, and the place of its first byte.
-#[derive(Debug, Drop)]
 pub struct Token {
     pub place: Place,
     pub kind: TokenKind,
+}
+
+// One call lets go of it, wherever a function ends.
+impl Drop for Token {
+    fn drop(self) {
+        let Token { place: _, kind: _ } = self;
+    }
 }

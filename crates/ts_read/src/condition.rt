@@ -2,7 +2,7 @@
 //! The definitions say which name breaks which.
 
 /// A condition that a typestate file can break.
-#[derive(Clone, Copy, Debug, PartialEq, Eq)]
+#[derive(Clone, Copy)]
 pub enum Condition {
     /// Two states have one name.
     DuplicateState,

@@ -4,7 +4,7 @@
 use mg_text::{Memory, Place, Text};
 
 /// Why a typestate file is refused, in the order in which it is judged.
-#[derive(Debug, PartialEq, Eq, Drop)]
+#[derive(Debug, Drop)]
 pub enum TsFault {
     /// The file holds over 1,048,576 bytes, or spells over 1,000 states. The place is the file's
     /// start.

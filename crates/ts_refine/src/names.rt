@@ -72,17 +72,6 @@ pub(crate) fn noted(slots: &[u64], list: u64, name: &str) -> usize {
     usize::MAX
 }
 
-// Notes where the labels of a target stand.
-fn note_labels(slots: &mut [u64], list: u64, target: &Target) {
-    if let Target::ByAnswer(branches) = target {
-        let mut place: u64 = 0;
-        for branch in branches.as_slice() {
-            note(slots, list, branch.label.as_str(), place);
-            place = place.wrapping_add(1);
-        }
-    }
-}
-
 // Notes where the labels of these methods stand, and of the first typestate's the methods too.
 fn note_methods(slots: &mut [u64], side: u64, list: u64, methods: &[Method]) {
     let mut place: u64 = 0;
@@ -91,7 +80,14 @@ fn note_methods(slots: &mut [u64], side: u64, list: u64, methods: &[Method]) {
         if side == 0 {
             note(slots, list, name, place);
         }
-        note_labels(slots, list_under(list, name), &method.target);
+        if let Target::ByAnswer(branches) = &method.target {
+            let labels = list_under(list, name);
+            let mut behind: u64 = 0;
+            for branch in branches.as_slice() {
+                note(slots, labels, branch.label.as_str(), behind);
+                behind = behind.wrapping_add(1);
+            }
+        }
         place = place.wrapping_add(1);
     }
 }

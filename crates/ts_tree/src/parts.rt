@@ -3,7 +3,7 @@
 use mg_text::{List, Text};
 
 /// A type that a method's signature names.
-#[derive(Debug, Drop)]
+#[derive(Debug)]
 pub enum TypeName {
     Void,
     Int,
@@ -12,6 +12,19 @@ pub enum TypeName {
     Text,
     /// An enum or a class.
     Named(Text),
+}
+
+// One call lets go of it, wherever a function ends.
+impl Drop for TypeName {
+    fn drop(self) {
+        match self {
+            TypeName::Void => {}
+            TypeName::Int => {}
+            TypeName::Boolean => {}
+            TypeName::Text => {}
+            TypeName::Named(_) => {}
+        }
+    }
 }
 
 /// Where a call leads: to the state of this number, counted from 0, or to the end.

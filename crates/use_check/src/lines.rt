@@ -12,7 +12,7 @@ ghost use Rattle.use_elements.specs.Mappings.{typestate_or_end};
 ghost use Rattle.use_check.specs.Report.{state_text, member_text, set_text, table_text, variable_line, field_lines};
 ghost use Rattle.use_check.specs.inner.Reported.{seen};
 
-use jv_core::{Core, CoreField, CoreType};
+use jv_core::{Core, CoreField, CoreType, name_text};
 use mg_sets::StateSet;
 use mg_text::{Memory, Name};
 use ts_tree::Typestate;
@@ -98,14 +98,10 @@ fn put_set(out: &mut String, typestate: Option<&Typestate>, set: &StateSet) -> R
 
 impl<'a> Reporter<'a> {
     // Appends a name.
-    #[tactic(auto, using(use_flow::proofs::Scenes::scenes))]
     pub(crate) fn put_name(&self, out: &mut String, name: Name) -> Result<(), Memory>
         ensures { OnOk result (string_bytes out.new ≡ string_bytes out.old ++ text_at (seen self.now).program name.0) }
     {
-        let names = self.core.names();
-        if (name.0 as usize) < names.len() {
-            out.push_str(names.text(name))?;
-        }
+        out.push_str(name_text(self.core, name))?;
         Ok(())
     }
 
@@ -155,8 +151,7 @@ impl<'a> Reporter<'a> {
         };
         out.push_str(front)?;
         self.put_name(out, name)?;
-        self.put_table(out, class, key)?;
-        Ok(())
+        self.put_table(out, class, key)
     }
 
     // Appends the lines of fields.

@@ -14,7 +14,7 @@ use ts_tree::Typestate;
 use use_rules::{Demand, DemandKind, Element};
 
 /// Where reads and null tests lead from an element.
-#[derive(Clone, Copy, Debug, PartialEq, Eq)]
+#[derive(Clone, Copy, PartialEq, Eq)]
 pub enum Mapping {
     /// What a read gives.
     AsValue,
@@ -25,7 +25,7 @@ pub enum Mapping {
 }
 
 /// What is asked of an element, wherever it stands.
-#[derive(Clone, Copy, Debug, PartialEq, Eq)]
+#[derive(Clone, Copy, PartialEq, Eq)]
 pub enum Rule {
     Moved,
     LeftOpen,
@@ -185,7 +185,7 @@ fn element_at(place: usize) -> Result<Element, Memory>
 }
 
 /// What a demand is about: a variable of this name, or a value that is dropped.
-#[derive(Clone, Copy, Debug)]
+#[derive(Clone, Copy)]
 pub enum Title {
     Variable(Name),
     Value,
@@ -193,7 +193,7 @@ pub enum Title {
 }
 
 /// What a demand is about, where that stands, and the class of its objects.
-#[derive(Clone, Copy, Debug)]
+#[derive(Clone, Copy)]
 pub struct Subject {
     pub place: Place,
     pub title: Title,

@@ -12,9 +12,15 @@ use std::alloc::Global;
 use std::marker::Model;
 
 /// A set for each variable, seen as the list of them.
-#[derive(Drop)]
 pub struct Sets {
     sets: Vec<StateSet>,
+}
+
+// One call lets go of it, wherever a function ends.
+impl Drop for Sets {
+    fn drop(self) {
+        let Sets { sets: _ } = self;
+    }
 }
 
 impl Model for Sets {

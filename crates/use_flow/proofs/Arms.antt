@@ -14,13 +14,14 @@ use Rattle.jv_core.specs.View.{expr_of, exprs_of, kind_of}
 use Rattle.jv_core.proofs.ViewLaws.{expr_of-is, kind-Neg, kind-Not, kind-Binary, kind-Equals, kind-Concat, kind-Protocol, kind-Helper}
 use Rattle.jv_core.proofs.ViewLaws.{kind-Static, views}
 use Rattle.use_flow.specs.declared.evaluated.Value.{Value}
+use Rattle.use_flow.specs.declared.evaluated.Ways.TheVariants as ways
 use Rattle.use_rules.specs.Elements.{Set}
-use Rattle.use_rules.specs.State.{Now, Log}
+use Rattle.use_rules.specs.State.{Log}
 use Rattle.use_rules.specs.Flow.{Evaluated, NullTest, null_test, alike}
 use Rattle.use_flow.specs.inner.Followed.{Followed, eval}
-use Rattle.use_flow.specs.inner.Values.{evaluated_of, settled, parted, both_ways, both_with, either_with, opposite, null_tested}
+use Rattle.use_flow.specs.inner.Values.{evaluated_of, settled, operands, conjunction, disjunction, opposite, null_tested}
 use Rattle.use_flow.specs.inner.Values.{called_protocol, called_helper, called_static}
-use Rattle.use_flow.proofs.Following.{operands_from, conjunction_from, disjunction_from, binary_tests, binary_other}
+use Rattle.use_flow.proofs.Following.{binary_tests, binary_other}
 
 is_form : (x : CoreExpr) (k : CoreExprKind) (e : Expr) → x.kind ≡ k → kind_of k x.place ≡ e → expr_of x ≡ e
 is_form x k e h ek = expr_of-is x ∙ ap (λ (z : CoreExprKind). kind_of z x.place) h ∙ ek
@@ -28,6 +29,13 @@ is_form x k e h ek = expr_of-is x ∙ ap (λ (z : CoreExprKind). kind_of z x.pla
 module _ (s : Followed) (w : ℕ) (sets : List Set) (log : Log) (x : CoreExpr) where
   seen_as : (e : Expr) (t : Evaluated) → expr_of x ≡ e → t ≡ eval s w e (Some sets) log → t ≡ eval s w (expr_of x) (Some sets) log
   seen_as e t h g = g ∙ ap (λ z. eval s w z (Some sets) log) (sym h)
+
+  -- a value without objects, behind which all is as before
+  pub plain_as : (k : CoreExprKind) (e : Expr) (v : Value) → x.kind ≡ k → kind_of k x.place ≡ e →
+      alike [] (Some sets) log ≡ eval s w e (Some sets) log → v ≡ record { set = []; ways = ways.Alike (Some sets) } →
+      evaluated_of v log ≡ eval s w (expr_of x) (Some sets) log
+  plain_as k e v is ek ee ev = ap (λ (y : Value). evaluated_of y log) ev ∙ ee ∙ ap (λ z. eval s w z (Some sets) log)
+      (sym (is_form x k e is ek))
 
   module _ (a : Box CoreExpr Global) (l : CoreExpr) (el : l ≡ a.value) (lv : Log) (v : Value) where
     pub neg_as : x.kind ≡ E.Neg a → evaluated_of v lv ≡ settled (eval s 0 (expr_of l) (Some sets) log) →
@@ -40,52 +48,48 @@ module _ (s : Followed) (w : ℕ) (sets : List Set) (log : Log) (x : CoreExpr) w
     not_as is ev = seen_as (Not x.place (expr_of l)) _
         (is_form x (E.Not a) _ is (kind-Not a x.place ∙ ap (λ (z : CoreExpr). Not x.place (expr_of z)) (sym el))) ev
 
-  module _ (a b : Box CoreExpr Global) (l r : CoreExpr) (el : l ≡ a.value) (er : r ≡ b.value) (la lv : Log) (v : Value) where
+  module _ (a b : Box CoreExpr Global) (l r : CoreExpr) (el : l ≡ a.value) (er : r ≡ b.value) (lv : Log) (v : Value) where
     binary_is : (o : Op) → x.kind ≡ E.Binary o a b → expr_of x ≡ Binary x.place o (expr_of l) (expr_of r)
     binary_is o is =
         is_form x (E.Binary o a b) _ is (kind-Binary o a b x.place
         ∙ ap (λ (z : CoreExpr). Binary x.place o (expr_of z) (expr_of b.value)) (sym el) ∙
         ap (λ (z : CoreExpr). Binary x.place o (expr_of l) (expr_of z)) (sym er))
 
-    pub equals_as : (n : Now) → x.kind ≡ E.Equals a b → alike [] n la ≡ settled (eval s 0 (expr_of l) (Some sets) log) →
-        evaluated_of v lv ≡ settled (eval s 0 (expr_of r) n la) → evaluated_of v lv ≡ eval s w (expr_of x) (Some sets) log
-    equals_as n is en ev =
+    pub equals_as : x.kind ≡ E.Equals a b → evaluated_of v lv ≡ operands s (expr_of l) (expr_of r) sets log →
+        evaluated_of v lv ≡ eval s w (expr_of x) (Some sets) log
+    equals_as is ev =
         seen_as (Equals x.place (expr_of l) (expr_of r)) _
         (is_form x (E.Equals a b) _ is (kind-Equals a b x.place
         ∙ ap (λ (z : CoreExpr). Equals x.place (expr_of z) (expr_of b.value)) (sym el) ∙
         ap (λ (z : CoreExpr). Equals x.place (expr_of l) (expr_of z)) (sym er)))
-        (operands_from s sets log (expr_of l) (expr_of r) la lv v n en ev)
+        ev
 
-    pub concat_as : (n : Now) → x.kind ≡ E.Concat a b → alike [] n la ≡ settled (eval s 0 (expr_of l) (Some sets) log) →
-        evaluated_of v lv ≡ settled (eval s 0 (expr_of r) n la) → evaluated_of v lv ≡ eval s w (expr_of x) (Some sets) log
-    concat_as n is en ev =
+    pub concat_as : x.kind ≡ E.Concat a b → evaluated_of v lv ≡ operands s (expr_of l) (expr_of r) sets log →
+        evaluated_of v lv ≡ eval s w (expr_of x) (Some sets) log
+    concat_as is ev =
         seen_as (Concat x.place (expr_of l) (expr_of r)) _
         (is_form x (E.Concat a b) _ is (kind-Concat a b x.place
         ∙ ap (λ (z : CoreExpr). Concat x.place (expr_of z) (expr_of b.value)) (sym el) ∙
         ap (λ (z : CoreExpr). Concat x.place (expr_of l) (expr_of z)) (sym er)))
-        (operands_from s sets log (expr_of l) (expr_of r) la lv v n en ev)
+        ev
 
-    pub and_as : (o : Op) (h f : Now) → x.kind ≡ E.Binary o a b → o ≡ ops.And →
-        parted h f la ≡ both_ways (eval s 0 (expr_of l) (Some sets) log) →
-        evaluated_of v lv ≡ both_with f (eval s 0 (expr_of r) h la) → evaluated_of v lv ≡ eval s w (expr_of x) (Some sets) log
-    and_as o h f is eo en ev =
-        seen_as (Binary x.place ops.And (expr_of l) (expr_of r)) _ (binary_is o is ∙ ap (λ z. Binary x.place z (expr_of l) (expr_of r)) eo)
-        (conjunction_from s sets log (expr_of l) (expr_of r) la lv v h f en ev)
-
-    pub or_as : (o : Op) (h f : Now) → x.kind ≡ E.Binary o a b → o ≡ ops.Or →
-        parted h f la ≡ both_ways (eval s 0 (expr_of l) (Some sets) log) →
-        evaluated_of v lv ≡ either_with h (eval s 0 (expr_of r) f la) → evaluated_of v lv ≡ eval s w (expr_of x) (Some sets) log
-    or_as o h f is eo en ev =
-        seen_as (Binary x.place ops.Or (expr_of l) (expr_of r)) _ (binary_is o is ∙ ap (λ z. Binary x.place z (expr_of l) (expr_of r)) eo)
-        (disjunction_from s sets log (expr_of l) (expr_of r) la lv v h f en ev)
-
-    pub other_as : (o : Op) (n : Now) → x.kind ≡ E.Binary o a b → None ≡ null_test o (expr_of l) (expr_of r) → o ≢ ops.And → o ≢ ops.Or →
-        alike [] n la ≡ settled (eval s 0 (expr_of l) (Some sets) log) → evaluated_of v lv ≡ settled (eval s 0 (expr_of r) n la) →
+    pub and_as : (o : Op) → x.kind ≡ E.Binary o a b → o ≡ ops.And → evaluated_of v lv ≡ conjunction s (expr_of l) (expr_of r) sets log →
         evaluated_of v lv ≡ eval s w (expr_of x) (Some sets) log
-    other_as o n is none na nor en ev =
+    and_as o is eo ev =
+        seen_as (Binary x.place ops.And (expr_of l) (expr_of r)) _ (binary_is o is ∙ ap (λ z. Binary x.place z (expr_of l) (expr_of r)) eo)
+        ev
+
+    pub or_as : (o : Op) → x.kind ≡ E.Binary o a b → o ≡ ops.Or → evaluated_of v lv ≡ disjunction s (expr_of l) (expr_of r) sets log →
+        evaluated_of v lv ≡ eval s w (expr_of x) (Some sets) log
+    or_as o is eo ev =
+        seen_as (Binary x.place ops.Or (expr_of l) (expr_of r)) _ (binary_is o is ∙ ap (λ z. Binary x.place z (expr_of l) (expr_of r)) eo)
+        ev
+
+    pub other_as : (o : Op) → x.kind ≡ E.Binary o a b → None ≡ null_test o (expr_of l) (expr_of r) → o ≢ ops.And → o ≢ ops.Or →
+        evaluated_of v lv ≡ operands s (expr_of l) (expr_of r) sets log → evaluated_of v lv ≡ eval s w (expr_of x) (Some sets) log
+    other_as o is none na nor ev =
         seen_as (Binary x.place o (expr_of l) (expr_of r)) _ (binary_is o is)
-        (operands_from s sets log (expr_of l) (expr_of r) la lv v n en ev ∙ binary_other s sets log w x.place o (expr_of l) (expr_of r) none
-        na nor)
+        (ev ∙ binary_other s sets log w x.place o (expr_of l) (expr_of r) none na nor)
 
     pub test_as : (o : Op) (t : NullTest) → x.kind ≡ E.Binary o a b → Some t ≡ null_test o (expr_of l) (expr_of r) →
         evaluated_of v lv ≡ null_tested s t sets log → evaluated_of v lv ≡ eval s w (expr_of x) (Some sets) log

@@ -80,14 +80,13 @@ in_turn a b c x y e f = f ∙ ap (λ r. r ++ y) e ∙ append_assoc a x y
 
 pub ruleset parts = (in_turn, append_nil)
 
-pub six_in_turn : (e a b c d f g u v w x y z : List Entry) → e ≡ [] → a ≡ e ++ u → b ≡ a ++ v → c ≡ b ++ w → d ≡ c ++ x → f ≡ d ++ y →
+pub six_in_turn : (e a b c d f g u v w x y z : List Entry) → a ≡ e ++ u → b ≡ a ++ v → c ≡ b ++ w → d ≡ c ++ x → f ≡ d ++ y →
     g ≡ f ++ z →
-    g ≡ u ++ (v ++ (w ++ (x ++ (y ++ z))))
-six_in_turn e a b c d f g u v w x y z e0 e1 e2 e3 e4 e5 e6 =
+    g ≡ e ++ (u ++ (v ++ (w ++ (x ++ (y ++ z)))))
+six_in_turn e a b c d f g u v w x y z e1 e2 e3 e4 e5 e6 =
     in_turn e a g u (v ++ (w ++ (x ++ (y ++ z)))) e1
     (in_turn a b g v (w ++ (x ++ (y ++ z))) e2
     (in_turn b c g w (x ++ (y ++ z)) e3 (in_turn c d g x (y ++ z) e4 (in_turn d f g y z e5 e6))))
-    ∙ ap (λ r. r ++ (u ++ (v ++ (w ++ (x ++ (y ++ z)))))) e0
 
 pub ruleset whole = (six_in_turn)
 

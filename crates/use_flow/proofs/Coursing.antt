@@ -181,18 +181,6 @@ filter_same p q e (x ∷ xs) = go (filter_same p q e xs) (q x) refl
 pub leaving-turned : (scope ys : List ℕ) → leaving scope (reverse ys) ≡ leaving scope ys
 leaving-turned scope ys = ap reverse (filter_same (goes (reverse ys)) (goes ys) (λ k. ap not (any_reverse (nat_eq k) ys)) scope)
 
-pub slot_copied : (xs : List ℕ) (i k : ℕ) (done done' total : List ℕ) → i < length xs → k ≡ get_or xs i k → done' ≡ done ++ k ∷ [] →
-    done ++ drop i xs ≡ total →
-    done' ++ drop (i + 1) xs ≡ total
-slot_copied xs i k done done' total lt at e h =
-    ap (λ r. r ++ drop (i + 1) xs) e ∙ append_assoc done (k ∷ []) (drop (i + 1) xs)
-    ∙ ap (λ r. done ++ r) (sym (at_drop_more (λ (ys : List ℕ). ys) xs i k lt ∙ ap (λ z. z ∷ drop (i + 1) xs) (sym at))) ∙ h
-
-pub all_copied : (xs : List ℕ) (i : ℕ) (done total : List ℕ) → length xs ≤ i → done ++ drop i xs ≡ total → done ≡ total
-all_copied xs i done total le h = sym (append_nil done) ∙ ap (λ r. done ++ r) (sym (at_drop_all (λ (ys : List ℕ). ys) xs i le)) ∙ h
-
-pub ruleset copies = (slot_copied, all_copied)
-
 -- Jumps.
 
 one_caught : (v : Bool) (before now : Now) → (if v then joined before now else before) ≡ joined before (if v then joined now None else None)

@@ -1,6 +1,6 @@
 -- A whole context, from its start to its end.
-use Rattle.std.proofs.Common.{◌≡◌, ℕ, zero, suc, ◌+◌, List, [], ◌∷◌, ◌++◌, reverse, Option, Some, None, slice_get, sym, ap, ◌∙◌, arith}
-use Rattle.std.proofs.Common.{add-one}
+use Rattle.std.proofs.Common.{◌≡◌, ℕ, zero, suc, ◌+◌, ◌-◌, ◌<◌, ◌≤◌, List, [], ◌∷◌, ◌++◌, reverse, Option, Some, None, slice_get, sym, ap}
+use Rattle.std.proofs.Common.{◌∙◌, arith, add-one, append_assoc}
 use Rattle.std.proofs.lemmas.List.{reverse-append}
 use Rattle.jv_core.specs.Numbering.{numbers_from}
 use Rattle.jv_core.specs.Tree.{Method, Program, Stmts}
@@ -19,17 +19,19 @@ use Rattle.use_flow.specs.inner.Ending.{left}
 use Rattle.use_flow.specs.inner.Followed.{Followed}
 use Rattle.use_flow.specs.inner.Starting.{start, whole}
 use Rattle.use_flow.specs.inner.Stepping.{Follows, steps}
+use Rattle.use_elements.proofs.Rests.{append_nil}
 
-numbers-last : (n c : ℕ) → numbers_from n (suc c) ≡ numbers_from n c ++ (n + c) ∷ []
-numbers-last n zero = let e : n ≡ n + 0 = omega arith in ap (λ k. k ∷ []) e
-numbers-last n (suc c) = ap (λ r. n ∷ r) (numbers-last (suc n) c) ∙
-    (let e : suc n + c ≡ n + suc c = omega arith in ap (λ k. n ∷ (numbers_from (suc n) c ++ k ∷ [])) e)
+-- numbers, one after another
+pub number_next : (i j : ℕ) (ns ns' total : List ℕ) → i < j → ns' ≡ ns ++ i ∷ [] → ns ++ numbers_from i (j - i) ≡ total →
+    ns' ++ numbers_from (i + 1) (j - (i + 1)) ≡ total
+number_next i j ns ns' total lt e h =
+    ap (λ r. r ++ numbers_from (i + 1) (j - (i + 1))) e ∙ append_assoc ns (i ∷ []) (numbers_from (i + 1) (j - (i + 1)))
+    ∙ ap (λ n. ns ++ (i ∷ numbers_from n (j - (i + 1)))) (add-one i)
+    ∙ (let k : suc (j - (i + 1)) ≡ j - i = omega (arith, lt) in ap (λ n. ns ++ numbers_from i n) k) ∙ h
 
-pub numbers_more : (ns ns' : List ℕ) (i : ℕ) → ns ≡ numbers_from 0 i → ns' ≡ ns ++ i ∷ [] → ns' ≡ numbers_from 0 (i + 1)
-numbers_more ns ns' i e en = en ∙ ap (λ r. r ++ i ∷ []) e ∙ (let z : i ≡ 0 + i = omega arith in ap (λ k. numbers_from 0 i ++ k ∷ []) z) ∙
-    sym (numbers-last 0 i) ∙ ap (numbers_from 0) (sym (add-one i))
-
-pub ruleset numbering = (numbers_more)
+pub number_last : (i j : ℕ) (ns total : List ℕ) → j ≤ i → ns ++ numbers_from i (j - i) ≡ total → ns ≡ total
+number_last i j ns total le h =
+    sym ((let k : j - i ≡ zero = omega (arith, le) in ap (λ n. ns ++ numbers_from i n) k) ∙ append_nil ns) ∙ h
 
 pub whole_is : (s : Followed) (body : Stmts) (scope : List ℕ) (sets : List Set) (value : Set) (j : Jumps) (n : Now) (c : Course)
     (log last : Log) → body ≡ s.method.body →

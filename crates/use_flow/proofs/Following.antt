@@ -15,13 +15,17 @@ use Rattle.jv_core.proofs.ViewLaws.{views}
 use Rattle.use_flow.specs.declared.evaluated.Ways.TheVariants as ways
 use Rattle.use_flow.specs.declared.evaluated.Value.{Value}
 use Rattle.use_flow.specs.declared.evaluated.Arguments.{Arguments}
-use Rattle.use_rules.specs.Elements.{Set}
+use Rattle.use_flow.specs.declared.evaluated.CallForm.{CallForm}
+use Rattle.use_flow.specs.declared.evaluated.CallForm.TheVariants as forms
+use Rattle.use_rules.specs.Elements.{Set, targets}
 use Rattle.use_rules.specs.State.{Now, Log, Argued, joined}
 use Rattle.use_rules.specs.Flow.{Evaluated, NullTest, null_test, alike}
 use Rattle.use_flow.specs.inner.Followed.{Followed, eval, eval_all, width_of}
 use Rattle.use_elements.proofs.Rests.{append_nil}
 use Rattle.use_flow.specs.inner.Values.{yes_of, no_of, evaluated_of, argued_of, settled, parted, both_ways, both_with, either_with, turned}
 use Rattle.use_flow.specs.inner.Values.{behind, null_tested, operands, conjunction, disjunction, called, widths_of}
+use Rattle.use_flow.specs.inner.Values.{protocol_call, helper_call, static_call}
+use Rattle.use_flow.specs.inner.CallForms.{called_as}
 
 -- what is left from an index on
 drop_some : {X : Type 0} (xs : List X) (i : ℕ) (x : X) → Some x ≡ slice_get xs i → drop i xs ≡ x ∷ drop (i + 1) xs
@@ -228,8 +232,16 @@ argued_end s ps es i done now log total le h =
     ∙ no_exprs s (map (width_of s) (map (λ p. p.ty) (drop i ps))) now log)
     ∙ ap (λ (x : List Set). record { sets = x; now = now; log = log }) (append_nil done)) ∙ h
 
+-- where there is no such method
+pub uncalled_as : (s : Followed) (f : CallForm) (n : ℕ) (args : Exprs) (sets : List Set) (log lv : Log) (v : Value) →
+    slice_get s.program.methods n ≡ None → evaluated_of v lv ≡ behind (eval_all s [] args (Some sets) log) →
+    evaluated_of v lv ≡ called_as s f n args sets log
+uncalled_as s (forms.Protocol x) n args sets log lv v e ev = uncalled s sets log n (protocol_call s targets x n) args lv v e ev
+uncalled_as s forms.Helper n args sets log lv v e ev = uncalled s sets log n (helper_call s n) args lv v e ev
+uncalled_as s forms.Static n args sets log lv v e ev = uncalled s sets log n (static_call s n) args lv v e ev
+
 pub ruleset following = (views, binary_tests, binary_other, operands_from, conjunction_from, disjunction_from)
 
-pub ruleset calls = (behind_is, uncalled, called_is)
+pub ruleset calls = (behind_is, uncalled_as)
 
 pub ruleset arguments = (argument_with, argument_without, argued_end)

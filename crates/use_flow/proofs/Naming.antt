@@ -1,16 +1,26 @@
 -- Which methods are named, part by part.
 use Rattle.std.proofs.Common.{◌≡◌, ℕ, ◌+◌, ◌<◌, ◌≤◌, List, [], ◌∷◌, ◌++◌, length, get_or, drop, map, refl, sym, ap, ◌∙◌, append_assoc}
+use Rattle.std.proofs.Common.{◌⊎◌, ⊎_elim}
+use Rattle.std.specs.declared.boxed.Box.{Box}
+use Rattle.std.specs.declared.alloc.Global.{Global}
 use Rattle.std.proofs.lemmas.Grind.{common_steps}
 use Rattle.std.proofs.lemmas.List.{at_drop_more, at_drop_all}
+use Rattle.mg_text.specs.Row.{Row}
 use Rattle.mg_text.specs.declared.place.Place.{Place}
+use Rattle.jv_tree.specs.declared.tree.Op.{Op}
+use Rattle.jv_core.specs.declared.tree.CoreVar.{CoreVar}
 use Rattle.jv_core.specs.declared.tree.CoreExpr.{CoreExpr}
+use Rattle.jv_core.specs.declared.tree.CoreExprKind.{CoreExprKind}
+use Rattle.jv_core.specs.declared.tree.CoreExprKind.TheVariants as E
 use Rattle.jv_core.specs.declared.tree.CoreStmt.{CoreStmt}
+use Rattle.jv_core.specs.Tree.{Expr, Neg, Not, Binary, Equals, Concat, Protocol, Helper, Static}
 use Rattle.jv_core.specs.declared.tree.CoreGroup.{CoreGroup, out-CoreGroup, fold_out-CoreGroup}
 use Rattle.jv_core.specs.Tree.{Stmt, Block, Empty, Local, Assign, If, IfElse, While, Do, Switch, Break, Continue, Return, Print, Eval}
 use Rattle.jv_core.specs.Tree.{Stmts}
 use Rattle.jv_core.specs.View.{expr_of, exprs_of, stmt_of, stmts_of, group_of, groups_of, before, OneGroup, stmt_layer, group_layer}
-use Rattle.jv_core.specs.View.{placed_stmt_layer}
-use Rattle.jv_core.proofs.ViewLaws.{views}
+use Rattle.jv_core.specs.View.{placed_stmt_layer, kind_of}
+use Rattle.jv_core.proofs.ViewLaws.{views, expr_of-is, kind-Neg, kind-Not, kind-Binary, kind-Equals, kind-Concat, kind-Protocol}
+use Rattle.jv_core.proofs.ViewLaws.{kind-Helper, kind-Static}
 use Rattle.use_rules.specs.Reads.{calls_in, calls_in_all, named_in, named_in_all, named_in_groups}
 use Rattle.use_elements.proofs.Rests.{append_nil}
 
@@ -103,5 +113,39 @@ three_named a b c d x y z e f g = then_named a b d x (y ++ z) e (then_named b c 
 
 pub one_named : (a b c : List ℕ) (n : ℕ) (x : List ℕ) → b ≡ a ++ n ∷ [] → c ≡ b ++ x → c ≡ a ++ (n ∷ x)
 one_named a b c n x e f = then_named a b c (n ∷ []) x e f
+
+-- Forms, from what the code has behind their parts.
+
+module _ (x : CoreExpr) (a b : List ℕ) where
+  calls_as : (k : CoreExprKind) (e : Expr) → x.kind ≡ k → kind_of k x.place ≡ e → b ≡ a ++ calls_in e → b ≡ a ++ calls_in (expr_of x)
+  calls_as k e is ek h = h ∙ ap (λ z. a ++ calls_in z) (sym (expr_of-is x ∙ ap (λ (z : CoreExprKind). kind_of z x.place) is ∙ ek))
+
+  pub inner_named : (i : Box CoreExpr Global) (y : CoreExpr) → y ≡ i.value → (x.kind ≡ E.Neg i) ⊎ (x.kind ≡ E.Not i) →
+      b ≡ a ++ calls_in (expr_of y) → b ≡ a ++ calls_in (expr_of x)
+  inner_named i y ey form h =
+      let e = h ∙ ap (λ (z : CoreExpr). a ++ calls_in (expr_of z)) ey in
+      ⊎_elim (λ is. calls_as (E.Neg i) (Neg x.place (expr_of i.value)) is (kind-Neg i x.place) e)
+      (λ is. calls_as (E.Not i) (Not x.place (expr_of i.value)) is (kind-Not i x.place) e) form
+
+  pub both_named : (l r : Box CoreExpr Global) (y z : CoreExpr) → y ≡ l.value → z ≡ r.value →
+      ((o : Op) × x.kind ≡ E.Binary o l r) ⊎ ((x.kind ≡ E.Equals l r) ⊎ (x.kind ≡ E.Concat l r)) →
+      b ≡ a ++ (calls_in (expr_of y) ++ calls_in (expr_of z)) → b ≡ a ++ calls_in (expr_of x)
+  both_named l r y z ey ez form h =
+      let e = h ∙ ap (λ (u : CoreExpr). a ++ (calls_in (expr_of u) ++ calls_in (expr_of z))) ey
+      ∙ ap (λ (u : CoreExpr). a ++ (calls_in (expr_of l.value) ++ calls_in (expr_of u))) ez in
+      ⊎_elim (λ p. calls_as (E.Binary p.0 l r) (Binary x.place p.0 (expr_of l.value) (expr_of r.value)) p.1 (kind-Binary p.0 l r x.place) e)
+      (⊎_elim (λ is. calls_as (E.Equals l r) (Equals x.place (expr_of l.value) (expr_of r.value)) is (kind-Equals l r x.place) e)
+      (λ is. calls_as (E.Concat l r) (Concat x.place (expr_of l.value) (expr_of r.value)) is (kind-Concat l r x.place) e)) form
+
+  pub call_named : (m : ℕ) (args : Row CoreExpr) (given : List CoreExpr) (c : List ℕ) → given ≡ args.items →
+      ((y : CoreVar) × x.kind ≡ E.Protocol y m args) ⊎ ((x.kind ≡ E.Helper m args) ⊎ (x.kind ≡ E.Static m args)) →
+      c ≡ a ++ m ∷ [] → b ≡ c ++ calls_in_all (exprs_of (map expr_of given)) → b ≡ a ++ calls_in (expr_of x)
+  call_named m args given c eg form first h =
+      let all = exprs_of (map expr_of args.items) in
+      let e = then_named a c b (m ∷ []) (calls_in_all all) first
+      (h ∙ ap (λ (ys : List CoreExpr). c ++ calls_in_all (exprs_of (map expr_of ys))) eg) in
+      ⊎_elim (λ p. calls_as (E.Protocol p.0 m args) (Protocol x.place p.0 m all) p.1 (kind-Protocol p.0 m args x.place) e)
+      (⊎_elim (λ is. calls_as (E.Helper m args) (Helper x.place m all) is (kind-Helper m args x.place) e)
+      (λ is. calls_as (E.Static m args) (Static x.place m all) is (kind-Static m args x.place) e)) form
 
 pub ruleset naming = (common_steps, views, then_named, three_named, one_named, append_nil)

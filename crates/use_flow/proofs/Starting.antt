@@ -1,5 +1,5 @@
 -- What a turn of a loop over parameters and other variables does.
-use Rattle.std.proofs.Common.{◌≡◌, ℕ, zero, suc, ◌+◌, ◌<◌, ◌≤◌, List, [], ◌∷◌, ◌++◌, length, get_or, drop, map, replicate, refl, sym, ap}
+use Rattle.std.proofs.Common.{◌≡◌, ℕ, zero, suc, ◌+◌, ◌-◌, ◌<◌, ◌≤◌, List, [], ◌∷◌, ◌++◌, length, get_or, drop, map, replicate, refl, sym, ap}
 use Rattle.std.proofs.Common.{◌∙◌, append_assoc, arith}
 use Rattle.jv_core.specs.declared.program.CoreSlot.{CoreSlot}
 use Rattle.use_rules.specs.Elements.{Set}
@@ -28,18 +28,14 @@ pub ruleset params = (param_taken, params_taken)
 abbrev empty : Set
 empty = []
 
-replicate_more : (n : ℕ) → replicate n empty ++ empty ∷ [] ≡ replicate (n + 1) empty
-replicate_more zero = refl
-replicate_more (suc n) = ap (λ r. empty ∷ r) (replicate_more n) ∙
-    (let e : suc (n + 1) ≡ suc n + 1 = omega arith in ap (λ k. replicate k empty) e)
+-- so many empty sets, one after another
+pub empty_next : (i j : ℕ) (now now' total : List Set) (x : Set) → i < j → x ≡ [] → now' ≡ now ++ x ∷ [] →
+    now ++ replicate (j - i) [] ≡ total → now' ++ replicate (j - (i + 1)) [] ≡ total
+empty_next i j now now' total x lt ex en h =
+    ap (λ y. y ++ replicate (j - (i + 1)) empty) (en ∙ ap (λ y. now ++ y ∷ []) ex)
+    ∙ append_assoc now (empty ∷ []) (replicate (j - (i + 1)) empty)
+    ∙ (let k : suc (j - (i + 1)) ≡ j - i = omega (arith, lt) in ap (λ n. now ++ replicate n empty) k) ∙ h
 
-pub empty_more : (start now now' : List Set) (n : ℕ) (x : Set) → x ≡ [] → now' ≡ now ++ x ∷ [] → now ≡ start ++ replicate n [] →
-    now' ≡ start ++ replicate (n + 1) []
-empty_more start now now' n x ex en h =
-    en ∙ ap (λ y. now ++ y ∷ []) ex ∙ ap (λ y. y ++ [] ∷ []) h ∙ append_assoc start (replicate n []) ([] ∷ []) ∙ ap (λ y. start ++ y)
-    (replicate_more n)
-
-pub append_empty : (start : List Set) → start ≡ start ++ replicate 0 []
-append_empty start = sym (append_nil start)
-
-pub ruleset starts = (append_empty, empty_more)
+pub empty_last : (i j : ℕ) (now total : List Set) → j ≤ i → now ++ replicate (j - i) [] ≡ total → now ≡ total
+empty_last i j now total le h =
+    sym ((let k : j - i ≡ zero = omega (arith, le) in ap (λ n. now ++ replicate n empty) k) ∙ append_nil now) ∙ h

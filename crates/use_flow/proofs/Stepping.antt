@@ -20,7 +20,7 @@ use Rattle.use_flow.specs.inner.Followed.{Followed, eval, heads, at_head}
 use Rattle.use_flow.specs.inner.Jumping.{held}
 use Rattle.use_flow.specs.inner.Simple.{exit, declared}
 use Rattle.use_flow.specs.inner.Stepping.{Follows, both_flows, step, steps, Declared, local_in, declared_by, item, if_flow, if_else_flow}
-use Rattle.use_flow.specs.inner.Stepping.{while_end, while_flow, do_end, do_flow}
+use Rattle.use_flow.specs.inner.Stepping.{Turned, while_end, while_flow, do_end, do_flow}
 use Rattle.use_flow.specs.inner.Values.{parted, both_ways}
 use Rattle.use_elements.proofs.Rests.{append_nil}
 use Rattle.use_flow.proofs.Jumping.{joined-none, held_more, behind-caught, on-caught, loop_held}
@@ -146,14 +146,28 @@ module _ (l : ℕ) (before start end cut behind : Jumps) (around inside : Aside)
       ∙ ap (λ x. either (BehindLoop l) (GoesOn l) to (held before (BehindLoop l)) x (held cut to)) a.around-on
       ∙ ap (either (BehindLoop l) (GoesOn l) to (held before (BehindLoop l)) (held before (GoesOn l))) (a.cuts to))
 
+-- a turn of a loop, from its body
+pub turned : (l : ℕ) (f : Flow) (scope : List ℕ) (j start cut : Jumps) (around inside : Aside) (n end : Now) (c d : Course) →
+    SetsAside l j start c.jumps cut d.jumps around inside → end ≡ joined n inside.going_on → d.scope.items ≡ c.scope.items →
+    log_of d.log ≡ log_of c.log → Follows f scope start n c → Turned l f scope j end inside.behind d
+turned l f scope j start cut around inside n end c d x em kept same a = record {
+  follows = record {
+    now-is = em ∙ ap (λ y. joined y inside.going_on) a.now-is
+        ∙ ap (joined f.now) (on_loop l j start c.jumps cut d.jumps around inside x f.jumps a.jumps);
+    log-is = same ∙ a.log-is;
+    scope-is = kept ∙ a.scope-is;
+    jumps = past_loop l j start c.jumps cut d.jumps around inside x f.jumps a.jumps;
+  };
+  leaves-is = behind_loop l j start c.jumps cut d.jumps around inside x f.jumps a.jumps;
+}
+
 module _ (s : Followed) (out scope : List ℕ) (l : ℕ) (cond' : Expr) (body : Stmt) (sets sets' : List Set) (log la lb : Log)
-    (j start cut : Jumps)
-    (around inside : Aside) (n m end : Now) (c d : Course) (ea : la ≡ heads s l (Some sets) log) (es : sets' ≡ at_head s l sets)
-    (kept : d.scope.items ≡ c.scope.items) (x : SetsAside l j start c.jumps cut d.jumps around inside) (em : end ≡ joined n inside.going_on)
+    (j : Jumps) (m end leaves : Now) (c d : Course) (ea : la ≡ heads s l (Some sets) log) (es : sets' ≡ at_head s l sets)
+    (kept : d.scope.items ≡ c.scope.items) (same : d.jumps ≡ c.jumps)
   where
     pub while_follows : (holds fails : Now) → parted holds fails lb ≡ both_ways (eval s 0 cond' (Some sets') la) →
-        Follows (step s (reverse scope) out body holds lb) scope start n c → log_of d.log ≡ heads s l end (log_of c.log) →
-        m ≡ joined fails inside.behind →
+        Turned l (step s (reverse scope) out body holds lb) scope j end leaves c → log_of d.log ≡ heads s l end (log_of c.log) →
+        m ≡ joined fails leaves →
         Follows (while_flow s (reverse scope) out l cond' body sets log) scope j m d
     while_follows holds fails ev a eh er =
         let f = step s (reverse scope) out body holds lb in
@@ -162,32 +176,29 @@ module _ (s : Followed) (out scope : List ℕ) (l : ℕ) (cond' : Expr) (body : 
         (ap (while_end s (reverse scope) out l body) (ev ∙ ap (λ y. both_ways (eval s 0 cond' (Some y) la)) es ∙
         ap (λ y. both_ways (eval s 0 cond' (Some (at_head s l sets)) y)) ea))
         (record {
-          now-is = er ∙ ap (joined fails) (behind_loop l j start c.jumps cut d.jumps around inside x f.jumps a.jumps);
-          log-is = eh ∙ ap (heads s l end) a.log-is
-              ∙ ap (λ y. heads s l y f.log) (em ∙ ap (λ y. joined y inside.going_on) a.now-is ∙ ap (joined f.now)
-              (on_loop l j start c.jumps cut d.jumps around inside x f.jumps a.jumps));
-          scope-is = kept ∙ a.scope-is;
-          jumps = past_loop l j start c.jumps cut d.jumps around inside x f.jumps a.jumps;
+          now-is = er ∙ ap (joined fails) a.leaves-is;
+          log-is = eh ∙ ap (heads s l end) a.follows.log-is ∙ ap (λ y. heads s l y f.log) a.follows.now-is;
+          scope-is = kept ∙ a.follows.scope-is;
+          jumps = λ to. ap (λ (y : Jumps). held y to) same ∙ a.follows.jumps to;
         })
 
-    pub do_follows : (again fails : Now) → Follows (step s (reverse scope) out body (Some sets') la) scope start n c →
+    pub do_follows : (again fails : Now) → Turned l (step s (reverse scope) out body (Some sets') la) scope j end leaves c →
         parted again fails lb ≡ both_ways (eval s 0 cond' end (log_of c.log)) → log_of d.log ≡ heads s l again lb →
-        m ≡ joined fails inside.behind →
+        m ≡ joined fails leaves →
         Follows (do_flow s (reverse scope) out l body cond' sets log) scope j m d
     do_follows again fails a ev eh er =
         let f = step s (reverse scope) out body (Some sets') la in
         follows_as (do_end s l f.jumps (parted again fails lb)) (do_flow s (reverse scope) out l body cond' sets log) scope j m d
         (ap (do_end s l f.jumps) (ev
-        ∙ ap (λ y. both_ways (eval s 0 cond' y (log_of c.log))) (em ∙ ap (λ y. joined y inside.going_on) a.now-is ∙ ap (joined f.now)
-        (on_loop l j start c.jumps cut d.jumps around inside x f.jumps a.jumps))
-        ∙ ap (λ y. both_ways (eval s 0 cond' (joined f.now (caught (GoesOn l) f.jumps)) y)) a.log-is)
+        ∙ ap (λ y. both_ways (eval s 0 cond' y (log_of c.log))) a.follows.now-is
+        ∙ ap (λ y. both_ways (eval s 0 cond' (joined f.now (caught (GoesOn l) f.jumps)) y)) a.follows.log-is)
         ∙ ap (λ y. from_start (step s (reverse scope) out body (Some y) la)) es ∙
         ap (λ y. from_start (step s (reverse scope) out body (Some (at_head s l sets)) y)) ea)
         (record {
-          now-is = er ∙ ap (joined fails) (behind_loop l j start c.jumps cut d.jumps around inside x f.jumps a.jumps);
+          now-is = er ∙ ap (joined fails) a.leaves-is;
           log-is = eh;
-          scope-is = kept ∙ a.scope-is;
-          jumps = past_loop l j start c.jumps cut d.jumps around inside x f.jumps a.jumps;
+          scope-is = kept ∙ a.follows.scope-is;
+          jumps = λ to. ap (λ (y : Jumps). held y to) same ∙ a.follows.jumps to;
         })
       where
         from_start : Flow → Flow

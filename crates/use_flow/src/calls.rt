@@ -70,6 +70,7 @@ impl<'a> Scene<'a> {
             .context_number(Context::Plain { method: number })?;
         let params = params_of(method);
         self.send_params(alloc, &mut log.outs, context, params, &given)?;
+        drop(given);
         self.send_fields(
             alloc,
             &mut log.outs,

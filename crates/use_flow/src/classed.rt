@@ -1,17 +1,15 @@
 //! Which tables a program has, each with the class of the objects whose elements it has.
 //! They are listed by the fields of each class, by methods, and by contexts.
 
-ghost use Rattle.std.specs.Prelude.{◌≡◌, ◌++◌, map, option_and_then, IfOk, OnOk};
+ghost use Rattle.std.specs.Prelude.{◌≡◌, ◌++◌, map, IfOk, OnOk};
 ghost use Rattle.ts_tree.specs.View.{state_of};
-ghost use Rattle.jv_core.specs.Lookup.{slot_type};
 ghost use Rattle.jv_core.specs.View.{class_of, field_of, loop_of, method_of};
-ghost use Rattle.use_rules.specs.Keys.{class_in};
 ghost use Rattle.use_flow.specs.inner.Fields.{key_in};
 ghost use Rattle.use_flow.specs.inner.Listing as listing;
 
 use crate::arguments::{method_at, params_of};
 use crate::fields::{FieldTable, key_of, number};
-use crate::scene::{class_at, class_in, typestate_of};
+use crate::scene::{class_at, class_in, slot_class, typestate_of};
 use crate::types::method_in;
 use crate::{Context, TableKey};
 use jv_core::{Core, CoreClass, CoreField, CoreLoop, CoreMethod, CoreSlot, MethodKind};
@@ -20,7 +18,7 @@ use std::alloc::Global;
 use ts_tree::State;
 
 /// A table, and the class of its objects.
-#[derive(Clone, Copy, Debug)]
+#[derive(Clone, Copy)]
 pub(crate) struct Entry {
     pub key: TableKey,
     pub class: u32,
@@ -35,10 +33,10 @@ pub(crate) fn add(
 ) -> Result<(), Memory>
     ensures { OnOk result (entries.new.items ≡ entries.old.items ++ listing.entry_if key class) }
 {
-    if let Some(class) = class {
-        entries.push(Entry { key, class })?;
+    match class {
+        Some(class) => entries.push(Entry { key, class }),
+        None => Ok(()),
     }
-    Ok(())
 }
 
 // Appends the tables of these fields.
@@ -182,17 +180,6 @@ pub(crate) fn add_params(
     Ok(())
 }
 
-// The class of the objects of a slot.
-#[tactic(auto, using(crate::proofs::Scenes::scenes))]
-fn slot_class(method: &CoreMethod, slot: u32) -> Option<u32>
-    ensures { result ≡ option_and_then class_in (slot_type (method_of method.now) slot) }
-{
-    match method.slots.as_slice().get(slot as usize) {
-        Some(slot) => class_in(slot.ty),
-        None => None,
-    }
-}
-
 // Appends the tables of the slots in scope at the head of a loop.
 #[tactic(auto, using(crate::proofs::Adding::slots))]
 pub(crate) fn add_scope(
@@ -256,8 +243,7 @@ fn add_loop(
         (method_of method.now) loop_number (loop_of head.now)) }
 {
     add_scope(entries, method, context, loop_number, head.scope.as_slice())?;
-    add_head(core, entries, method, context, loop_number)?;
-    Ok(())
+    add_head(core, entries, method, context, loop_number)
 }
 
 // Appends the tables of the loops of a context.
@@ -296,8 +282,7 @@ fn add_context(
         TableKey::Result { context },
         class_in(method.result),
     )?;
-    add_loops(core, entries, method, context, method.loops.as_slice())?;
-    Ok(())
+    add_loops(core, entries, method, context, method.loops.as_slice())
 }
 
 // Appends the tables of a context, by its method.

@@ -28,18 +28,6 @@ pub(crate) struct Course {
     pub log: Flow,
 }
 
-// The same slots once more.
-#[tactic(auto, using(crate::proofs::Coursing::copies))]
-pub(crate) fn copy_slots(alloc: Global, scope: &[u32]) -> Result<Vec<u32>, Memory>
-    ensures { IfOk result (λ v. v.items ≡ scope.now) }
-{
-    let mut copy = Vec::new(alloc);
-    for slot in scope {
-        copy.push(*slot)?;
-    }
-    Ok(copy)
-}
-
 // The slots that stay, as a set of this width.
 #[tactic(auto, using(crate::proofs::Coursing::stays))]
 fn staying(alloc: Global, width: usize, stays: &[u32]) -> Result<StateSet, Memory>
@@ -137,9 +125,6 @@ impl<'a> Scene<'a> {
             (jump_flow (seen self.now) place (lead_of lead) (scope_of course.old) (loop_scope (seen self.now) number) sets
             (log_of course.old.log)) course.old.scope.items course.old.jumps n course.new) }
     {
-        match self.loop_at(number) {
-            Some(found) => self.jump(alloc, place, lead, found.scope.as_slice(), sets, course),
-            None => self.jump(alloc, place, lead, &[], sets, course),
-        }
+        self.jump(alloc, place, lead, self.loop_scope(number), sets, course)
     }
 }

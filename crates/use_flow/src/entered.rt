@@ -17,7 +17,7 @@ use crate::Context;
 use crate::calling::offers;
 use crate::fields::number;
 use crate::scene::{class_at, typestate_of};
-use jv_core::{Core, CoreMethod, MethodKind};
+use jv_core::{Core, CoreMethod, MethodKind, name_text};
 use mg_sets::StateSet;
 use mg_text::{List, Memory};
 use std::alloc::Global;
@@ -106,12 +106,8 @@ fn add_protocol(
         return Ok(());
     };
     let typestate = typestate_of(core, method.class);
-    let names = core.names();
-    if (method.name.0 as usize) < names.len() {
-        let name = names.text(method.name);
-        return add_states(contexts, method_number, method.class, typestate, name, set);
-    }
-    add_states(contexts, method_number, method.class, typestate, "", set)
+    let name = name_text(core, method.name);
+    add_states(contexts, method_number, method.class, typestate, name, set)
 }
 
 // Appends the contexts of a method.

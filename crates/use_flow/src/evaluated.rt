@@ -6,7 +6,7 @@ ghost use Rattle.use_rules.specs.Elements.{marked, none};
 ghost use Rattle.use_rules.specs.State.{joined};
 ghost use Rattle.use_flow.specs.inner.Values.{yes_of, no_of};
 
-use jv_core::Var;
+use jv_core::{CoreVar, Var};
 use mg_sets::StateSet;
 use mg_text::Memory;
 use std::alloc::Global;
@@ -34,10 +34,18 @@ pub(crate) struct Arguments {
 }
 
 /// A variable that is tested for null, and whether the test holds where it is null.
-#[derive(Clone, Copy, Debug)]
+#[derive(Clone, Copy)]
 pub(crate) struct NullTest {
     pub variable: Var,
     pub holds: bool,
+}
+
+/// What a method is called on: a variable, the own object, or nothing.
+#[derive(Clone, Copy)]
+pub(crate) enum CallForm {
+    Protocol(CoreVar),
+    Helper,
+    Static,
 }
 
 impl Ways {

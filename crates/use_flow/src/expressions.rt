@@ -7,16 +7,17 @@ ghost use Rattle.use_rules.specs.Flow.{alike};
 ghost use Rattle.use_rules.specs.State.{Log};
 ghost use Rattle.use_flow.specs.View.{log_of};
 ghost use Rattle.use_flow.specs.inner.Followed.{seen, eval, eval_all, width_of};
-ghost use Rattle.use_flow.specs.inner.Values.{evaluated_of, argued_of, test_of, called_protocol, called_static, called_helper, null_tested};
-ghost use Rattle.use_flow.specs.inner.Values.{read, settled, parted, both_ways, both_with, either_with, opposite, behind};
+ghost use Rattle.use_flow.specs.inner.CallForms.{called_as};
+ghost use Rattle.use_flow.specs.inner.Values.{evaluated_of, argued_of, test_of, null_tested, operands, conjunction, disjunction};
+ghost use Rattle.use_flow.specs.inner.Values.{read, settled, parted, both_ways, opposite, behind};
 
 use crate::Flow;
 use crate::arguments::{method_at, params_of};
 use crate::calling::begin_of;
-use crate::evaluated::{Arguments, NullTest, Value, Ways};
+use crate::evaluated::{Arguments, CallForm, NullTest, Value, Ways};
 use crate::null_tests::null_test;
-use crate::scene::{Scene, typestate_of};
-use jv_core::{CoreExpr, CoreExprKind, CoreOp, CoreSlot, CoreVar, Var};
+use crate::scene::{Scene, elements_in, typestate_of};
+use jv_core::{CoreExpr, CoreExprKind, CoreOp, CoreSlot, Var};
 use mg_text::{Memory, Place};
 use std::alloc::Global;
 use use_elements::{Mapping, Sets, meet};
@@ -74,9 +75,9 @@ impl<'a> Scene<'a> {
             (log_of log.old)) }
     {
         match &expr.kind {
-            CoreExprKind::Int(_) => Value::plain(alloc, Some(sets)),
-            CoreExprKind::Text(_) => Value::plain(alloc, Some(sets)),
-            CoreExprKind::Constant { .. } => Value::plain(alloc, Some(sets)),
+            CoreExprKind::Int(_) | CoreExprKind::Text(_) | CoreExprKind::Constant { .. } => {
+                Value::plain(alloc, Some(sets))
+            }
             CoreExprKind::Truth(holds) => {
                 if *holds {
                     return Value::apart(alloc, Some(sets), None);
@@ -86,37 +87,26 @@ impl<'a> Scene<'a> {
             CoreExprKind::Null => Value::single(alloc, width, 0, sets),
             CoreExprKind::New(class) => {
                 let begin = begin_of(typestate_of(self.core, *class));
-                Value::single(alloc, self.elements_of(*class), begin, sets)
+                Value::single(alloc, elements_in(self.core, *class), begin, sets)
             }
             CoreExprKind::Var(variable) => {
                 self.read_value(alloc, expr.place, *variable, sets, log)
             }
-            CoreExprKind::Neg(inner) => self.eval_last(alloc, inner, Some(sets), log),
+            CoreExprKind::Neg(inner) => {
+                let now = self.eval_past(alloc, inner, Some(sets), log)?;
+                Value::plain(alloc, now)
+            }
             CoreExprKind::Not(inner) => self.eval_not(alloc, inner, sets, log),
             CoreExprKind::Binary(op, left, right) => match null_test(*op, left, right) {
                 Some(test) => self.null_tested(alloc, test, sets),
                 None => match op {
-                    CoreOp::And => {
-                        let (holds, fails) = self.eval_ways(alloc, left, Some(sets), log)?;
-                        self.eval_and(alloc, right, holds, fails, log)
-                    }
-                    CoreOp::Or => {
-                        let (holds, fails) = self.eval_ways(alloc, left, Some(sets), log)?;
-                        self.eval_or(alloc, right, holds, fails, log)
-                    }
-                    _ => {
-                        let now = self.eval_past(alloc, left, Some(sets), log)?;
-                        self.eval_last(alloc, right, now, log)
-                    }
+                    CoreOp::And => self.eval_and(alloc, left, right, sets, log),
+                    CoreOp::Or => self.eval_or(alloc, left, right, sets, log),
+                    _ => self.eval_both(alloc, left, right, sets, log),
                 },
             },
-            CoreExprKind::Equals(left, right) => {
-                let now = self.eval_past(alloc, left, Some(sets), log)?;
-                self.eval_last(alloc, right, now, log)
-            }
-            CoreExprKind::Concat(left, right) => {
-                let now = self.eval_past(alloc, left, Some(sets), log)?;
-                self.eval_last(alloc, right, now, log)
+            CoreExprKind::Equals(left, right) | CoreExprKind::Concat(left, right) => {
+                self.eval_both(alloc, left, right, sets, log)
             }
             CoreExprKind::Session { args, .. } => {
                 self.eval_session(alloc, args.as_slice(), sets, log)
@@ -125,12 +115,15 @@ impl<'a> Scene<'a> {
                 receiver,
                 method,
                 args,
-            } => self.eval_protocol(alloc, *receiver, *method, args.as_slice(), sets, log),
+            } => {
+                let form = CallForm::Protocol(*receiver);
+                self.eval_call(alloc, form, *method, args.as_slice(), sets, log)
+            }
             CoreExprKind::Helper { method, args } => {
-                self.eval_helper(alloc, *method, args.as_slice(), sets, log)
+                self.eval_call(alloc, CallForm::Helper, *method, args.as_slice(), sets, log)
             }
             CoreExprKind::Static { method, args } => {
-                self.eval_static(alloc, *method, args.as_slice(), sets, log)
+                self.eval_call(alloc, CallForm::Static, *method, args.as_slice(), sets, log)
             }
         }
     }
@@ -152,20 +145,22 @@ impl<'a> Scene<'a> {
         ways.after()
     }
 
-    // The last operand, where neither the operands nor the value have an object.
+    // Two operands, one after the other, where neither they nor the value have an object.
     #[cycle(expressions)]
-    fn eval_last(
+    fn eval_both(
         &self,
         alloc: Global,
-        expr: &CoreExpr,
-        now: Option<Sets>,
+        left: &CoreExpr,
+        right: &CoreExpr,
+        sets: Sets,
         log: &mut Flow,
     ) -> Result<Value, Memory>
         ensures { IfOk result (λ v. evaluated_of v (log_of log.new)
-            ≡ settled (eval (seen self.now) 0 (expr_of expr.now) now (log_of log.old))) }
+            ≡ operands (seen self.now) (expr_of left.now) (expr_of right.now) sets (log_of log.old)) }
     {
-        let now = self.eval_past(alloc, expr, now, log)?;
-        Value::plain(alloc, now)
+        let now = self.eval_past(alloc, left, Some(sets), log)?;
+        let behind = self.eval_past(alloc, right, now, log)?;
+        Value::plain(alloc, behind)
     }
 
     // Where a condition holds, and where it doesn't.
@@ -200,40 +195,42 @@ impl<'a> Scene<'a> {
         Value::apart(alloc, fails, holds)
     }
 
-    // The second operand of `&&`, evaluated where the first holds.
+    // The operands of `&&`: the second is evaluated where the first holds.
     #[cycle(expressions)]
     fn eval_and(
         &self,
         alloc: Global,
+        left: &CoreExpr,
         right: &CoreExpr,
-        holds: Option<Sets>,
-        fails: Option<Sets>,
+        sets: Sets,
         log: &mut Flow,
     ) -> Result<Value, Memory>
-        ensures { IfOk result (λ v. evaluated_of v (log_of log.new) ≡ both_with fails
-            (eval (seen self.now) 0 (expr_of right.now) holds (log_of log.old))) }
+        ensures { IfOk result (λ v. evaluated_of v (log_of log.new)
+            ≡ conjunction (seen self.now) (expr_of left.now) (expr_of right.now) sets (log_of log.old)) }
     {
+        let (holds, fails) = self.eval_ways(alloc, left, Some(sets), log)?;
         let (both, neither) = self.eval_ways(alloc, right, holds, log)?;
         let fails = meet(fails, neither)?;
         Value::apart(alloc, both, fails)
     }
 
-    // The second operand of `||`, evaluated where the first doesn't hold.
+    // The operands of `||`: the second is evaluated where the first doesn't hold.
     #[cycle(expressions)]
     fn eval_or(
         &self,
         alloc: Global,
+        left: &CoreExpr,
         right: &CoreExpr,
-        holds: Option<Sets>,
-        fails: Option<Sets>,
+        sets: Sets,
         log: &mut Flow,
     ) -> Result<Value, Memory>
-        ensures { IfOk result (λ v. evaluated_of v (log_of log.new) ≡ either_with holds
-            (eval (seen self.now) 0 (expr_of right.now) fails (log_of log.old))) }
+        ensures { IfOk result (λ v. evaluated_of v (log_of log.new)
+            ≡ disjunction (seen self.now) (expr_of left.now) (expr_of right.now) sets (log_of log.old)) }
     {
+        let (holds, fails) = self.eval_ways(alloc, left, Some(sets), log)?;
         let (either, neither) = self.eval_ways(alloc, right, fails, log)?;
-        let holds = meet(holds, either)?;
-        Value::apart(alloc, holds, neither)
+        let now = meet(holds, either)?;
+        Value::apart(alloc, now, neither)
     }
 
     // A call that takes no object.
@@ -300,67 +297,31 @@ impl<'a> Scene<'a> {
         Ok(Arguments { sets, now })
     }
 
-    // A call of a protocol method.
+    // A call of a method, behind its arguments.
     #[tactic(auto, using(crate::proofs::Following::calls))]
     #[cycle(expressions)]
-    fn eval_protocol(
+    fn eval_call(
         &self,
         alloc: Global,
-        receiver: CoreVar,
+        form: CallForm,
         method: u32,
         args: &[CoreExpr],
         sets: Sets,
         log: &mut Flow,
     ) -> Result<Value, Memory>
-        ensures { IfOk result (λ v. evaluated_of v (log_of log.new) ≡ called_protocol (seen self.now) receiver method
+        ensures { IfOk result (λ v. evaluated_of v (log_of log.new) ≡ called_as (seen self.now) form method
             (exprs_of (map expr_of args.now)) sets (log_of log.old)) }
     {
         let Some(called) = method_at(self.core, method) else {
             return self.eval_session(alloc, args, sets, log);
         };
         let args = self.eval_all(alloc, params_of(called), args, Some(sets), log)?;
-        self.protocol_call(alloc, receiver, method, called, args, log)
-    }
-
-    // A call of a helper.
-    #[tactic(auto, using(crate::proofs::Following::calls))]
-    #[cycle(expressions)]
-    fn eval_helper(
-        &self,
-        alloc: Global,
-        method: u32,
-        args: &[CoreExpr],
-        sets: Sets,
-        log: &mut Flow,
-    ) -> Result<Value, Memory>
-        ensures { IfOk result (λ v. evaluated_of v (log_of log.new) ≡ called_helper (seen self.now) method (exprs_of (map expr_of args.now))
-            sets (log_of log.old)) }
-    {
-        let Some(called) = method_at(self.core, method) else {
-            return self.eval_session(alloc, args, sets, log);
-        };
-        let args = self.eval_all(alloc, params_of(called), args, Some(sets), log)?;
-        self.helper_call(alloc, method, called, args, log)
-    }
-
-    // A call of a static method.
-    #[tactic(auto, using(crate::proofs::Following::calls))]
-    #[cycle(expressions)]
-    fn eval_static(
-        &self,
-        alloc: Global,
-        method: u32,
-        args: &[CoreExpr],
-        sets: Sets,
-        log: &mut Flow,
-    ) -> Result<Value, Memory>
-        ensures { IfOk result (λ v. evaluated_of v (log_of log.new) ≡ called_static (seen self.now) method (exprs_of (map expr_of args.now))
-            sets (log_of log.old)) }
-    {
-        let Some(called) = method_at(self.core, method) else {
-            return self.eval_session(alloc, args, sets, log);
-        };
-        let args = self.eval_all(alloc, params_of(called), args, Some(sets), log)?;
-        self.static_call(alloc, method, called, args, log)
+        match form {
+            CallForm::Protocol(receiver) => {
+                self.protocol_call(alloc, receiver, method, called, args, log)
+            }
+            CallForm::Helper => self.helper_call(alloc, method, called, args, log),
+            CallForm::Static => self.static_call(alloc, method, called, args, log),
+        }
     }
 }

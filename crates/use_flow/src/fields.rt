@@ -1,14 +1,12 @@
 //! The own fields of the object that a method runs on, and the tables that they flow into.
 //! A field that has no objects has no table.
 
-ghost use Rattle.std.specs.Prelude.{◌≡◌, ◌+◌, ◌++◌, ◌∷◌, [], map, slice_index_or, IfOk, OnOk};
-ghost use Rattle.jv_core.specs.View.{field_of};
+ghost use Rattle.std.specs.Prelude.{◌≡◌, ◌+◌, ◌++◌, ◌∷◌, [], slice_index_or, IfOk, OnOk};
 ghost use Rattle.use_flow.specs.inner.Fields.{key_in, outs_in};
-ghost use Rattle.use_flow.specs.inner.Followed.{seen, field_outs, field_outs_from, with_fields, with_fields_from};
+ghost use Rattle.use_flow.specs.inner.Followed.{seen, field_outs, with_fields};
 
 use crate::scene::{Scene, class_in};
 use crate::{Out, TableKey};
-use jv_core::CoreField;
 use mg_sets::StateSet;
 use mg_text::{List, Memory};
 use std::alloc::Global;
@@ -16,7 +14,7 @@ use use_elements::{Sets, copy_set, empty_set};
 
 /// The tables of the fields of an object: in a state, where a helper is entered or left, or at the
 /// head of a loop, where fields stand behind so many slots.
-#[derive(Clone, Copy, Debug)]
+#[derive(Clone, Copy)]
 pub enum FieldTable {
     State {
         class: u32,
@@ -68,29 +66,21 @@ pub fn sum(n: usize, m: usize) -> Result<usize, Memory>
 pub fn key_of(table: FieldTable, field: usize) -> Result<TableKey, Memory>
     ensures { IfOk result (λ k. k ≡ key_in table field) }
 {
+    let field = number(field)?;
     match table {
-        FieldTable::State { class, state } => {
-            let field = number(field)?;
-            Ok(TableKey::Field {
-                class,
-                state,
-                field,
-            })
-        }
-        FieldTable::Enter { method } => {
-            let field = number(field)?;
-            Ok(TableKey::Enter { method, field })
-        }
-        FieldTable::Leave { method } => {
-            let field = number(field)?;
-            Ok(TableKey::Leave { method, field })
-        }
+        FieldTable::State { class, state } => Ok(TableKey::Field {
+            class,
+            state,
+            field,
+        }),
+        FieldTable::Enter { method } => Ok(TableKey::Enter { method, field }),
+        FieldTable::Leave { method } => Ok(TableKey::Leave { method, field }),
         FieldTable::Head {
             context,
             number: loop_number,
             slots,
         } => {
-            let at = sum(slots, field)?;
+            let at = sum(slots, field as usize)?;
             let slot = number(at)?;
             Ok(TableKey::Loop {
                 context,
@@ -105,8 +95,7 @@ pub fn key_of(table: FieldTable, field: usize) -> Result<TableKey, Memory>
 pub(crate) fn send(outs: &mut List<Out>, key: TableKey, set: StateSet) -> Result<(), Memory>
     ensures { OnOk result (outs_in outs.new.items ≡ outs_in outs.old.items ++ record { key = key; set = set } ∷ []) }
 {
-    outs.push(Out { key, set })?;
-    Ok(())
+    outs.push(Out { key, set })
 }
 
 // A copy of the set at a place.
@@ -121,19 +110,18 @@ pub(crate) fn copy_at(alloc: Global, sets: &Sets, at: usize) -> Result<StateSet,
 }
 
 impl<'a> Scene<'a> {
-    // Appends what flows of these fields, each into its table.
+    // Appends what flows of the own fields, each into its table.
     #[tactic(auto, using(crate::proofs::Turns::fields))]
-    fn send_these(
+    pub(crate) fn send_fields(
         &self,
         alloc: Global,
         outs: &mut List<Out>,
         table: FieldTable,
-        fields: &[CoreField],
         sets: &Sets,
     ) -> Result<(), Memory>
-        ensures { OnOk result (outs_in outs.new.items ≡ outs_in outs.old.items ++ field_outs_from (seen self.now) (key_in table) 0
-            (map field_of fields.now) sets.now) }
+        ensures { OnOk result (outs_in outs.new.items ≡ outs_in outs.old.items ++ field_outs (seen self.now) (key_in table) sets.now) }
     {
+        let fields = self.own_fields();
         for field in 0..fields.len() {
             if class_in(fields[field].ty).is_none() {
                 continue;
@@ -146,33 +134,17 @@ impl<'a> Scene<'a> {
         Ok(())
     }
 
-    // Appends what flows of the own fields, each into its table.
-    pub(crate) fn send_fields(
-        &self,
-        alloc: Global,
-        outs: &mut List<Out>,
-        table: FieldTable,
-        sets: &Sets,
-    ) -> Result<(), Memory>
-        ensures { OnOk result (outs_in outs.new.items ≡ outs_in outs.old.items ++ field_outs (seen self.now) (key_in table) sets.now) }
-    {
-        match self.own_class() {
-            Some(class) => self.send_these(alloc, outs, table, class.fields.as_slice(), sets),
-            None => Ok(()),
-        }
-    }
-
-    // Gives these fields what their tables have.
+    // Gives the own fields what their tables have.
     #[tactic(auto, using(crate::proofs::Turns::filled))]
-    fn fill_these(
+    pub(crate) fn fill_fields(
         &self,
         alloc: Global,
         table: FieldTable,
-        fields: &[CoreField],
         sets: &mut Sets,
     ) -> Result<(), Memory>
-        ensures { OnOk result (sets.new ≡ with_fields_from (seen self.now) (key_in table) 0 (map field_of fields.now) sets.old) }
+        ensures { OnOk result (sets.new ≡ with_fields (seen self.now) (key_in table) sets.old) }
     {
+        let fields = self.own_fields();
         for field in 0..fields.len() {
             if class_in(fields[field].ty).is_none() {
                 continue;
@@ -183,20 +155,5 @@ impl<'a> Scene<'a> {
             sets.put(at, set);
         }
         Ok(())
-    }
-
-    // Gives the own fields what their tables have.
-    pub(crate) fn fill_fields(
-        &self,
-        alloc: Global,
-        table: FieldTable,
-        sets: &mut Sets,
-    ) -> Result<(), Memory>
-        ensures { OnOk result (sets.new ≡ with_fields (seen self.now) (key_in table) sets.old) }
-    {
-        match self.own_class() {
-            Some(class) => self.fill_these(alloc, table, class.fields.as_slice(), sets),
-            None => Ok(()),
-        }
     }
 }

@@ -27,6 +27,7 @@ use use_elements::empty_set;
 ///
 /// # Errors
 /// `Memory` only.
+#[tactic(auto, using(crate::proofs::Flowing::flowing))]
 pub fn flow(
     alloc: Global,
     core: &Core,
@@ -40,16 +41,6 @@ pub fn flow(
     ensures counts { IsOneMore follows.old follows.new }
 {
     follows.raise();
-    follow(alloc, core, tables, context)
-}
-
-// What flows out of a context, and what fails in it.
-#[tactic(auto, using(crate::proofs::Flowing::flowing))]
-fn follow(alloc: Global, core: &Core, tables: &Tables, context: Context) -> Result<Flow, Memory>
-    requires { AreFor core.now tables.now }
-    ensures flows { IfOk result (λ f. log_of f ≡ flow_of core.now (reached_of tables.now) (tables_of tables.now) context) }
-    ensures core { ∥ IsCore core.now ∥₁ }
-{
     let Some(method) = method_at(core, method_in(context)) else {
         return Ok(quiet(alloc));
     };
@@ -73,7 +64,6 @@ fn quiet(alloc: Global) -> Flow
 }
 
 // The numbers of the parameters.
-#[tactic(auto, using(crate::proofs::Flowing::numbering))]
 fn numbers(alloc: Global, count: u32) -> Result<Vec<u32>, Memory>
     ensures { IfOk result (λ v. v.items ≡ numbers_from 0 count) }
 {

@@ -1,17 +1,16 @@
 //! The heads of loops, each with a table for each variable in scope.
 //! What flows to a head flows into its tables, and what is known there is what they have.
 
-ghost use Rattle.std.specs.Prelude.{◌≡◌, ◌++◌, [], Some, option_map, slice_get, if◌then◌else◌, IfOk, OnOk};
-ghost use Rattle.jv_core.specs.View.{loop_of};
+ghost use Rattle.std.specs.Prelude.{◌≡◌, ◌++◌, [], Some, if◌then◌else◌, IfOk, OnOk};
 ghost use Rattle.use_flow.specs.View.{log_of};
 ghost use Rattle.use_flow.specs.inner.Fields.{key_in, outs_in};
-ghost use Rattle.use_flow.specs.inner.Followed.{seen, here, slot_class, slot_heads, has_fields, heads, field_head, field_outs, loop_scope};
+ghost use Rattle.use_flow.specs.inner.Followed.{seen, here, slot_heads, has_fields, heads, field_head, field_outs, loop_scope};
 ghost use Rattle.use_flow.specs.inner.Followed.{slots_at, at_head};
 
 use crate::fields::{FieldTable, copy_at, send};
-use crate::scene::{Scene, class_in};
+use crate::scene::{Scene, slot_class};
 use crate::{Flow, Out, TableKey};
-use jv_core::{CoreLoop, MethodKind};
+use jv_core::MethodKind;
 use mg_text::{List, Memory};
 use std::alloc::Global;
 use use_elements::Sets;
@@ -34,19 +33,15 @@ impl<'a> Scene<'a> {
         }
     }
 
-    // A loop of the method.
+    // The slots in scope at the head of a loop.
     #[tactic(auto, using(crate::proofs::Scenes::scenes))]
-    pub(crate) fn loop_at(&self, number: u32) -> Option<&CoreLoop>
-        ensures { option_map (λ l. loop_of l.now) result ≡ slice_get (seen self.now).method.loops number }
+    pub(crate) fn loop_scope(&self, number: u32) -> &[u32]
+        ensures { result.now ≡ loop_scope (seen self.now) number }
     {
-        self.method.loops.as_slice().get(number as usize)
-    }
-
-    // The class of the objects of a slot.
-    fn slot_class(&self, slot: u32) -> Option<u32>
-        ensures { result ≡ slot_class (seen self.now) slot }
-    {
-        class_in(self.slot_type(slot)?)
+        match self.method.loops.as_slice().get(number as usize) {
+            Some(found) => found.scope.as_slice(),
+            None => &[],
+        }
     }
 
     // Appends what flows of these slots to the head of a loop.
@@ -64,7 +59,7 @@ impl<'a> Scene<'a> {
         ensures { OnOk result (outs_in outs.new.items ≡ outs_in outs.old.items ++ slot_heads (seen self.now) number slots.now sets.now) }
     {
         for slot in slots {
-            if self.slot_class(*slot).is_none() {
+            if slot_class(self.method, *slot).is_none() {
                 continue;
             }
             let set = copy_at(alloc, sets, *slot as usize)?;
@@ -76,28 +71,6 @@ impl<'a> Scene<'a> {
             send(outs, key, set)?;
         }
         Ok(())
-    }
-
-    // Appends what flows of the slots in scope to the head of a loop.
-    #[tactic(auto, using(crate::proofs::Scenes::scenes))]
-    fn send_scope(
-        &self,
-        alloc: Global,
-        outs: &mut List<Out>,
-        context: u32,
-        number: u32,
-        sets: &Sets,
-    ) -> Result<(), Memory>
-        requires { context ≡ here (seen self.now) }
-        ensures { OnOk result (outs_in outs.new.items ≡ outs_in outs.old.items ++ slot_heads (seen self.now) number
-            (loop_scope (seen self.now) number) sets.now) }
-    {
-        match self.loop_at(number) {
-            Some(found) => {
-                self.send_slots(alloc, outs, context, number, found.scope.as_slice(), sets)
-            }
-            None => Ok(()),
-        }
     }
 
     // Appends what flows of the fields of the object that the method runs on, if it does.
@@ -142,10 +115,10 @@ impl<'a> Scene<'a> {
         ensures { OnOk result (log_of log.new ≡ heads (seen self.now) number (Some sets.now) (log_of log.old)) }
     {
         let context = self.here()?;
-        self.send_scope(alloc, &mut log.outs, context, number, sets)?;
+        let slots = self.loop_scope(number);
+        self.send_slots(alloc, &mut log.outs, context, number, slots, sets)?;
         let table = self.head_table(context, number);
-        self.send_own(alloc, &mut log.outs, table, sets)?;
-        Ok(())
+        self.send_own(alloc, &mut log.outs, table, sets)
     }
 
     // Gives these slots what the tables of a head have.
@@ -162,7 +135,7 @@ impl<'a> Scene<'a> {
         ensures { OnOk result (sets.new ≡ slots_at (seen self.now) number slots.now sets.old) }
     {
         for slot in slots {
-            let Some(_class) = self.slot_class(*slot) else {
+            let Some(_class) = slot_class(self.method, *slot) else {
                 continue;
             };
             let key = TableKey::Loop {
@@ -176,36 +149,17 @@ impl<'a> Scene<'a> {
         Ok(())
     }
 
-    // Gives the slots in scope what the tables of a head have.
-    #[tactic(auto, using(crate::proofs::Scenes::scenes))]
-    fn fill_scope(
-        &self,
-        alloc: Global,
-        context: u32,
-        number: u32,
-        sets: &mut Sets,
-    ) -> Result<(), Memory>
-        requires { context ≡ here (seen self.now) }
-        ensures { OnOk result (sets.new ≡ slots_at (seen self.now) number (loop_scope (seen self.now) number) sets.old) }
-    {
-        match self.loop_at(number) {
-            Some(found) => self.fill_slots(alloc, context, number, found.scope.as_slice(), sets),
-            None => Ok(()),
-        }
-    }
-
     // What is known at the head of a loop.
     pub(crate) fn at_head(&self, alloc: Global, number: u32, sets: &mut Sets) -> Result<(), Memory>
         ensures { OnOk result (sets.new ≡ at_head (seen self.now) number sets.old) }
     {
         let context = self.here()?;
-        self.fill_scope(alloc, context, number, sets)?;
+        self.fill_slots(alloc, context, number, self.loop_scope(number), sets)?;
         if !self.has_fields() {
             return Ok(());
         }
         let table = self.head_table(context, number);
-        self.fill_fields(alloc, table, sets)?;
-        Ok(())
+        self.fill_fields(alloc, table, sets)
     }
 
     // What may be known at the end of a turn flows to the head of the loop.

@@ -6,7 +6,6 @@ ghost use Rattle.std.specs.Bool.{OnFalse, OnTrue};
 ghost use Rattle.mg_sets.specs.Sets.{join, members, Grows};
 ghost use Rattle.use_rules.specs.declared.key.TableKey.{TableKey};
 ghost use Rattle.ts_tree.specs.Calls.{initial};
-ghost use Rattle.use_rules.specs.Shapes.{elements_in};
 ghost use Rattle.use_rules.specs.Start.{start_in, start_of, starting};
 ghost use Rattle.use_rules.specs.Keys.{number_of, reached_states, typestate_of};
 ghost use Rattle.use_flow.specs.inner.Entering.{set_or_none};
@@ -18,7 +17,7 @@ use crate::classed::{Entry, entries_of};
 use crate::entered::{contexts_by, reached_in, reached_sets};
 use crate::fields::number;
 use crate::runs::{Runs, runs_by};
-use crate::scene::typestate_of;
+use crate::scene::{elements_in, typestate_of};
 use crate::{Context, TableKey};
 use indexmap::IndexSet;
 use jv_core::Core;
@@ -71,16 +70,6 @@ fn begin_of(core: &Core, class: u32) -> To
     match typestate_of(core, class) {
         Some(typestate) => typestate.initial(),
         None => To::End,
-    }
-}
-
-// How many elements a variable of a class may have.
-fn elements_in(core: &Core, class: u32) -> usize
-    ensures { result ≡ elements_in core.now class }
-{
-    match typestate_of(core, class) {
-        Some(typestate) => 3 + typestate.states.len(),
-        None => 3,
     }
 }
 
@@ -180,8 +169,8 @@ impl Tables {
     {
         let reached = reached_sets(alloc, core)?;
         let contexts = contexts_by(alloc, core, reached.as_slice())?;
-        let numbers = numbered(alloc, contexts.as_slice())?;
         let entries = entries_of(alloc, core, contexts.as_slice())?;
+        let numbers = numbered(alloc, contexts.as_slice())?;
         filled(alloc, core, reached, numbers, entries.as_slice())
     }
 

@@ -10,7 +10,7 @@ use std::alloc::Global;
 use use_elements::{Sets, meet};
 
 /// Where a jump leads: behind the innermost switch, behind a loop, or to where a loop goes on.
-#[derive(Clone, Copy, Debug)]
+#[derive(Clone, Copy)]
 pub(crate) enum Lead {
     BehindSwitch,
     BehindLoop(u32),

@@ -7,7 +7,7 @@ ghost use Rattle.use_flow.specs.inner.Ending.{answer_of, constant_of};
 ghost use Rattle.use_flow.specs.inner.Followed.{seen};
 
 use crate::scene::Scene;
-use jv_core::{CoreExpr, CoreExprKind};
+use jv_core::{CoreExpr, CoreExprKind, name_text};
 
 impl<'a> Scene<'a> {
     // The name of the constant at a position of an enum.
@@ -17,7 +17,7 @@ impl<'a> Scene<'a> {
     {
         let found = self.core.enums().get(of as usize)?;
         let name = found.constants.as_slice().get(position as usize)?;
-        Some(self.text_of(*name))
+        Some(name_text(self.core, *name))
     }
 
     // The label that a value is, if it is a constant.
@@ -25,8 +25,8 @@ impl<'a> Scene<'a> {
     pub(crate) fn label_of(&self, value: &CoreExpr) -> Option<&str>
         ensures { option_map (λ l. l.now) result ≡ answer_of (seen self.now) (Some (expr_of value.now)) }
     {
-        match &value.kind {
-            CoreExprKind::Constant { of, position } => self.constant_at(*of, *position),
+        match value.kind {
+            CoreExprKind::Constant { of, position } => self.constant_at(of, position),
             CoreExprKind::Int(_) | CoreExprKind::Truth(_) | CoreExprKind::Text(_) => None,
             CoreExprKind::Null | CoreExprKind::Var(_) | CoreExprKind::New(_) => None,
             CoreExprKind::Neg(_) | CoreExprKind::Not(_) | CoreExprKind::Binary(_, _, _) => None,

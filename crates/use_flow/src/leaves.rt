@@ -1,36 +1,55 @@
 //! What a method leaves behind at its ends: its variables, its result and the own fields.
 //! Fields go to the states that follow; behind a helper they go to its own tables.
 
-ghost use Rattle.std.specs.Prelude.{◌≡◌, option_map, reverse, OnOk};
+ghost use Rattle.std.specs.Prelude.{◌≡◌, ◌++◌, option_map, reverse, OnOk};
 ghost use Rattle.ts_tree.specs.View.{target_of};
-ghost use Rattle.jv_core.specs.Lookup.{text_at};
 ghost use Rattle.use_flow.specs.View.{log_of};
 ghost use Rattle.use_flow.specs.inner.Calling.{which_of};
 ghost use Rattle.use_flow.specs.inner.Ending.{followed, fields_left, leaves_fields, left};
-ghost use Rattle.use_flow.specs.inner.Followed.{seen};
+ghost use Rattle.use_flow.specs.inner.Fields.{outs_in};
+ghost use Rattle.use_flow.specs.inner.Followed.{seen, own_fields, open_fields, result_out};
 
 use crate::calling::target_at;
 use crate::exits::ends;
-use crate::fields::FieldTable;
-use crate::scene::{Scene, typestate_of};
-use crate::{Context, Flow};
+use crate::fields::{FieldTable, send};
+use crate::scene::{Scene, class_in, typestate_of};
+use crate::{Context, Demand, Flow, Out, TableKey};
+use jv_core::name_text;
 use mg_sets::StateSet;
-use mg_text::{Memory, Name, Place};
+use mg_text::{List, Memory, Place};
 use std::alloc::Global;
 use ts_tree::Target;
 use use_elements::Sets;
 
 impl<'a> Scene<'a> {
-    // The text of a name.
+    // Appends the demands that no own field has a state.
     #[tactic(auto, using(crate::proofs::Scenes::scenes))]
-    pub(crate) fn text_of(&self, name: Name) -> &str
-        ensures { result.now ≡ text_at (seen self.now).program name.0 }
+    fn judge_fields(
+        &self,
+        alloc: Global,
+        failed: &mut List<Demand>,
+        place: Place,
+        sets: &Sets,
+    ) -> Result<(), Memory>
+        ensures { OnOk result (failed.new.items ≡ failed.old.items ++ open_fields (seen self.now) place 0 (own_fields (seen self.now))
+            sets.now) }
     {
-        let names = self.core.names();
-        if (name.0 as usize) < names.len() {
-            return names.text(name);
+        match self.own_class() {
+            Some(class) => { self.judge_these(alloc, failed, place, class.fields.as_slice(), sets) }
+            None => Ok(()),
         }
-        ""
+    }
+
+    // Appends the set of the result, where the method gives objects.
+    #[tactic(auto, using(crate::proofs::Scenes::scenes))]
+    fn send_result(&self, outs: &mut List<Out>, set: StateSet) -> Result<(), Memory>
+        ensures { OnOk result (outs_in outs.new.items ≡ outs_in outs.old.items ++ result_out (seen self.now) set) }
+    {
+        if class_in(self.method.result).is_none() {
+            return Ok(());
+        }
+        let context = self.here()?;
+        send(outs, TableKey::Result { context }, set)
     }
 
     // The fields go to where the target leads; where the object may be left there none may have a state
@@ -71,7 +90,7 @@ impl<'a> Scene<'a> {
         ensures { OnOk result (log_of log.new ≡ fields_left (seen self.now) class
             (followed (seen self.now) class state (option_map (λ l. l.now) label.entry)) place sets.now (log_of log.old)) }
     {
-        let name = self.text_of(self.method.name);
+        let name = name_text(self.core, self.method.name);
         match target_at(typestate_of(self.core, class), name, state as usize) {
             Some(target) => self.leave_target(alloc, log, place, class, target, label, sets),
             None => Ok(()),

@@ -24,7 +24,6 @@ mod named;
 mod null_tests;
 mod out;
 mod read;
-mod returns;
 mod rising;
 mod runs;
 mod scene;

@@ -21,9 +21,9 @@ pub(crate) struct Declaration<'s> {
 pub(crate) fn local_in(statement: &CoreStmt) -> Option<Declaration<'_>>
     ensures { option_map declared_of result ≡ local_in (stmt_of statement.now) }
 {
-    match &statement.kind {
-        CoreStmtKind::Local(slot, value) => Some(Declaration { slot: *slot, value }),
-        CoreStmtKind::If(_, _, otherwise) => match otherwise {
+    match statement.kind {
+        CoreStmtKind::Local(slot, ref value) => Some(Declaration { slot, value }),
+        CoreStmtKind::If(_, _, ref otherwise) => match otherwise {
             Some(_) => None,
             None => None,
         },
@@ -47,14 +47,14 @@ pub(crate) struct Call<'s> {
 pub(crate) fn call_in(value: &CoreExpr) -> Option<Call<'_>>
     ensures { option_map call_of result ≡ call_in (expr_of value.now) }
 {
-    match &value.kind {
+    match value.kind {
         CoreExprKind::Protocol {
             receiver,
             method,
-            args,
+            ref args,
         } => Some(Call {
-            receiver: *receiver,
-            method: *method,
+            receiver,
+            method,
             args: args.as_slice(),
         }),
         CoreExprKind::Int(_) | CoreExprKind::Truth(_) | CoreExprKind::Text(_) => None,

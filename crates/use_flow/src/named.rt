@@ -1,10 +1,12 @@
 //! Which methods the calls of a body name.
-//! They stand in the order of the text, as often as they are named.
+//! They are found in the order of the text, and then stand in rising order, each once.
 
 ghost use Rattle.std.specs.Prelude.{◌≡◌, ◌++◌, map, OnOk, IfOk};
 ghost use Rattle.jv_core.specs.View.{expr_of, exprs_of, stmt_of, stmts_of, group_of, groups_of};
 ghost use Rattle.use_rules.specs.Reads.{calls_in, calls_in_all, named_in, named_in_all, named_in_groups};
+ghost use Rattle.use_flow.specs.inner.Reading.{rising};
 
+use crate::rising::rising;
 use jv_core::{CoreExpr, CoreExprKind, CoreGroup, CoreStmt, CoreStmtKind};
 use mg_text::Memory;
 use std::alloc::Global;
@@ -19,23 +21,16 @@ fn calls_in(named: &mut Vec<u32>, expr: &CoreExpr) -> Result<(), Memory>
         CoreExprKind::Int(_) | CoreExprKind::Truth(_) | CoreExprKind::Text(_) => Ok(()),
         CoreExprKind::Null | CoreExprKind::Var(_) | CoreExprKind::New(_) => Ok(()),
         CoreExprKind::Constant { .. } => Ok(()),
-        CoreExprKind::Neg(inner) => calls_in(named, inner),
-        CoreExprKind::Not(inner) => calls_in(named, inner),
-        CoreExprKind::Binary(_, left, right) => calls_in_two(named, left, right),
-        CoreExprKind::Protocol { method, args, .. } => {
+        CoreExprKind::Neg(inner) | CoreExprKind::Not(inner) => calls_in(named, inner),
+        CoreExprKind::Binary(_, left, right)
+        | CoreExprKind::Equals(left, right)
+        | CoreExprKind::Concat(left, right) => calls_in_two(named, left, right),
+        CoreExprKind::Protocol { method, args, .. }
+        | CoreExprKind::Helper { method, args }
+        | CoreExprKind::Static { method, args } => {
             named.push(*method)?;
             calls_in_all(named, args.as_slice())
         }
-        CoreExprKind::Helper { method, args } => {
-            named.push(*method)?;
-            calls_in_all(named, args.as_slice())
-        }
-        CoreExprKind::Static { method, args } => {
-            named.push(*method)?;
-            calls_in_all(named, args.as_slice())
-        }
-        CoreExprKind::Equals(left, right) => calls_in_two(named, left, right),
-        CoreExprKind::Concat(left, right) => calls_in_two(named, left, right),
         CoreExprKind::Session { args, .. } => calls_in_all(named, args.as_slice()),
     }
 }
@@ -127,11 +122,11 @@ fn named_in_groups(named: &mut Vec<u32>, groups: &[CoreGroup]) -> Result<(), Mem
     Ok(())
 }
 
-// The methods that the calls of a body name.
+// The methods that the calls of a body name, in rising order, each once.
 pub(crate) fn named_by(alloc: Global, body: &[CoreStmt]) -> Result<Vec<u32>, Memory>
-    ensures { IfOk result (λ v. v.items ≡ named_in_all (stmts_of (map stmt_of body.now))) }
+    ensures { IfOk result (λ v. v.items ≡ rising (named_in_all (stmts_of (map stmt_of body.now)))) }
 {
     let mut named = Vec::new(alloc);
     named_in_all(&mut named, body)?;
-    Ok(named)
+    rising(alloc, named.as_slice())
 }

@@ -14,8 +14,8 @@ use jv_core::{CoreExpr, CoreExprKind, CoreOp, Var};
 fn variable_of(expr: &CoreExpr) -> Option<Var>
     ensures { result ≡ variable_in (expr_of expr.now) }
 {
-    match &expr.kind {
-        CoreExprKind::Var(variable) => Some(*variable),
+    match expr.kind {
+        CoreExprKind::Var(variable) => Some(variable),
         CoreExprKind::Int(_) | CoreExprKind::Truth(_) | CoreExprKind::Text(_) => None,
         CoreExprKind::Null | CoreExprKind::Constant { .. } | CoreExprKind::New(_) => None,
         CoreExprKind::Neg(_) | CoreExprKind::Not(_) | CoreExprKind::Binary(_, _, _) => None,
@@ -26,11 +26,10 @@ fn variable_of(expr: &CoreExpr) -> Option<Var>
 }
 
 // Whether an expression is `null`.
-#[tactic(auto, using(crate::proofs::Tested::seen))]
 fn is_null(expr: &CoreExpr) -> bool
     ensures { result ≡ is_null (expr_of expr.now) }
 {
-    match &expr.kind {
+    match expr.kind {
         CoreExprKind::Null => true,
         CoreExprKind::Int(_) | CoreExprKind::Truth(_) | CoreExprKind::Text(_) => false,
         CoreExprKind::Var(_) | CoreExprKind::Constant { .. } | CoreExprKind::New(_) => false,

@@ -170,8 +170,7 @@ fn add_loop(
 {
     let scope = rising(alloc, head.scope.as_slice())?;
     add_scope(entries, method, context, loop_number, scope.as_slice())?;
-    add_head(core, entries, method, context, loop_number)?;
-    Ok(())
+    add_head(core, entries, method, context, loop_number)
 }
 
 // Appends what is known at the heads of these loops.
@@ -202,37 +201,27 @@ fn add_loops(
     Ok(())
 }
 
-// What a method reads in a context of this number.
+// Appends what a method reads in a context of this number.
 #[tactic(auto, using(crate::proofs::Asking::whole))]
-fn entries_read(
+fn add_read(
     alloc: Global,
     core: &Core,
+    entries: &mut List<Entry>,
     runs: &Runs,
     here: u32,
     context: Context,
     method: &CoreMethod,
-) -> Result<List<Entry>, Memory>
-    ensures { IfOk result (λ l. l.items ≡ reading.read_entries core.now (starts_of runs.now) here context
+) -> Result<(), Memory>
+    ensures { OnOk result (entries.new.items ≡ entries.old.items ++ reading.read_entries core.now (starts_of runs.now) here context
         (method_of method.now)) }
 {
     let named = named_by(alloc, method.body.as_slice())?;
-    let named = rising(alloc, named.as_slice())?;
-    let named = named.as_slice();
-    let mut entries = List::new(alloc);
-    add_state(core, &mut entries, context, method)?;
-    add_params(&mut entries, here, params_of(method))?;
-    add_results(core, &mut entries, runs, named)?;
-    add_enter(core, &mut entries, context, method)?;
-    add_leaves(core, &mut entries, named)?;
-    add_loops(
-        alloc,
-        core,
-        &mut entries,
-        method,
-        here,
-        method.loops.as_slice(),
-    )?;
-    Ok(entries)
+    add_state(core, entries, context, method)?;
+    add_params(entries, here, params_of(method))?;
+    add_results(core, entries, runs, named.as_slice())?;
+    add_enter(core, entries, context, method)?;
+    add_leaves(core, entries, named.as_slice())?;
+    add_loops(alloc, core, entries, method, here, method.loops.as_slice())
 }
 
 // The keys of these tables.
@@ -268,7 +257,8 @@ pub fn reads_in(
         return Ok(List::new(alloc));
     };
     let here = tables.context_number(context)?;
-    let entries = entries_read(alloc, core, runs, here, context, method)?;
+    let mut entries = List::new(alloc);
+    add_read(alloc, core, &mut entries, runs, here, context, method)?;
     keys_of(alloc, entries.as_slice())
 }
 

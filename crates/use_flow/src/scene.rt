@@ -1,16 +1,17 @@
 //! What is followed: a context of a program, with its method and the tables as they stand.
 //! Names, types and widths of its variables are found here.
 
-ghost use Rattle.std.specs.Prelude.{◌≡◌, map, option_map, slice_get};
-ghost use Rattle.jv_core.specs.View.{class_of};
+ghost use Rattle.std.specs.Prelude.{◌≡◌, map, option_map, option_and_then, slice_get};
+ghost use Rattle.jv_core.specs.View.{class_of, field_of, method_of};
 ghost use Rattle.jv_core.specs.Lookup.{slot_type, field_type, variable_type};
 ghost use Rattle.use_rules.specs.Keys.{class_in, typestate_of};
-ghost use Rattle.use_flow.specs.inner.Followed.{seen, variable_at, variable_text, class_or_none, variable_class};
-ghost use Rattle.use_flow.specs.inner.Followed.{elements_of, width_of, variable_width};
+ghost use Rattle.use_rules.specs.Shapes.{elements_in};
+ghost use Rattle.use_flow.specs.inner.Followed.{seen, own_fields, variable_at, variable_text, class_or_none, variable_class};
+ghost use Rattle.use_flow.specs.inner.Followed.{width_of, variable_width};
 ghost use Rattle.use_elements.specs.Mappings.{typestate_or_end, title_in};
 
 use crate::{Context, Tables};
-use jv_core::{Core, CoreClass, CoreMethod, CoreType, Var};
+use jv_core::{Core, CoreClass, CoreField, CoreMethod, CoreType, Var};
 use mg_text::Place;
 use ts_tree::Typestate;
 use use_elements::{Subject, Title};
@@ -52,6 +53,34 @@ pub fn typestate_of(core: &Core, class: u32) -> Option<&Typestate>
     core.typestates().get(number as usize)
 }
 
+// How many elements a variable of a class may have.
+pub(crate) fn elements_in(core: &Core, class: u32) -> usize
+    ensures { result ≡ elements_in core.now class }
+{
+    match typestate_of(core, class) {
+        Some(typestate) => 3 + typestate.states.len(),
+        None => 3,
+    }
+}
+
+// The type of a slot of a method.
+#[tactic(auto, using(crate::proofs::Scenes::scenes))]
+fn slot_type(method: &CoreMethod, slot: u32) -> Option<CoreType>
+    ensures { result ≡ slot_type (method_of method.now) slot }
+{
+    match method.slots.as_slice().get(slot as usize) {
+        Some(slot) => Some(slot.ty),
+        None => None,
+    }
+}
+
+// The class of the objects of a slot of a method.
+pub(crate) fn slot_class(method: &CoreMethod, slot: u32) -> Option<u32>
+    ensures { result ≡ option_and_then class_in (slot_type (method_of method.now) slot) }
+{
+    class_in(slot_type(method, slot)?)
+}
+
 impl<'a> Scene<'a> {
     // The class of the method.
     pub(crate) fn own_class(&self) -> Option<&CoreClass>
@@ -60,13 +89,14 @@ impl<'a> Scene<'a> {
         class_at(self.core, self.method.class)
     }
 
-    // How many elements a variable of a class may have.
-    pub(crate) fn elements_of(&self, class: u32) -> usize
-        ensures { result ≡ elements_of (seen self.now) class }
+    // The own fields, if the method runs on an object.
+    #[tactic(auto, using(crate::proofs::Scenes::scenes))]
+    pub(crate) fn own_fields(&self) -> &[CoreField]
+        ensures { map field_of result.now ≡ own_fields (seen self.now) }
     {
-        match typestate_of(self.core, class) {
-            Some(typestate) => 3 + typestate.states.len(),
-            None => 3,
+        match self.own_class() {
+            Some(class) => class.fields.as_slice(),
+            None => &[],
         }
     }
 
@@ -75,19 +105,8 @@ impl<'a> Scene<'a> {
         ensures { result ≡ width_of (seen self.now) ty }
     {
         match class_in(ty) {
-            Some(class) => self.elements_of(class),
+            Some(class) => elements_in(self.core, class),
             None => 0,
-        }
-    }
-
-    // The type of a slot.
-    #[tactic(auto, using(crate::proofs::Scenes::scenes))]
-    pub(crate) fn slot_type(&self, slot: u32) -> Option<CoreType>
-        ensures { result ≡ slot_type (seen self.now).method slot }
-    {
-        match self.method.slots.as_slice().get(slot as usize) {
-            Some(slot) => Some(slot.ty),
-            None => None,
         }
     }
 
@@ -107,7 +126,7 @@ impl<'a> Scene<'a> {
         ensures { result ≡ variable_type (seen self.now).program (seen self.now).method variable }
     {
         match variable {
-            Var::Slot(slot) => self.slot_type(slot),
+            Var::Slot(slot) => slot_type(self.method, slot),
             Var::Field(field) => self.field_type(field),
         }
     }

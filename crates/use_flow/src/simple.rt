@@ -8,12 +8,12 @@ ghost use Rattle.use_rules.specs.State.{Jump};
 ghost use Rattle.use_flow.specs.View.{log_of};
 ghost use Rattle.use_flow.specs.inner.Ending.{left};
 ghost use Rattle.use_flow.specs.inner.Followed.{seen};
-ghost use Rattle.use_flow.specs.inner.Simple.{exit, slot_width, local, declared, assigned, printed, dropped, returned};
+ghost use Rattle.use_flow.specs.inner.Simple.{exit, local, declared, assigned, printed, dropped, returned};
 
 use crate::Flow;
 use crate::evaluated::Value;
 use crate::scene::{Scene, typestate_of};
-use jv_core::{CoreExpr, CoreVar};
+use jv_core::{CoreExpr, CoreVar, Var};
 use mg_sets::StateSet;
 use mg_text::{Memory, Place};
 use std::alloc::Global;
@@ -29,16 +29,6 @@ pub(crate) fn put_in(now: Option<Sets>, variable: usize, set: StateSet) -> Optio
 }
 
 impl<'a> Scene<'a> {
-    // The width of the sets of a slot.
-    fn slot_width(&self, slot: u32) -> usize
-        ensures { result ≡ slot_width (seen self.now) slot }
-    {
-        match self.slot_type(slot) {
-            Some(ty) => self.width_of(ty),
-            None => 0,
-        }
-    }
-
     // Where a scope ends: the slots that are left may have no state, and are empty behind it.
     #[tactic(auto, using(crate::proofs::Simply::exits))]
     pub(crate) fn exit(
@@ -72,7 +62,7 @@ impl<'a> Scene<'a> {
     ) -> Result<Option<Sets>, Memory>
         ensures { IfOk result (λ n. flow n [] (log_of log.new) ≡ declared (seen self.now) slot (expr_of value.now) now (log_of log.old)) }
     {
-        let width = self.slot_width(slot);
+        let width = self.variable_width(Var::Slot(slot));
         let Value { set, ways } = self.eval_now(alloc, width, value, now, log)?;
         let now = ways.after()?;
         Ok(put_in(now, slot as usize, set))
@@ -193,8 +183,7 @@ impl<'a> Scene<'a> {
         let label = self.label_of(value);
         let Value { set, ways } = self.eval(alloc, width, value, sets, log)?;
         let now = ways.after()?;
-        self.leave_method(alloc, place, label, set, scope, now, log)?;
-        Ok(())
+        self.leave_method(alloc, place, label, set, scope, now, log)
     }
 
     // A method is left without a value.
@@ -209,7 +198,6 @@ impl<'a> Scene<'a> {
         ensures { OnOk result (log_of log.new ≡ left (seen self.now) place None [] (reverse scope.now) (Some sets) (log_of log.old)) }
     {
         let value = empty_set(alloc, 0)?;
-        self.leave_method(alloc, place, None, value, scope, Some(sets), log)?;
-        Ok(())
+        self.leave_method(alloc, place, None, value, scope, Some(sets), log)
     }
 }

@@ -59,10 +59,7 @@ impl<'a> Scene<'a> {
     {
         let slots = self.method.slots.len();
         let locals = slots.saturating_sub(self.method.params as usize);
-        match self.own_class() {
-            Some(class) => sum(locals, class.fields.len()),
-            None => Ok(locals),
-        }
+        sum(locals, self.own_fields().len())
     }
 
     // Gives the fields what they have where the context begins.
@@ -83,7 +80,6 @@ impl<'a> Scene<'a> {
     }
 
     // Where the context begins.
-    #[tactic(auto, using(crate::proofs::Starting::starts))]
     pub(crate) fn start(&self, alloc: Global) -> Result<Sets, Memory>
         ensures { IfOk result (λ s. s ≡ start (seen self.now)) }
     {
@@ -96,7 +92,6 @@ impl<'a> Scene<'a> {
 }
 
 // Adds so many empty sets.
-#[tactic(auto, using(crate::proofs::Starting::starts))]
 fn push_empty(alloc: Global, sets: &mut Sets, count: usize) -> Result<(), Memory>
     ensures { OnOk result (sets.new ≡ sets.old ++ replicate count []) }
 {

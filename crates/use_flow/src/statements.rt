@@ -7,10 +7,10 @@ ghost use Rattle.use_flow.specs.View.{log_of};
 ghost use Rattle.use_rules.specs.Flow.{declared_here};
 ghost use Rattle.use_flow.specs.inner.Followed.{seen};
 ghost use Rattle.use_flow.specs.inner.Simple.{exit};
-ghost use Rattle.use_flow.specs.inner.Stepping.{Follows, scope_of, step, steps, local_in, declared_by, item, while_flow, do_flow};
+ghost use Rattle.use_flow.specs.inner.Stepping.{Follows, Turned, scope_of, step, steps, local_in, declared_by, item, while_flow, do_flow};
 ghost use Rattle.use_flow.specs.inner.Switching.{switch_flow, group_flow, follow, rest_of, past_of, nows_of};
 
-use crate::course::{Course, copy_slots};
+use crate::course::Course;
 use crate::jumps::Lead;
 use crate::listed::local_in;
 use crate::scene::Scene;
@@ -118,8 +118,31 @@ impl<'a> Scene<'a> {
         }
     }
 
-    // A loop whose condition comes first. What jumps to a loop of this number from around it is set
-    // aside while the body is followed.
+    // The body of a loop: what is known where its turn ends, and what has jumped behind the loop. What
+    // jumps to a loop of this number from around it is set aside while the body is followed.
+    #[cycle(statements)]
+    fn step_body(
+        &self,
+        alloc: Global,
+        body: &CoreStmt,
+        number: u32,
+        outer: &[u32],
+        now: Option<Sets>,
+        course: &mut Course,
+    ) -> Result<(Option<Sets>, Option<Sets>), Memory>
+        ensures { IfOk result (λ r. Turned number
+            (step (seen self.now) (scope_of course.old) (reverse outer.now) (stmt_of body.now) now (log_of course.old.log))
+            course.old.scope.items course.old.jumps r.0 r.1 course.new) }
+    {
+        let around = course.jumps.set_aside(number);
+        let now = self.step_now(alloc, body, outer, now, course)?;
+        let inside = course.jumps.set_aside(number);
+        course.jumps.put_back(number, around)?;
+        let end = meet(now, inside.going_on)?;
+        Ok((end, inside.behind))
+    }
+
+    // A loop whose condition comes first.
     #[cycle(statements)]
     fn step_while(
         &self,
@@ -139,13 +162,9 @@ impl<'a> Scene<'a> {
         self.send_heads(alloc, number, &sets, &mut course.log)?;
         self.at_head(alloc, number, &mut sets)?;
         let (holds, fails) = self.eval_ways(alloc, condition, Some(sets), &mut course.log)?;
-        let around = course.jumps.set_aside(number);
-        let now = self.step_now(alloc, body, outer, holds, course)?;
-        let inside = course.jumps.set_aside(number);
-        course.jumps.put_back(number, around)?;
-        let end = meet(now, inside.going_on)?;
+        let (end, behind) = self.step_body(alloc, body, number, outer, holds, course)?;
         self.send_end(alloc, number, &end, &mut course.log)?;
-        meet(fails, inside.behind)
+        meet(fails, behind)
     }
 
     // A loop whose body comes first.
@@ -166,14 +185,10 @@ impl<'a> Scene<'a> {
         let mut sets = sets;
         self.send_heads(alloc, number, &sets, &mut course.log)?;
         self.at_head(alloc, number, &mut sets)?;
-        let around = course.jumps.set_aside(number);
-        let now = self.step(alloc, body, outer, sets, course)?;
-        let inside = course.jumps.set_aside(number);
-        course.jumps.put_back(number, around)?;
-        let end = meet(now, inside.going_on)?;
+        let (end, behind) = self.step_body(alloc, body, number, outer, Some(sets), course)?;
         let (again, fails) = self.eval_ways(alloc, condition, end, &mut course.log)?;
         self.send_end(alloc, number, &again, &mut course.log)?;
-        meet(fails, inside.behind)
+        meet(fails, behind)
     }
 
     // Statements one after another, at whose end what they declare goes out of scope.
@@ -260,7 +275,8 @@ impl<'a> Scene<'a> {
     {
         let past = sprouts.past(alloc)?;
         let around = course.jumps.take(Lead::BehindSwitch);
-        let now = self.step_groups(alloc, groups, sprouts, course)?;
+        let now = self.step_groups(alloc, groups, &sprouts, course)?;
+        drop(sprouts);
         let inside = course.jumps.take(Lead::BehindSwitch);
         course.jumps.put(Lead::BehindSwitch, around)?;
         let end = meet(now, past)?;
@@ -273,16 +289,16 @@ impl<'a> Scene<'a> {
         &self,
         alloc: Global,
         groups: &[CoreGroup],
-        sprouts: Sprouts,
+        sprouts: &Sprouts,
         course: &mut Course,
     ) -> Result<Option<Sets>, Memory>
-        ensures { IfOk result (λ n. Follows (follow (seen self.now) (scope_of course.old) (rest_of sprouts) (nows_of sprouts)
+        ensures { IfOk result (λ n. Follows (follow (seen self.now) (scope_of course.old) (rest_of sprouts.now) (nows_of sprouts.now)
             (groups_of (map group_of groups.now)) None (log_of course.old.log)) course.old.scope.items course.old.jumps n course.new) }
     {
-        let outer = copy_slots(alloc, course.scope.as_slice())?;
+        let outer = Vec::from_slice(alloc, course.scope.as_slice())?;
         let mut now = None;
         for group in groups {
-            now = self.step_group(alloc, group, &sprouts, outer.as_slice(), now, course)?;
+            now = self.step_group(alloc, group, sprouts, outer.as_slice(), now, course)?;
         }
         Ok(now)
     }

@@ -25,7 +25,7 @@ use crate::fields::copy_at;
 use crate::listed::{Call, call_in};
 use crate::scene::{Scene, typestate_of};
 use crate::simple::put_in;
-use jv_core::{CoreExpr, CoreGroup, CoreMethod, CoreVar, Var};
+use jv_core::{CoreExpr, CoreGroup, CoreMethod, CoreVar, Var, name_text};
 use mg_sets::StateSet;
 use mg_text::{Memory, Name};
 use std::alloc::Global;
@@ -251,9 +251,9 @@ impl<'a> Scene<'a> {
             (text_at (seen self.now).program label.0)) }
     {
         let typestate = typestate_of(self.core, method.class);
-        let name = self.text_of(method.name);
+        let name = name_text(self.core, method.name);
         let width = self.variable_width(receiver);
-        let label = self.text_of(label);
+        let label = name_text(self.core, label);
         image_along(alloc, width, typestate, name, Some(label), set)
     }
 

@@ -55,13 +55,13 @@ impl<'a> Scene<'a> {
     pub(crate) fn type_dropped(&self, value: &CoreExpr) -> Option<CoreType>
         ensures { result ≡ type_dropped (seen self.now) (expr_of value.now) }
     {
-        match &value.kind {
-            CoreExprKind::New(class) => Some(CoreType::Object(*class)),
-            CoreExprKind::Var(variable) => self.given_variable(*variable),
-            CoreExprKind::Constant { of, .. } => Some(CoreType::Enum(*of)),
-            CoreExprKind::Protocol { method, .. } => self.result_type(*method),
-            CoreExprKind::Helper { method, .. } => self.result_type(*method),
-            CoreExprKind::Static { method, .. } => self.result_type(*method),
+        match value.kind {
+            CoreExprKind::New(class) => Some(CoreType::Object(class)),
+            CoreExprKind::Var(variable) => self.given_variable(variable),
+            CoreExprKind::Constant { of, .. } => Some(CoreType::Enum(of)),
+            CoreExprKind::Protocol { method, .. } => self.result_type(method),
+            CoreExprKind::Helper { method, .. } => self.result_type(method),
+            CoreExprKind::Static { method, .. } => self.result_type(method),
             CoreExprKind::Int(_) | CoreExprKind::Truth(_) | CoreExprKind::Text(_) => None,
             CoreExprKind::Null | CoreExprKind::Neg(_) | CoreExprKind::Not(_) => None,
             CoreExprKind::Binary(_, _, _) | CoreExprKind::Session { .. } => None,

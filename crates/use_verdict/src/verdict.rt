@@ -25,7 +25,7 @@ pub struct Accepted {
 /// be null, or whose object may be finished or in a state that doesn't offer the method; an object is
 /// left or dropped with a state, is overwritten with one, or stands with one in a field where its
 /// owner ends. `Memory` is no demand: memory is wanted.
-#[derive(Debug, Drop)]
+#[derive(Drop)]
 pub enum CheckFault {
     UseMoved(Demand),
     MaybeNull(Demand),

@@ -2,7 +2,7 @@
 //! A cell is copied as it is: a text stands in it by its number.
 
 /// What a frame or a field holds.
-#[derive(Clone, Copy, Debug, PartialEq, Eq)]
+#[derive(Clone, Copy, PartialEq, Eq)]
 pub enum Cell {
     /// A local that was never stored to.
     Unset,

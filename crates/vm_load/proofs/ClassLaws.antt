@@ -1,7 +1,7 @@
 -- Members and classes, judged one after another.
-use Rattle.std.proofs.Common.{◌≡◌, ℕ, ◌+◌, ◌<◌, List, [], ◌∷◌, ◌++◌, length, map, drop, get_or, Option, Some, None, Result, Ok, Err, IfOk}
-use Rattle.std.proofs.Common.{refl, sym, ap, ◌∙◌, add-one}
-use Rattle.std.proofs.lemmas.List.{append_assoc}
+use Rattle.std.proofs.Common.{◌≡◌, ℕ, ◌+◌, ◌<◌, ◌≤◌, List, [], ◌∷◌, ◌++◌, length, map, drop, get_or, Option, Some, None, Result, Ok, Err}
+use Rattle.std.proofs.Common.{IfOk, OnOk, zero, suc, refl, sym, ap, ◌∙◌, add-one, arith}
+use Rattle.std.proofs.lemmas.List.{append_assoc, length-map}
 use Rattle.std.proofs.Math.Seq.{drop-cons}
 use Rattle.std.specs.List.{flat_map}
 use Rattle.mg_text.specs.declared.memory.Memory.{Memory}
@@ -9,39 +9,27 @@ use Rattle.vm_model.specs.Program.{MethodOf, ClassOf}
 use Rattle.vm_model.specs.Links.{Flaw, Declared, Outline, field_made, lower, least, some_in}
 use Rattle.vm_load.specs.declared.fault.LoadFault.{LoadFault}
 use Rattle.vm_load.specs.declared.fault.LoadFault.TheVariants as faults
-use Rattle.vm_load.specs.Faults.{IsFlaw, IsToldOf, Tells, best_flaw, flaw_of, found_flaw}
+use Rattle.vm_load.specs.Faults.{Tells, flaw_of}
+use Rattle.vm_load.proofs.Codes.{drop_whole}
 use Rattle.vm_load.proofs.Lower.{lower-none, lower-assoc, least-append}
 
--- what is found is what is told
-told_found : (r : Result (Unit {0}) LoadFault) (wanted : Option Flaw) → Tells r wanted → IsToldOf r → found_flaw r ≡ wanted
-told_found (Ok a) wanted h m = sym h
-told_found (Err (faults.DuplicateClass name)) wanted h m = sym h
-told_found (Err (faults.UnknownClass name)) wanted h m = sym h
-told_found (Err (faults.UnknownMember name)) wanted h m = sym h
-told_found (Err (faults.BadDescriptor name)) wanted h m = sym h
-told_found (Err (faults.NoCode name)) wanted h m = sym h
-told_found (Err faults.Memory) wanted h m = absurd (m refl)
+-- what a fault tells
+told_flaw : (f : LoadFault) (wanted : Option Flaw) → Tells (Err f) wanted → (f ≡ faults.Memory → ⊥) → flaw_of f ≡ wanted
+told_flaw (faults.DuplicateClass name) wanted h m = sym h
+told_flaw (faults.UnknownClass name) wanted h m = sym h
+told_flaw (faults.UnknownMember name) wanted h m = sym h
+told_flaw (faults.BadDescriptor name) wanted h m = sym h
+told_flaw (faults.NoCode name) wanted h m = sym h
+told_flaw faults.Memory wanted h m = absurd (m refl)
 
-is_flaw_of : (f : LoadFault) (flaw : Flaw) → IsFlaw f flaw → (f ≡ faults.Memory → ⊥) → flaw_of f ≡ Some flaw
-is_flaw_of (faults.DuplicateClass name) flaw h m = h
-is_flaw_of (faults.UnknownClass name) flaw h m = h
-is_flaw_of (faults.UnknownMember name) flaw h m = h
-is_flaw_of (faults.BadDescriptor name) flaw h m = h
-is_flaw_of (faults.NoCode name) flaw h m = h
-is_flaw_of faults.Memory flaw h m = absurd (m refl)
+-- what is noted of it
+pub noted_told : (r : Result (Unit {0}) Memory) (f : LoadFault) (best new wanted : Option Flaw) → Tells (Err f) wanted →
+    OnOk r (new ≡ lower best (flaw_of f)) → IfOk r (λ _. f ≡ faults.Memory → ⊥) → OnOk r (new ≡ lower best wanted)
+noted_told (Ok b) f best new wanted h e m = e ∙ ap (λ o. lower best o) (told_flaw f wanted h m)
+noted_told (Err x) f best new wanted h e m = tt
 
-pub noted_told : (r : Result (Option LoadFault) Memory) (judged : Result (Unit {0}) LoadFault) (best wanted : Option Flaw) →
-    Tells judged wanted →
-    IfOk r (λ b. best_flaw b ≡ lower best (found_flaw judged)) → IfOk r (λ _. IsToldOf judged) →
-    IfOk r (λ b. best_flaw b ≡ lower best wanted)
-noted_told (Ok b) judged best wanted h e m = e ∙ ap (λ f. lower best f) (told_found judged wanted h m)
-noted_told (Err x) judged best wanted h e m = tt
-
-pub noted_flaw : (r : Result (Option LoadFault) Memory) (fault : LoadFault) (best : Option Flaw) (flaw : Flaw) → IsFlaw fault flaw →
-    IfOk r (λ b. best_flaw b ≡ lower best (flaw_of fault)) → IfOk r (λ _. fault ≡ faults.Memory → ⊥) →
-    IfOk r (λ b. best_flaw b ≡ lower best (Some flaw))
-noted_flaw (Ok b) fault best flaw h e m = e ∙ ap (λ f. lower best f) (is_flaw_of fault flaw h m)
-noted_flaw (Err x) fault best flaw h e m = tt
+pub noted_none : (best wanted : Option Flaw) → wanted ≡ None → best ≡ lower best wanted
+noted_none best wanted h = sym (lower-none best) ∙ ap (λ o. lower best o) (sym h)
 
 module _ {A : Type 0} (xs : List A) (k : ℕ) (d : A) (lt : k < length xs) where
   cut : drop k xs ≡ get_or xs k d ∷ drop (k + 1) xs
@@ -76,6 +64,12 @@ module _ {A : Type 0} (xs : List A) (k : ℕ) (d : A) (lt : k < length xs) where
       ∙ append_assoc front (right (get_or xs k d)) (flat_map right (drop (k + 1) xs))
       ∙ ap (λ l. front ++ flat_map right l) (sym cut) ∙ e
 
+-- no flaws are left
+pub flaws_whole : {A : Type 0} (xs : List A) (k : ℕ) → length xs ≤ k → (flaws : A → List Flaw) (best total : Option Flaw) →
+    lower best (least (flat_map flaws (drop k xs))) ≡ total → best ≡ total
+flaws_whole xs k past flaws best total e =
+    sym (lower-none best) ∙ ap (λ l. lower best (least (flat_map flaws l))) (sym (drop_whole xs k past)) ∙ e
+
 -- a class: the super class, the fields, the methods and their codes
 pub class_noted : (b0 b1 b2 b3 b4 s : Option Flaw) (fs ms bs : List Flaw) → b1 ≡ lower b0 s → b2 ≡ lower b1 (least fs) →
     b3 ≡ lower b2 (least ms) → b4 ≡ lower b3 (least bs) →
@@ -94,19 +88,36 @@ class_noted b0 b1 b2 b3 b4 s fs ms bs e1 e2 e3 e4 =
     single (Some f) rest = refl
 
 -- a class is made of its outline and its methods
-pub class_right : (o p : Outline) (ms ns : List MethodOf) (l : ClassOf) →
-    l ≡ record { name = o.name; fields = map field_made o.own; methods = ms } → o ≡ p → ms ≡ ns →
-    l ≡ record { name = p.name; fields = map field_made p.own; methods = ns }
-class_right o p ms ns l e f g =
-    e ∙ ap (λ (x : Outline). let k : ClassOf = record { name = x.name; fields = map field_made x.own; methods = ms } in k) f
-    ∙ ap (λ (xs : List MethodOf). let k : ClassOf = record { name = p.name; fields = map field_made p.own; methods = xs } in k) g
+abbrev pub class_by : Outline → List MethodOf → ClassOf
+class_by o ms = record { name = o.name; fields = map field_made o.own; methods = ms }
+
+pub class_right : (o p : Outline) (ms ns : List MethodOf) → o ≡ p → ms ≡ ns → class_by o ms ≡ class_by p ns
+class_right o p ms ns e f = ap (λ (x : Outline). class_by x ms) e ∙ ap (class_by p) f
 
 -- and what is wrong with it
-pub class_wrong : (field method : Declared → Option Flaw) (o p : Outline) (b0 b1 b3 b4 s : Option Flaw) (bs : List Flaw) → b1 ≡ lower b0 s →
-    b3 ≡ lower (lower b1 (least (some_in (map field o.fields)))) (least (some_in (map method o.methods))) → o ≡ p → b4 ≡ lower b3 (least bs)
-    →
+pub class_wrong : (field method : Declared → Option Flaw) (o p : Outline) (b0 b1 b2 b3 b4 s : Option Flaw) (bs : List Flaw) →
+    b1 ≡ lower b0 s → b2 ≡ lower b1 (least (some_in (map field o.fields))) → b3 ≡ lower b2 (least (some_in (map method o.methods))) →
+    o ≡ p → b4 ≡ lower b3 (least bs) →
     b4 ≡ lower b0 (least (some_in (s ∷ []) ++ (some_in (map field p.fields) ++ (some_in (map method p.methods) ++ bs))))
-class_wrong field method o p b0 b1 b3 b4 s bs e1 e3 same e4 =
-    class_noted b0 b1 (lower b1 (least (some_in (map field p.fields)))) b3 b4 s (some_in (map field p.fields))
-    (some_in (map method p.methods)) bs e1 refl
-    (e3 ∙ ap (λ (x : Outline). lower (lower b1 (least (some_in (map field x.fields)))) (least (some_in (map method x.methods)))) same) e4
+class_wrong field method o p b0 b1 b2 b3 b4 s bs e1 e2 e3 same e4 =
+    class_noted b0 b1 b2 b3 b4 s (some_in (map field p.fields)) (some_in (map method p.methods)) bs e1
+    (e2 ∙ ap (λ (x : Outline). lower b1 (least (some_in (map field x.fields)))) same)
+    (e3 ∙ ap (λ (x : Outline). lower b2 (least (some_in (map method x.methods)))) same) e4
+
+-- the outlines are those of the classes
+pub outlined_many : {X Y : Type 0} (f : X → Outline) (g : Y → Outline) (os : List X) (cs : List Y) → map f os ≡ map g cs →
+    length os ≡ length cs
+outlined_many f g os cs e = sym (length-map os f) ∙ ap length e ∙ length-map cs g
+
+pub outlined_at : {X Y : Type 0} (f : X → Outline) (g : Y → Outline) (os : List X) (cs : List Y) (k : ℕ) (o : X) (c : Y) →
+    k < length os → map f os ≡ map g cs → o ≡ get_or os k o → c ≡ get_or cs k c → f o ≡ g c
+outlined_at f g [] cs k o c lt e h i = absurd (omega arith)
+outlined_at f g (x ∷ os) [] k o c lt e h i = absurd cc
+outlined_at f g (x ∷ os) (y ∷ cs) zero o c lt e h i = ap f h ∙ heads e ∙ ap g (sym i)
+  where
+    heads : {a b : Outline} {xs ys : List Outline} → a ∷ xs ≡ b ∷ ys → a ≡ b
+    heads e = cc
+outlined_at f g (x ∷ os) (y ∷ cs) (suc k) o c lt e h i = outlined_at f g os cs k o c (omega arith) (tails e) h i
+  where
+    tails : {a b : Outline} {xs ys : List Outline} → a ∷ xs ≡ b ∷ ys → xs ≡ ys
+    tails e = cc

@@ -15,7 +15,7 @@ use Rattle.vm_model.specs.Program.{Instr}
 use Rattle.vm_model.specs.Links.{Flaw, Outline, lower, least, right_in, wrong_in, judged_instr, judged_from}
 use Rattle.vm_load.specs.declared.fault.LoadFault.{LoadFault}
 use Rattle.vm_load.specs.declared.fault.LoadFault.TheVariants as faults
-use Rattle.vm_load.specs.Faults.{Judges, best_flaw, flaw_of}
+use Rattle.vm_load.specs.Faults.{Judges, flaw_of}
 use Rattle.vm_load.proofs.Lower.{wrong-more, right-more, none_right}
 
 -- the first of what is left, and the rest
@@ -95,12 +95,11 @@ pub right_err : {B : Type 0} (r : Result B Memory) (fault : LoadFault) (wanted :
 right_err (Ok b) fault wanted xs m h = sym (ap (λ l. xs ++ l) (none_right fault wanted h m).0 ∙ append-nil xs)
 right_err (Err e) fault wanted xs m h = tt
 
-pub wrong_err : (r : Result (Option LoadFault) Memory) (fault : LoadFault) (wanted : Result Instr Flaw) (best : Option Flaw) →
-    IfOk r (λ _. fault ≡ faults.Memory → ⊥) →
-    IfOk r (λ b. best_flaw b ≡ lower best (flaw_of fault)) → Judges model.instr_of (Err fault) wanted →
-    IfOk r (λ b. best_flaw b ≡ lower best (least (wrong_in (wanted ∷ []))))
-wrong_err (Ok b) fault wanted best m e h = e ∙ ap (λ f. lower best f) (sym (none_right fault wanted h m).1)
-wrong_err (Err x) fault wanted best m e h = tt
+pub wrong_err : (r : Result (Unit {0}) Memory) (fault : LoadFault) (wanted : Result Instr Flaw) (best new : Option Flaw) →
+    IfOk r (λ _. fault ≡ faults.Memory → ⊥) → OnOk r (new ≡ lower best (flaw_of fault)) → Judges model.instr_of (Err fault) wanted →
+    OnOk r (new ≡ lower best (least (wrong_in (wanted ∷ []))))
+wrong_err (Ok b) fault wanted best new m e h = e ∙ ap (λ f. lower best f) (sym (none_right fault wanted h m).1)
+wrong_err (Err x) fault wanted best new m e h = tt
 
 -- the same of a borrowed instruction
 module _ (os : List Outline) (pool : List Const) (starts : List ℕ) (kept : List Kept) (k : ℕ) (item : Kept) (place w : ℕ)

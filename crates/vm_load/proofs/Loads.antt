@@ -120,12 +120,6 @@ links os cs p same distinct none made = record {
   program = made ∙ ap (λ o. map (linked_class o) cs) same;
 }
 
-pub refused_by : (f : LoadFault) (os : List Outline) (cs : List File) → os ≡ outlines cs → duplicates [] (map (λ o. o.name) os) ≡ [] →
-    flaw_of f ≡ least (flat_map (class_flaws os) cs) → IsRefused f cs
-refused_by f os cs same distinct e =
-    least_by f (flaws cs) (e ∙ ap (λ l. least (l ++ flat_map (class_flaws os) cs)) (sym distinct)
-    ∙ ap (λ o. least (duplicates [] (map (λ x. x.name) o) ++ flat_map (class_flaws o) cs)) same)
-
 pub refused_at_once : (f : LoadFault) (os : List Outline) (cs : List File) → os ≡ outlines cs →
     IsLeast f (duplicates [] (map (λ o. o.name) os) ++ flat_map (class_flaws os) cs) → IsRefused f cs
 refused_at_once f os cs same h =

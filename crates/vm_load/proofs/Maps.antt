@@ -1,6 +1,6 @@
 -- Lists that are mapped twice.
 use Rattle.std.proofs.Common.{◌≡◌, ℕ, zero, suc, ◌≤◌, List, [], ◌∷◌, length, map, take, refl, sym, ap, ◌∙◌, arith}
-use Rattle.std.proofs.Common.{◌+◌, ◌<◌, ◌++◌, get_or, Result, Ok, Err, IfOk}
+use Rattle.std.proofs.Common.{◌+◌, ◌<◌, ◌++◌, get_or, Result, Ok, Err, IfOk, OnOk}
 use Rattle.std.proofs.lemmas.List.{take_more, map-append}
 use Rattle.std.proofs.lemmas.Simd.{map-map}
 
@@ -28,3 +28,12 @@ mapped_more f xs ys zs i d y lt e g h =
 pub if_ok : {A E : Type 0} (x y : A) → x ≡ y → (r : Result A E) → IfOk r (λ n. n ≡ x) → IfOk r (λ n. n ≡ y)
 if_ok x y e (Ok n) h = h ∙ e
 if_ok x y e (Err m) h = tt
+
+pub if_ok_view : {A B E : Type 0} (f : A → B) (x y : B) → x ≡ y → (r : Result A E) → IfOk r (λ a. f a ≡ x) → IfOk r (λ a. f a ≡ y)
+if_ok_view f x y e (Ok a) h = h ∙ e
+if_ok_view f x y e (Err m) h = tt
+
+-- what holds anyway
+pub always : {A E : Type 0} {P : Type 0} (r : Result A E) → P → OnOk r P
+always (Ok a) h = h
+always (Err m) h = tt

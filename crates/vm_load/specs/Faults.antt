@@ -31,10 +31,6 @@ abbrev pub best_flaw : Option LoadFault → Option Flaw
 best_flaw None = None
 best_flaw (Some fault) = flaw_of fault
 
-abbrev pub found_flaw : {A : Type 0} → Result A LoadFault → Option Flaw
-found_flaw (Ok a) = None
-found_flaw (Err fault) = flaw_of fault
-
 -- this is wrong, where something is, unless memory ran out
 abbrev pub Tells : Result (Unit {0}) LoadFault → Option Flaw → Type 0
 Tells (Ok a) wanted = wanted ≡ None
@@ -55,11 +51,6 @@ Judges view (Err faults.Memory) wanted = Unit {0}
 abbrev pub pushed_text : Option (List ℕ) → Args
 pushed_text None = Nothing
 pushed_text (Some text) = Text text
-
--- memory didn't run out
-abbrev pub IsToldOf : {A : Type 0} → Result A LoadFault → Type 0
-IsToldOf (Ok a) = Unit {0}
-IsToldOf (Err fault) = fault ≡ faults.Memory → ⊥
 
 -- this is the first flaw of the lowest number, unless memory ran out
 abbrev pub IsLeast : LoadFault → List Flaw → Type 0

@@ -1,12 +1,11 @@
 //! Classes and their methods: each becomes what it links to, and what is wrong with it is noted.
 
-ghost use Rattle.std.specs.Prelude.{◌≡◌, map, option_map, option_to_list, ◌++◌, IfOk, OnOk};
+ghost use Rattle.std.specs.Prelude.{◌≡◌, map, option_map, ◌++◌, IfOk, OnOk};
 ghost use Rattle.std.specs.List.{flat_map};
 ghost use Rattle.cls_tree.specs.View.{attr_of, code_of, member_of, class_of};
-ghost use Rattle.cls_tree.specs.Pool.{class_at};
 ghost use Rattle.vm_model.specs.View as model;
 ghost use Rattle.vm_model.specs.Links.{code_among, method_of_member, method_flaws, field_flaw, method_flaw, field_made, class_flaws};
-ghost use Rattle.vm_model.specs.Links.{linked_class, super_flaw, or_empty as empty_or, outline, lower, least, some_in};
+ghost use Rattle.vm_model.specs.Links.{linked_class, outline, lower, least, some_in};
 ghost use Rattle.indexmap.specs.IndexMap.{get};
 ghost use Rattle.vm_load.specs.Faults.{best_flaw};
 ghost use Rattle.vm_load.specs.Known.{AreRight};
@@ -16,9 +15,9 @@ ghost use Rattle.vm_load.specs.Outlines.{outline_of, outlines_of, names_of, code
 use crate::code::judge_code;
 use crate::declared::{Declared, declared_by};
 use crate::descriptor::{judge_field, judge_method, judge_super};
-use crate::fault::{LoadFault, no_code, note_flaw, note_told};
+use crate::fault::{LoadFault, no_code, note, note_told};
 use crate::kept::{linked_field, linked_method};
-use crate::outline::{Outline, outlined};
+use crate::outline::Outline;
 use crate::pool::{class_at, or_empty};
 use crate::uses::Use;
 use cls_tree::{Attr, Class, Code, Const, Member};
@@ -51,7 +50,7 @@ fn code_among(attributes: &[Attr]) -> Option<&Code>
     None
 }
 
-/// A method with its code, and what is wrong with it, after what was wrong before.
+/// Appends a method with its code, and notes what is wrong with it. One without code is left out.
 fn judge_body(
     alloc: Global,
     outlines: &[Outline<'_>],
@@ -59,107 +58,94 @@ fn judge_body(
     pool: &[Const],
     known: &mut IndexMap<Use, LinkedArgs>,
     member: &Member,
-    first: Option<LoadFault>,
-) -> Result<(Option<LinkedMethod>, Option<LoadFault>), Memory>
+    methods: &mut List<LinkedMethod>,
+    best: &mut Option<LoadFault>,
+) -> Result<(), Memory>
     requires names { names.now ≡ names_of (outlines_of outlines.now) }
     requires known { AreRight (outlines_of outlines.now) pool.now (get ⟦<Use as PartialEq>⟧.eq known.old) }
-    ensures right { IfOk result (λ r. option_to_list (option_map model.method_of r.0) ≡ method_of_member (outlines_of outlines.now) pool.now
-        (member_of member.now)) }
-    ensures wrong { IfOk result (λ r. best_flaw r.1 ≡ lower (best_flaw first)
+    ensures right { OnOk result (map model.method_of methods.new.items
+        ≡ map model.method_of methods.old.items ++ method_of_member (outlines_of outlines.now) pool.now (member_of member.now)) }
+    ensures wrong { OnOk result (best_flaw best.new ≡ lower (best_flaw best.old)
         (least (method_flaws (outlines_of outlines.now) pool.now (member_of member.now)))) }
-    ensures known { IfOk result (λ _. AreRight (outlines_of outlines.now) pool.now (get ⟦<Use as PartialEq>⟧.eq known.new)) }
+    ensures known { OnOk result (AreRight (outlines_of outlines.now) pool.now (get ⟦<Use as PartialEq>⟧.eq known.new)) }
 {
     let declared = declared_by(pool, member);
     let Some(code) = code_among(member.attributes.as_slice()) else {
-        let best = note_flaw(first, no_code(alloc, declared.name))?;
-        return Ok((None, best));
+        return note(best, no_code(alloc, declared.name));
     };
     let instrs = code.instrs.as_slice();
-    let (instrs, best) = judge_code(alloc, outlines, names, pool, known, instrs, first)?;
+    let instrs = judge_code(alloc, outlines, names, pool, known, instrs, best)?;
     let method = linked_method(alloc, declared, code, instrs)?;
-    Ok((Some(method), best))
+    methods.push(method)
 }
 
-/// Appends a method, where there is one.
-fn add_method(methods: &mut List<LinkedMethod>, method: Option<LinkedMethod>) -> Result<(), Memory>
-    ensures { OnOk result (map model.method_of methods.new.items ≡ map model.method_of methods.old.items ++ option_to_list
-        (option_map model.method_of method)) }
-{
-    match method {
-        Some(method) => {
-            methods.push(method)?;
-            Ok(())
-        }
-        None => Ok(()),
-    }
-}
-
-/// The methods of a class with their code, and what is wrong with them, after what was wrong before.
+/// The methods of a class with their code. What is wrong with them is noted.
 fn judge_bodies(
     alloc: Global,
     outlines: &[Outline<'_>],
     names: &Names,
-    pool: &[Const],
-    known: &mut IndexMap<Use, LinkedArgs>,
-    members: &[Member],
-    first: Option<LoadFault>,
-) -> Result<(List<LinkedMethod>, Option<LoadFault>), Memory>
-    requires names { names.now ≡ names_of (outlines_of outlines.now) }
-    requires known { AreRight (outlines_of outlines.now) pool.now (get ⟦<Use as PartialEq>⟧.eq known.old) }
-    ensures right { IfOk result (λ r. map model.method_of r.0.items ≡ flat_map (method_of_member (outlines_of outlines.now) pool.now)
-        (map member_of members.now)) }
-    ensures wrong { IfOk result (λ r. best_flaw r.1 ≡ lower (best_flaw first)
-        (least (flat_map (method_flaws (outlines_of outlines.now) pool.now) (map member_of members.now)))) }
-    ensures known { IfOk result (λ _. AreRight (outlines_of outlines.now) pool.now (get ⟦<Use as PartialEq>⟧.eq known.new)) }
+    class: &Class,
+    best: &mut Option<LoadFault>,
+) -> Result<List<LinkedMethod>, Memory>
+    requires { names.now ≡ names_of (outlines_of outlines.now) }
+    ensures right { IfOk result (λ l. map model.method_of l.items
+        ≡ flat_map (method_of_member (outlines_of outlines.now) (class_of class.now).pool) (class_of class.now).methods) }
+    ensures wrong { OnOk result (best_flaw best.new ≡ lower (best_flaw best.old)
+        (least (flat_map (method_flaws (outlines_of outlines.now) (class_of class.now).pool) (class_of class.now).methods))) }
 {
+    let pool = class.pool.as_slice();
+    let mut known = IndexMap::new(alloc);
     let mut methods = List::new(alloc);
-    let mut best = first;
+    let members = class.methods.as_slice();
     for member in members {
-        let (method, more) = judge_body(alloc, outlines, names, pool, known, member, best)?;
-        add_method(&mut methods, method)?;
-        best = more;
+        judge_body(
+            alloc,
+            outlines,
+            names,
+            pool,
+            &mut known,
+            member,
+            &mut methods,
+            best,
+        )?;
     }
-    Ok((methods, best))
+    Ok(methods)
 }
 
-/// What is wrong with the descriptors of fields, after what was wrong before.
+/// Notes what is wrong with the descriptors of fields.
 fn judge_fields(
     alloc: Global,
     outlines: &[Outline<'_>],
     names: &Names,
     fields: &[Declared<'_>],
-    first: Option<LoadFault>,
-) -> Result<Option<LoadFault>, Memory>
+    best: &mut Option<LoadFault>,
+) -> Result<(), Memory>
     requires { names.now ≡ names_of (outlines_of outlines.now) }
-    ensures { IfOk result (λ b. best_flaw b ≡ lower (best_flaw first)
+    ensures { OnOk result (best_flaw best.new ≡ lower (best_flaw best.old)
         (least (some_in (map (field_flaw (outlines_of outlines.now)) (map declared_of fields.now))))) }
 {
-    let mut best = first;
     for field in fields {
-        let judged = judge_field(alloc, outlines, names, *field);
-        best = note_told(best, judged)?;
+        note_told(best, judge_field(alloc, outlines, names, *field))?;
     }
-    Ok(best)
+    Ok(())
 }
 
-/// What is wrong with the descriptors of methods, after what was wrong before.
+/// Notes what is wrong with the descriptors of methods.
 fn judge_methods(
     alloc: Global,
     outlines: &[Outline<'_>],
     names: &Names,
     methods: &[Declared<'_>],
-    first: Option<LoadFault>,
-) -> Result<Option<LoadFault>, Memory>
+    best: &mut Option<LoadFault>,
+) -> Result<(), Memory>
     requires { names.now ≡ names_of (outlines_of outlines.now) }
-    ensures { IfOk result (λ b. best_flaw b ≡ lower (best_flaw first)
+    ensures { OnOk result (best_flaw best.new ≡ lower (best_flaw best.old)
         (least (some_in (map (method_flaw (outlines_of outlines.now)) (map declared_of methods.now))))) }
 {
-    let mut best = first;
     for method in methods {
-        let judged = judge_method(alloc, outlines, names, *method);
-        best = note_told(best, judged)?;
+        note_told(best, judge_method(alloc, outlines, names, *method))?;
     }
-    Ok(best)
+    Ok(())
 }
 
 /// The fields that a class's objects have.
@@ -172,46 +158,6 @@ fn fields_of(alloc: Global, own: &[Declared<'_>]) -> Result<List<LinkedField>, M
         fields.push(field)?;
     }
     Ok(fields)
-}
-
-/// What is wrong with the super class of a class, after what was wrong before.
-fn judge_top(
-    alloc: Global,
-    class: &Class,
-    first: Option<LoadFault>,
-) -> Result<Option<LoadFault>, Memory>
-    ensures { IfOk result (λ b. best_flaw b ≡ lower (best_flaw first)
-        (super_flaw (empty_or (class_at (class_of class.now).pool (class_of class.now).super_class)))) }
-{
-    let name = or_empty(class_at(class.pool.as_slice(), class.super_class));
-    let judged = judge_super(alloc, name);
-    note_told(first, judged)
-}
-
-/// The methods of a class with their code, and what is wrong with them, after what was wrong before.
-fn judge_own_bodies(
-    alloc: Global,
-    outlines: &[Outline<'_>],
-    names: &Names,
-    class: &Class,
-    first: Option<LoadFault>,
-) -> Result<(List<LinkedMethod>, Option<LoadFault>), Memory>
-    requires { names.now ≡ names_of (outlines_of outlines.now) }
-    ensures right { IfOk result (λ r. map model.method_of r.0.items
-        ≡ flat_map (method_of_member (outlines_of outlines.now) (class_of class.now).pool) (class_of class.now).methods) }
-    ensures wrong { IfOk result (λ r. best_flaw r.1 ≡ lower (best_flaw first)
-        (least (flat_map (method_flaws (outlines_of outlines.now) (class_of class.now).pool) (class_of class.now).methods))) }
-{
-    let mut known = IndexMap::new(alloc);
-    judge_bodies(
-        alloc,
-        outlines,
-        names,
-        class.pool.as_slice(),
-        &mut known,
-        class.methods.as_slice(),
-        first,
-    )
 }
 
 /// A class of these parts.
@@ -237,40 +183,25 @@ fn made(
     })
 }
 
-/// What is wrong with the descriptors of a class, after what was wrong before.
-fn judge_descriptors(
-    alloc: Global,
-    outlines: &[Outline<'_>],
-    names: &Names,
-    own: &Outline<'_>,
-    first: Option<LoadFault>,
-) -> Result<Option<LoadFault>, Memory>
-    requires { names.now ≡ names_of (outlines_of outlines.now) }
-    ensures { IfOk result (λ b. best_flaw b
-        ≡ lower (lower (best_flaw first) (least (some_in (map (field_flaw (outlines_of outlines.now)) (outline_of own.now).fields))))
-        (least (some_in (map (method_flaw (outlines_of outlines.now)) (outline_of own.now).methods)))) }
-{
-    let best = judge_fields(alloc, outlines, names, own.fields.as_slice(), first)?;
-    judge_methods(alloc, outlines, names, own.methods.all.as_slice(), best)
-}
-
-/// A class, and what is wrong with it, after what was wrong before.
+/// A class, of which this is the outline. What is wrong with it is noted.
 pub(crate) fn judge_class(
     alloc: Global,
     outlines: &[Outline<'_>],
     names: &Names,
+    own: &Outline<'_>,
     class: &Class,
-    first: Option<LoadFault>,
-) -> Result<(LinkedClass, Option<LoadFault>), Memory>
-    requires { names.now ≡ names_of (outlines_of outlines.now) }
-    ensures right { IfOk result (λ r. model.class_of r.0 ≡ linked_class (outlines_of outlines.now) (class_of class.now)) }
-    ensures wrong { IfOk result (λ r. best_flaw r.1 ≡ lower (best_flaw first)
+    best: &mut Option<LoadFault>,
+) -> Result<LinkedClass, Memory>
+    requires names { names.now ≡ names_of (outlines_of outlines.now) }
+    requires own { outline_of own.now ≡ outline (class_of class.now) }
+    ensures right { IfOk result (λ l. model.class_of l ≡ linked_class (outlines_of outlines.now) (class_of class.now)) }
+    ensures wrong { OnOk result (best_flaw best.new ≡ lower (best_flaw best.old)
         (least (class_flaws (outlines_of outlines.now) (class_of class.now)))) }
 {
-    let own = outlined(alloc, class)?;
-    let top = judge_top(alloc, class, first)?;
-    let declared = judge_descriptors(alloc, outlines, names, &own, top)?;
-    let (methods, best) = judge_own_bodies(alloc, outlines, names, class, declared)?;
-    let linked = made(alloc, &own, methods)?;
-    Ok((linked, best))
+    let name = or_empty(class_at(class.pool.as_slice(), class.super_class));
+    note_told(best, judge_super(alloc, name))?;
+    judge_fields(alloc, outlines, names, own.fields.as_slice(), best)?;
+    judge_methods(alloc, outlines, names, own.methods.all.as_slice(), best)?;
+    let methods = judge_bodies(alloc, outlines, names, class, best)?;
+    made(alloc, own, methods)
 }

@@ -217,6 +217,7 @@ fn fitting(alloc: Global, count: usize, op: u8, args: LinkedArgs) -> Result<Link
     if fits_code(count, &instr) {
         return Ok(instr);
     }
+    drop(instr);
     Err(unknown_member(alloc, ""))
 }
 
@@ -249,25 +250,22 @@ fn judge_instr(
 #[tactic(auto, using(crate::proofs::Lower::kept))]
 fn add(
     code: &mut List<LinkedInstr>,
-    best: Option<LoadFault>,
+    best: &mut Option<LoadFault>,
     judged: Result<LinkedInstr, LoadFault>,
-) -> Result<Option<LoadFault>, Memory>
+) -> Result<(), Memory>
     ensures right { (wanted : Result InstrOf Flaw) → Judges model.instr_of judged wanted →
         OnOk result (map model.instr_of code.new.items ≡ map model.instr_of code.old.items ++ right_in (wanted ∷ [])) }
     ensures wrong { (wanted : Result InstrOf Flaw) → Judges model.instr_of judged wanted →
-        IfOk result (λ b. best_flaw b ≡ lower (best_flaw best) (least (wrong_in (wanted ∷ [])))) }
+        OnOk result (best_flaw best.new ≡ lower (best_flaw best.old) (least (wrong_in (wanted ∷ [])))) }
 {
     match judged {
-        Ok(instr) => {
-            code.push(instr)?;
-            Ok(best)
-        }
-        Err(fault) => note(best, Err(fault)),
+        Ok(instr) => code.push(instr),
+        Err(fault) => note(best, fault),
     }
 }
 
-/// The instructions of a code in which instructions start at these places, and what is wrong with
-/// them, after what was wrong before.
+/// The instructions of a code in which instructions start at these places. What is wrong with them
+/// is noted.
 fn judge_from(
     alloc: Global,
     outlines: &[Outline<'_>],
@@ -276,32 +274,31 @@ fn judge_from(
     known: &mut IndexMap<Use, LinkedArgs>,
     starts: &[u32],
     instrs: &[Instr],
-    first: Option<LoadFault>,
-) -> Result<(List<LinkedInstr>, Option<LoadFault>), Memory>
+    best: &mut Option<LoadFault>,
+) -> Result<List<LinkedInstr>, Memory>
     requires names { names.now ≡ names_of (outlines_of outlines.now) }
     requires rising { AreRising starts.now }
     requires known { AreRight (outlines_of outlines.now) pool.now (get ⟦<Use as PartialEq>⟧.eq known.old) }
-    ensures right { IfOk result (λ r. map model.instr_of r.0.items
+    ensures right { IfOk result (λ l. map model.instr_of l.items
         ≡ right_in (judged_from (outlines_of outlines.now) pool.now starts.now 0 (instrs_of instrs.now))) }
-    ensures wrong { IfOk result (λ r. best_flaw r.1 ≡ lower (best_flaw first)
+    ensures wrong { OnOk result (best_flaw best.new ≡ lower (best_flaw best.old)
         (least (wrong_in (judged_from (outlines_of outlines.now) pool.now starts.now 0 (instrs_of instrs.now))))) }
-    ensures known { IfOk result (λ _. AreRight (outlines_of outlines.now) pool.now (get ⟦<Use as PartialEq>⟧.eq known.new)) }
+    ensures known { OnOk result (AreRight (outlines_of outlines.now) pool.now (get ⟦<Use as PartialEq>⟧.eq known.new)) }
 {
     let mut code = List::new(alloc);
-    let mut best = first;
     let mut place: usize = 0;
     for instr in instrs {
         if place > 0xffff_ffff {
             return Err(Memory);
         }
         let judged = judge_instr(alloc, outlines, names, pool, known, starts, place, instr);
-        best = add(&mut code, best, judged)?;
+        add(&mut code, best, judged)?;
         place += width(place, instr);
     }
-    Ok((code, best))
+    Ok(code)
 }
 
-/// The instructions of a code, and what is wrong with them, after what was wrong before.
+/// The instructions of a code. What is wrong with them is noted.
 pub(crate) fn judge_code(
     alloc: Global,
     outlines: &[Outline<'_>],
@@ -309,15 +306,15 @@ pub(crate) fn judge_code(
     pool: &[Const],
     known: &mut IndexMap<Use, LinkedArgs>,
     instrs: &[Instr],
-    best: Option<LoadFault>,
-) -> Result<(List<LinkedInstr>, Option<LoadFault>), Memory>
+    best: &mut Option<LoadFault>,
+) -> Result<List<LinkedInstr>, Memory>
     requires names { names.now ≡ names_of (outlines_of outlines.now) }
     requires known { AreRight (outlines_of outlines.now) pool.now (get ⟦<Use as PartialEq>⟧.eq known.old) }
-    ensures right { IfOk result (λ r. map model.instr_of r.0.items
+    ensures right { IfOk result (λ l. map model.instr_of l.items
         ≡ right_in (judged_code (outlines_of outlines.now) pool.now (instrs_of instrs.now))) }
-    ensures wrong { IfOk result (λ r. best_flaw r.1 ≡ lower (best_flaw best)
+    ensures wrong { OnOk result (best_flaw best.new ≡ lower (best_flaw best.old)
         (least (wrong_in (judged_code (outlines_of outlines.now) pool.now (instrs_of instrs.now))))) }
-    ensures known { IfOk result (λ _. AreRight (outlines_of outlines.now) pool.now (get ⟦<Use as PartialEq>⟧.eq known.new)) }
+    ensures known { OnOk result (AreRight (outlines_of outlines.now) pool.now (get ⟦<Use as PartialEq>⟧.eq known.new)) }
 {
     let starts = starts_of(alloc, instrs)?;
     judge_from(

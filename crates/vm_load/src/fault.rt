@@ -1,9 +1,10 @@
 //! Why class files don't link, and which of several faults is answered.
 
-ghost use Rattle.std.specs.Prelude.{◌≡◌, Option, Some, IfOk};
+ghost use Rattle.std.specs.Prelude.{◌≡◌, Option, IfOk, OnOk};
 ghost use Rattle.vm_model.specs.Links.{Flaw, lower, DuplicateClass as A, UnknownClass as B, UnknownMember as C, BadDescriptor as D};
 ghost use Rattle.vm_model.specs.Links.{NoCode as E};
-ghost use Rattle.vm_load.specs.Faults.{IsFlaw, IsToldOf, Tells, found_flaw, best_flaw, number_of_fault};
+ghost use Rattle.vm_load.specs.declared.fault.LoadFault.TheVariants as faults;
+ghost use Rattle.vm_load.specs.Faults.{IsFlaw, Tells, best_flaw, flaw_of, number_of_fault};
 
 use mg_text::{Memory, Text};
 use std::alloc::Global;
@@ -100,46 +101,35 @@ fn number(fault: &LoadFault) -> u8
     }
 }
 
-/// The lower of the fault so far and one that was found behind it, and the former where they are
-/// equal. Want of memory is handed on.
-pub(crate) fn note(
-    best: Option<LoadFault>,
-    found: Result<(), LoadFault>,
-) -> Result<Option<LoadFault>, Memory>
-    ensures lower { IfOk result (λ b. best_flaw b ≡ lower (best_flaw best) (found_flaw found)) }
-    ensures memory { IfOk result (λ _. IsToldOf found) }
+/// Keeps the lower of the fault so far and one that was found behind it, and the former where they
+/// are equal. Want of memory is handed on.
+pub(crate) fn note(best: &mut Option<LoadFault>, found: LoadFault) -> Result<(), Memory>
+    ensures lower { OnOk result (best_flaw best.new ≡ lower (best_flaw best.old) (flaw_of found)) }
+    ensures memory { IfOk result (λ _. found ≡ faults.Memory → ⊥) }
 {
     let found = match found {
-        Ok(()) => return Ok(best),
-        Err(LoadFault::Memory) => return Err(Memory),
-        Err(found) => found,
+        LoadFault::Memory => return Err(Memory),
+        found => found,
     };
-    let Some(best) = best else {
-        return Ok(Some(found));
-    };
-    if number(&found) < number(&best) {
-        Ok(Some(found))
-    } else {
-        Ok(Some(best))
+    if let Some(kept) = best {
+        if number(&found) >= number(kept) {
+            drop(found);
+            return Ok(());
+        }
     }
+    *best = Some(found);
+    Ok(())
 }
 
-/// The same of what was judged: the flaw that it tells.
+/// The same of what was judged: the flaw that it tells, where it tells one.
 pub(crate) fn note_told(
-    best: Option<LoadFault>,
+    best: &mut Option<LoadFault>,
     judged: Result<(), LoadFault>,
-) -> Result<Option<LoadFault>, Memory>
-    ensures { (wanted : Option Flaw) → Tells judged wanted → IfOk result (λ b. best_flaw b ≡ lower (best_flaw best) wanted) }
+) -> Result<(), Memory>
+    ensures { (wanted : Option Flaw) → Tells judged wanted → OnOk result (best_flaw best.new ≡ lower (best_flaw best.old) wanted) }
 {
-    note(best, judged)
-}
-
-/// The same of a fault.
-pub(crate) fn note_flaw(
-    best: Option<LoadFault>,
-    fault: LoadFault,
-) -> Result<Option<LoadFault>, Memory>
-    ensures { (flaw : Flaw) → IsFlaw fault flaw → IfOk result (λ b. best_flaw b ≡ lower (best_flaw best) (Some flaw)) }
-{
-    note(best, Err(fault))
+    match judged {
+        Ok(()) => Ok(()),
+        Err(fault) => note(best, fault),
+    }
 }

@@ -3,7 +3,7 @@
 ghost use Rattle.std.specs.Prelude.{◌≡◌, map, option_map, IfOk};
 ghost use Rattle.cls_tree.specs.View.{code_of};
 ghost use Rattle.vm_model.specs.View as model;
-ghost use Rattle.vm_model.specs.Types.{signature_of, type_of};
+ghost use Rattle.vm_model.specs.Types.{signature_of};
 ghost use Rattle.vm_model.specs.Descriptors.{type_view, types_view};
 ghost use Rattle.vm_model.specs.Kept.{kept_type, kept_params, kept_result};
 ghost use Rattle.vm_model.specs.Links.{field_made};
@@ -46,14 +46,6 @@ fn kept_where(
     }
 }
 
-/// The type of a field of this descriptor.
-fn kept_field(alloc: Global, descriptor: &str) -> Result<Option<LinkedType>, Memory>
-    ensures { IfOk result (λ t. t ≡ option_map kept_type (type_of descriptor.now)) }
-{
-    let field_type = read_type(alloc, descriptor)?;
-    kept_where(alloc, field_type)
-}
-
 /// The types of the parameters and of the result of a method of this descriptor.
 fn kept_signature(
     alloc: Global,
@@ -80,9 +72,10 @@ fn kept_signature(
 pub(crate) fn linked_field(alloc: Global, field: &Declared<'_>) -> Result<LinkedField, Memory>
     ensures { IfOk result (λ f. model.field_of f ≡ field_made (declared_of field.now)) }
 {
-    let field_type = kept_field(alloc, field.descriptor)?;
+    let field_type = read_type(alloc, field.descriptor)?;
     let name = Text::of(alloc, field.name)?;
     let descriptor = Text::of(alloc, field.descriptor)?;
+    let field_type = kept_where(alloc, field_type)?;
     Ok(LinkedField {
         name,
         descriptor,
@@ -106,9 +99,9 @@ pub(crate) fn linked_method(
       code = map model.instr_of instrs.items;
     }) }
 {
-    let (params, answer) = kept_signature(alloc, declared.descriptor)?;
     let name = Text::of(alloc, declared.name)?;
     let descriptor = Text::of(alloc, declared.descriptor)?;
+    let (params, answer) = kept_signature(alloc, declared.descriptor)?;
     Ok(LinkedMethod {
         name,
         descriptor,

@@ -1,11 +1,11 @@
 //! Class files that are loaded together, judged and linked.
 
-ghost use Rattle.std.specs.Prelude.{◌≡◌, [], ◌++◌, map, IfOk, IfErr, List as Seq};
+ghost use Rattle.std.specs.Prelude.{◌≡◌, [], ◌++◌, map, None, IfOk, IfErr, List as Seq};
 ghost use Rattle.std.specs.List.{flat_map};
 ghost use Rattle.cls_tree.specs.View.{class_of};
 ghost use Rattle.vm_model.specs.View as model;
-ghost use Rattle.vm_model.specs.Links.{Flaw, Links, least, duplicates, class_flaws, linked_class};
-ghost use Rattle.vm_load.specs.Faults.{best_flaw, IsLeast, IsRefused};
+ghost use Rattle.vm_model.specs.Links.{Flaw, Links, least, duplicates, class_flaws, linked_class, outline};
+ghost use Rattle.vm_load.specs.Faults.{IsLeast, IsRefused};
 ghost use Rattle.vm_load.specs.Outlines.{outlines_of, names_of, is_taken};
 
 use crate::classes::judge_class;
@@ -48,27 +48,31 @@ fn table_of(alloc: Global, outlines: &[Outline<'_>]) -> Result<Names, LoadFault>
     Ok(names)
 }
 
-/// The classes, and what is wrong with them.
+/// The classes, of which these are the outlines, or the first flaw of the lowest number.
 fn judge_classes(
     alloc: Global,
     outlines: &[Outline<'_>],
     names: &Names,
     classes: &[Class],
-) -> Result<(List<LinkedClass>, Option<LoadFault>), Memory>
-    requires { names.now ≡ names_of (outlines_of outlines.now) }
-    ensures right { IfOk result (λ r. map model.class_of r.0.items ≡ map (linked_class (outlines_of outlines.now))
+) -> Result<List<LinkedClass>, LoadFault>
+    requires names { names.now ≡ names_of (outlines_of outlines.now) }
+    requires same { outlines_of outlines.now ≡ map outline (map class_of classes.now) }
+    ensures right { IfOk result (λ l. map model.class_of l.items ≡ map (linked_class (outlines_of outlines.now))
         (map class_of classes.now)) }
-    ensures wrong { IfOk result (λ r. best_flaw r.1 ≡ least (flat_map (class_flaws (outlines_of outlines.now))
-        (map class_of classes.now))) }
+    ensures none { IfOk result (λ _. None ≡ least (flat_map (class_flaws (outlines_of outlines.now)) (map class_of classes.now))) }
+    ensures refused { IfErr result (λ f. IsLeast f (flat_map (class_flaws (outlines_of outlines.now)) (map class_of classes.now))) }
 {
     let mut linked = List::new(alloc);
     let mut best = None;
-    for class in classes {
-        let (one, more) = judge_class(alloc, outlines, names, class, best)?;
+    for (number, class) in classes.iter().enumerate() {
+        let own = &outlines[number];
+        let one = judge_class(alloc, outlines, names, own, class, &mut best)?;
         linked.push(one)?;
-        best = more;
     }
-    Ok((linked, best))
+    match best {
+        Some(fault) => Err(fault),
+        None => Ok(linked),
+    }
 }
 
 /// The program that class files link to, which are loaded together.
@@ -87,9 +91,8 @@ pub fn load(alloc: Global, classes: &[Class]) -> Result<Linked, LoadFault>
         Ok(names) => names,
         Err(fault) => return Err(fault),
     };
-    let (linked, best) = judge_classes(alloc, known, &names, classes)?;
-    match best {
-        Some(fault) => Err(fault),
-        None => Ok(Linked::new(linked)),
+    match judge_classes(alloc, known, &names, classes) {
+        Ok(linked) => Ok(Linked::new(linked)),
+        Err(fault) => Err(fault),
     }
 }

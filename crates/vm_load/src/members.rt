@@ -9,7 +9,7 @@ ghost use Rattle.vm_load.specs.Declaring.{declared_of, named_of};
 ghost use Rattle.vm_load.specs.Firsts.{HasFirsts};
 
 use crate::declared::Declared;
-use crate::numbers::{Key, number_in, numbers_of};
+use crate::numbers::{Key, number_all, number_in};
 use crate::pool::NamedType;
 use indexmap::IndexMap;
 use mg_text::Memory;
@@ -34,7 +34,8 @@ impl<'a> Members<'a> {
     pub(crate) fn new(alloc: Global, all: Vec<Declared<'a>>) -> Result<Members<'a>, Memory>
         ensures { IfOk result (λ m. map declared_of m.all.items ≡ map declared_of all.entry.items) }
     {
-        let numbers = numbers_of(alloc, all.as_slice())?;
+        let mut numbers = IndexMap::new(alloc);
+        number_all(alloc, all.as_slice(), &mut numbers)?;
         Ok(Members { all, numbers })
     }
 

@@ -48,22 +48,23 @@ fn note(numbers: &mut IndexMap<Key, u32>, key: Key, number: u32) -> Result<(), M
     Ok(())
 }
 
-/// The numbers of members, by their keys.
-pub(crate) fn numbers_of(
+/// Numbers members by their keys, in a table that has none.
+pub(crate) fn number_all(
     alloc: Global,
     members: &[Declared<'_>],
-) -> Result<IndexMap<Key, u32>, Memory>
-    ensures { IfOk result (λ t. HasFirsts (get ⟦<Key as PartialEq>⟧.eq t) (map declared_of members.now)) }
+    numbers: &mut IndexMap<Key, u32>,
+) -> Result<(), Memory>
+    requires { HasFirsts (get ⟦<Key as PartialEq>⟧.eq numbers.old) [] }
+    ensures { OnOk result (HasFirsts (get ⟦<Key as PartialEq>⟧.eq numbers.new) (map declared_of members.now)) }
 {
-    let mut numbers = IndexMap::new(alloc);
     for (index, member) in members.iter().enumerate() {
         if index > 0xffff_ffff {
             return Err(Memory);
         }
         let key = key_of(alloc, member.name, member.descriptor, member.is_static)?;
-        note(&mut numbers, key, index as u32)?;
+        note(numbers, key, index as u32)?;
     }
-    Ok(numbers)
+    Ok(())
 }
 
 /// The number of the first member of a name, a descriptor and a kind.

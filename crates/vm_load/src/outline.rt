@@ -16,13 +16,24 @@ use mg_text::Memory;
 use std::alloc::Global;
 
 /// A class: its name and its declared members.
-#[derive(Drop)]
 pub(crate) struct Outline<'a> {
     pub name: &'a str,
     pub fields: Vec<Declared<'a>>,
     /// The fields that aren't static.
     pub own: Members<'a>,
     pub methods: Members<'a>,
+}
+
+// One call lets go of it, wherever a function ends.
+impl Drop for Outline<'_> {
+    fn drop(self) {
+        let Outline {
+            name: _,
+            fields: _,
+            own: _,
+            methods: _,
+        } = self;
+    }
 }
 
 /// What members declare.

@@ -51,7 +51,7 @@ pub enum Built {
 }
 
 /// What an instruction works with, its constants looked up.
-#[derive(Debug, Drop)]
+#[derive(Debug)]
 pub enum LinkedArgs {
     None,
     Int(i32),
@@ -81,15 +81,45 @@ pub enum LinkedArgs {
     Built(Built),
 }
 
+// Each part of a program is let go in one call, wherever a function ends.
+impl Drop for LinkedArgs {
+    fn drop(self) {
+        match self {
+            LinkedArgs::Text(_) => {}
+            LinkedArgs::Table {
+                default: _,
+                low: _,
+                targets: _,
+            } => {}
+            LinkedArgs::None
+            | LinkedArgs::Int(_)
+            | LinkedArgs::Local(_)
+            | LinkedArgs::Add(_, _)
+            | LinkedArgs::Jump(_)
+            | LinkedArgs::Class(_)
+            | LinkedArgs::Field { class: _, field: _ }
+            | LinkedArgs::Method {
+                class: _,
+                method: _,
+            }
+            | LinkedArgs::Built(_) => {}
+        }
+    }
+}
+
 /// An instruction: its opcode (JVMS chapter 6), and what it works with.
-#[derive(Debug, Drop)]
 pub struct LinkedInstr {
     pub op: u8,
     pub args: LinkedArgs,
 }
 
+impl Drop for LinkedInstr {
+    fn drop(self) {
+        let LinkedInstr { op: _, args: _ } = self;
+    }
+}
+
 /// A method: its name and descriptor, the types that the descriptor names, its bounds, and its code.
-#[derive(Debug, Drop)]
 pub struct LinkedMethod {
     pub name: Text,
     pub descriptor: Text,
@@ -104,8 +134,22 @@ pub struct LinkedMethod {
     ghost gives: { result ≡ kept_result (signature_of descriptor) } by { Prim.hlevel (codes, types.the_row.coded) },
 }
 
+impl Drop for LinkedMethod {
+    fn drop(self) {
+        let LinkedMethod {
+            name: _,
+            descriptor: _,
+            params: _,
+            result: _,
+            is_static: _,
+            max_stack: _,
+            max_locals: _,
+            code: _,
+        } = self;
+    }
+}
+
 /// A field that each object of a class has.
-#[derive(Debug, Drop)]
 pub struct LinkedField {
     pub name: Text,
     pub descriptor: Text,
@@ -114,10 +158,29 @@ pub struct LinkedField {
     ghost holds: { field_type ≡ option_map kept_type (type_of descriptor) } by { Prim.hlevel (codes, types.the_row.coded) },
 }
 
+impl Drop for LinkedField {
+    fn drop(self) {
+        let LinkedField {
+            name: _,
+            descriptor: _,
+            field_type: _,
+        } = self;
+    }
+}
+
 /// A class: its name, its fields that aren't static, and its methods.
-#[derive(Debug, Drop)]
 pub struct LinkedClass {
     pub name: Text,
     pub fields: List<LinkedField>,
     pub methods: List<LinkedMethod>,
+}
+
+impl Drop for LinkedClass {
+    fn drop(self) {
+        let LinkedClass {
+            name: _,
+            fields: _,
+            methods: _,
+        } = self;
+    }
 }

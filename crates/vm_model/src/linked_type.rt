@@ -9,7 +9,6 @@ use mg_text::{Memory, Text};
 use std::alloc::Global;
 
 /// The type of a field, a parameter or a result.
-#[derive(Debug, Drop)]
 pub enum LinkedType {
     Int,
     Truth,
@@ -17,6 +16,16 @@ pub enum LinkedType {
     Named(Text),
     /// The array of texts that `main` takes.
     Texts,
+}
+
+// One call lets go of it, wherever a function ends.
+impl Drop for LinkedType {
+    fn drop(self) {
+        match self {
+            LinkedType::Named(_) => {}
+            LinkedType::Int | LinkedType::Truth | LinkedType::Texts => {}
+        }
+    }
 }
 
 impl LinkedType {

@@ -14,9 +14,15 @@ use std::marker::Model;
 /// Each instruction has the arguments of its opcode (JVMS chapter 6), each number of an instruction,
 /// a class, a field or a method in them is in range, and each descriptor is that of a field or a
 /// method whose classes are built-in ones or classes of the program (JVMS 4.3).
-#[derive(Debug, Drop)]
 pub struct Linked {
     classes: List<LinkedClass>,
+}
+
+// One call lets go of it, wherever a function ends.
+impl Drop for Linked {
+    fn drop(self) {
+        let Linked { classes: _ } = self;
+    }
 }
 
 impl Model for Linked {

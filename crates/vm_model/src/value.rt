@@ -3,7 +3,7 @@
 use mg_text::Text;
 
 /// A value of the machine. Truth values and constants of enums are ints.
-#[derive(Debug, Drop)]
+#[derive(Drop)]
 pub enum Value {
     Int(i32),
     Text(Text),

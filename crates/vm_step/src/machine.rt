@@ -28,9 +28,15 @@ use vm_model::{Linked, LinkedClass, LinkedMethod, Ports};
 use vm_session::Stepped;
 
 /// A machine that runs a linked program. Contracts see its frames and its objects.
-#[derive(Drop)]
 pub struct Machine {
     state: State,
+}
+
+// One call lets go of it, wherever a function ends.
+impl Drop for Machine {
+    fn drop(self) {
+        let Machine { state: _ } = self;
+    }
 }
 
 impl Model for Machine {

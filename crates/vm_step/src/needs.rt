@@ -54,18 +54,10 @@ struct Found {
 }
 
 /// An int.
-pub(crate) fn number<'a>() -> Want<'a>
-    ensures { want_of result ≡ model.number }
-{
-    Want::Sorted(Sort::Number)
-}
+pub(crate) const NUMBER: Want<'static> = Want::Sorted(Sort::Number);
 
 /// A text or null.
-pub(crate) fn text<'a>() -> Want<'a>
-    ensures { want_of result ≡ model.text }
-{
-    Want::Typed(FieldType::Named("java/lang/String"))
-}
+pub(crate) const TEXT: Want<'static> = Want::Typed(FieldType::Named("java/lang/String"));
 
 /// The class of an object, of a text and of the print stream.
 fn class_of_value<'a>(linked: &'a Linked, state: &State, cell: Cell) -> &'a str

@@ -19,7 +19,7 @@ ghost use Rattle.vm_step.specs.Doing.{Plays};
 
 use crate::built::{concat, equals, init, print, push_out, show_int, show_truth};
 use crate::calls::call;
-use crate::needs::{Want, number, taking, text, wrong};
+use crate::needs::{NUMBER, TEXT, Want, taking, wrong};
 use crate::objects::{make, read, write};
 use crate::plain::{
     compute, double, increase, jump, jump_on_both, jump_on_null, jump_on_zero, load, negate, pop,
@@ -89,14 +89,14 @@ fn check_plain(linked: &Linked, state: &State, plain: Plain<'_>) -> Option<BadKi
         Plain::Pop => check(linked, state, &[Want::Any], 0),
         Plain::Double => check(linked, state, &[Want::Any], 2),
         Plain::Swap => check(linked, state, &[Want::Any, Want::Any], 2),
-        Plain::Compute(_) => check(linked, state, &[number(), number()], 1),
-        Plain::Negate => check(linked, state, &[number()], 1),
+        Plain::Compute(_) => check(linked, state, &[NUMBER, NUMBER], 1),
+        Plain::Negate => check(linked, state, &[NUMBER], 1),
         Plain::Increase(local, _) => check_reading(linked, state, Sort::Number, local, 0),
-        Plain::IfZero(_, _) => check(linked, state, &[number()], 0),
-        Plain::IfBoth(_, _) => check(linked, state, &[number(), number()], 0),
+        Plain::IfZero(_, _) => check(linked, state, &[NUMBER], 0),
+        Plain::IfBoth(_, _) => check(linked, state, &[NUMBER, NUMBER], 0),
         Plain::IfNull(_, _) => check(linked, state, &[Want::Sorted(Sort::Reference)], 0),
         Plain::Go(_) => check(linked, state, &[], 0),
-        Plain::Switch { .. } => check(linked, state, &[number()], 0),
+        Plain::Switch { .. } => check(linked, state, &[NUMBER], 0),
     }
 }
 
@@ -202,12 +202,11 @@ fn act_make(
     make(state, alloc, linked, class)
 }
 
-/// A value of a built-in class, by its name.
-fn named<'a>(name: &'a str) -> Want<'a>
-    ensures { want_of result ≡ tests.Typed (types.Named name.now) }
-{
-    Want::Typed(FieldType::Named(name))
-}
+/// An object of any class.
+const OBJECT: Want<'static> = Want::Typed(FieldType::Named("java/lang/Object"));
+
+/// The print stream.
+const STREAM: Want<'static> = Want::Typed(FieldType::Named("java/io/PrintStream"));
 
 /// What is wrong with the use of a member of a built-in class.
 pub(crate) fn check_built(linked: &Linked, state: &State, built: Built) -> Option<BadKind>
@@ -216,20 +215,18 @@ pub(crate) fn check_built(linked: &Linked, state: &State, built: Built) -> Optio
     ensures small { tests.max_stack_in (tests.method_of_frame linked.now (state_of state.now).frame) ≤ most }
 {
     match built {
-        Built::Init => check(linked, state, &[named("java/lang/Object")], 0),
-        Built::Concat => check(linked, state, &[text(), text()], 1),
-        Built::Equals => check(linked, state, &[text(), named("java/lang/Object")], 1),
-        Built::ValueOfInt | Built::ValueOfTruth => check(linked, state, &[number()], 1),
+        Built::Init => check(linked, state, &[OBJECT], 0),
+        Built::Concat => check(linked, state, &[TEXT, TEXT], 1),
+        Built::Equals => check(linked, state, &[TEXT, OBJECT], 1),
+        Built::ValueOfInt | Built::ValueOfTruth => check(linked, state, &[NUMBER], 1),
         Built::Out => check(linked, state, &[], 1),
-        Built::Println => check(linked, state, &[named("java/io/PrintStream"), text()], 0),
-        Built::Send | Built::Take | Built::Refuse => check(linked, state, &[text(), text()], 0),
-        Built::SendInt | Built::SendTruth => {
-            check(linked, state, &[text(), text(), number()], 0)
-        }
-        Built::SendText => check(linked, state, &[text(), text(), text()], 0),
-        Built::Look => check(linked, state, &[text()], 1),
+        Built::Println => check(linked, state, &[STREAM, TEXT], 0),
+        Built::Send | Built::Take | Built::Refuse => check(linked, state, &[TEXT, TEXT], 0),
+        Built::SendInt | Built::SendTruth => { check(linked, state, &[TEXT, TEXT, NUMBER], 0) }
+        Built::SendText => check(linked, state, &[TEXT, TEXT, TEXT], 0),
+        Built::Look => check(linked, state, &[TEXT], 1),
         Built::TakeInt | Built::TakeTruth | Built::TakeText => {
-            check(linked, state, &[text(), text()], 1)
+            check(linked, state, &[TEXT, TEXT], 1)
         }
     }
 }

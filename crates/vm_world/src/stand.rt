@@ -11,7 +11,7 @@ use std::alloc::Global;
 use vm_world_law::{RoleMain, Stand};
 
 /// A role of a world: how many of its instructions were counted, and how it stands.
-#[derive(Debug, Drop)]
+#[derive(Drop)]
 pub struct RoleRan {
     pub instructions: u64,
     pub stand: Stand,

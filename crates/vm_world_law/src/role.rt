@@ -4,21 +4,21 @@
 use mg_text::{Ending, Event, Text};
 
 /// A role and the class whose `main` it runs.
-#[derive(Debug, Drop)]
+#[derive(Drop)]
 pub struct RoleMain {
     pub role: Text,
     pub class: Text,
 }
 
 /// An event, and the number of the role of which it is seen.
-#[derive(Debug, Drop)]
+#[derive(Drop)]
 pub struct RoleEvent {
     pub role: u32,
     pub event: Event,
 }
 
 /// What a turn did.
-#[derive(Debug, Drop)]
+#[derive(Drop)]
 pub enum Turned {
     /// The role took an instruction.
     Went,

@@ -3,7 +3,7 @@
 use mg_text::{Ending, Text};
 
 /// How a role stands at a moment of a run.
-#[derive(Debug, Drop)]
+#[derive(Drop)]
 pub enum Stand {
     /// It ended so.
     Ended(Ending),

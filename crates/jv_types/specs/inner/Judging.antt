@@ -30,6 +30,11 @@ abbrev pub Tells : Wrong → Option (Condition × Culprit) → Type 0
 Tells wrongs.Memory r = Unit {0}
 Tells (wrongs.Fault k p n) r = r ≡ Some (k, culprit p n.now)
 
+-- an error tells one of these faults
+abbrev pub TellsOne : (Option (Condition × Culprit) → Type 0) → Wrong → Type 0
+TellsOne Is wrongs.Memory = Unit {0}
+TellsOne Is (wrongs.Fault k p n) = Is (Some (k, culprit p n.now))
+
 -- nothing is wrong with an expression, and this is its type
 pub record IsChecked (scope : Scope) (e : Expr) (c : Checked) : Type 0 where
   pub fine : expr_fault scope e ≡ None

@@ -16,10 +16,8 @@ use Rattle.jv_types.specs.inner.Blaming.{is_in}
 use Rattle.jv_rules.specs.Conditions.{LoopAt, CaseAt, cases}
 use Rattle.jv_rules.specs.Spots.{stmt_spots, stmts_spots, group_spots, param_spots}
 use Rattle.jv_rules.specs.Taking as rules
-use Rattle.jv_rules.specs.Typing.{type_of}
 use Rattle.jv_rules.specs.inner.Deciding.{told, first_by, type_mismatch, bad_label, fault_in}
 use Rattle.jv_types.specs.declared.judged.Wrong.{Wrong}
-use Rattle.jv_types.specs.declared.value_type.ValueType.{ValueType as KeptType}
 use Rattle.jv_types.specs.declared.simple.Written.{Written as KeptWritten}
 use Rattle.jv_types.specs.declared.values.Wanted.{Wanted}
 use Rattle.jv_types.specs.declared.values.Wanted.TheVariants as kept
@@ -46,14 +44,6 @@ abbrev pub value_told : Scope → Expr → rules.Wanted → Option (Condition ×
 value_told scope e wanted =
     option_or (expr_fault scope e)
     (told conditions.TypeMismatch (first_by type_mismatch (rules.all_taken scope (rules.taken e wanted ∷ []))) None)
-
--- nothing is wrong with a value, and this is its type
-pub record IsTaken (scope : Scope) (e : Expr) (wanted : rules.Wanted) (t : KeptType) : Type 0 where
-  pub fine : value_told scope e wanted ≡ None
-  pub typed : type_of scope e ≡ Some (type_seen t)
-
-abbrev pub JudgesValue : Scope → Expr → rules.Wanted → Result KeptType Wrong → Type 0
-JudgesValue scope e wanted result = MatchResult result (λ t. IsTaken scope e wanted t) (λ w. Tells w (value_told scope e wanted))
 
 -- nothing is wrong, or this is
 abbrev pub Answers : Option (Condition × Culprit) → Result Unit Wrong → Type 0

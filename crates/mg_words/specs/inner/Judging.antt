@@ -12,11 +12,13 @@ use Rattle.mg_words.specs.Words.{Word, RoleClass, Roles, Alone, Several, role_na
 use Rattle.mg_words.specs.Words.{Run, Exec, Refine, Project, Load, Verify, IsFileOf, IsSourceName, IsCommand, AreWrong, RunOption, Main}
 use Rattle.mg_words.specs.Words.{Role}
 use Rattle.mg_words.specs.Words.{Order, Steps, Trace, Out, option_words, IsOption, class_in, role_in, order_in, steps_in, is_trace}
-use Rattle.mg_words.specs.Words.{folder_in, AreOptions}
+use Rattle.mg_words.specs.Words.{folder_in, AreOptions, IsFileName, out_words}
 use Rattle.mg_words.specs.declared.words.Command.{Command as Found}
 use Rattle.mg_words.specs.declared.words.Command.TheVariants as found
 use Rattle.mg_words.specs.declared.words.Judged.{Judged}
 use Rattle.mg_words.specs.declared.words.Judged.TheVariants as judged
+use Rattle.mg_words.specs.declared.words.Placed.{Placed}
+use Rattle.mg_words.specs.declared.words.Placed.TheVariants as placed
 use Rattle.mg_words.specs.declared.roles.RoleWord.{RoleWord}
 use Rattle.mg_words.specs.declared.runs.Input.{Input}
 use Rattle.mg_words.specs.declared.runs.Input.TheVariants as input
@@ -126,6 +128,15 @@ IsKnown command = (words : List Word) × IsCommand command words
 abbrev pub IsJudged : List Word → Judged → Type 0
 IsJudged words (judged.Known command) = IsCommand (command_of command) words
 IsJudged words (judged.Wrong word) = AreWrong words (option_map (λ w. w.now) word)
+
+-- the folder that words begin with, if they do, and the words behind it, or what makes that none
+abbrev pub IsPlaced : List Word → Placed → Type 0
+IsPlaced words (placed.In folder files) =
+    (words ≡ out_words (option_map (λ f. f.now) folder) ++ files.now) × IfSome folder (λ f. IsFileName f.now)
+    × (folder ≡ None → (rest : List Word) → files.now ≡ codes "--out" ∷ rest → ⊥)
+IsPlaced words (placed.Wrong None) = words ≡ codes "--out" ∷ []
+IsPlaced words (placed.Wrong (Some word)) =
+    (rest : List Word) × (words ≡ codes "--out" ∷ word.now ∷ rest) × (IsFileName word.now → ⊥)
 
 -- the first word of which this doesn't hold, or none where it holds of all
 abbrev pub IsFirstOther : (Word → Type 0) → List Word → Option Word → Type 0

@@ -5,24 +5,30 @@ use crate::commands::classes::files_for;
 use crate::commands::given::{are_clear, line_of, numbers_of};
 use crate::commands::torn::{each_bit, each_front};
 use crate::commands::world::World;
-use cases::{Answer, plain};
+use cases::Answer;
 use mg_io::{FileList, Folder, HostFolder, IoFault, MemFolder, MemSink, NumberList};
 use mg_text::Memory;
 use std::alloc::Global;
 use std::rt::Files;
 
-/// What the run that a case asks for leaves.
-pub fn answer<R: Files>(alloc: Global, rt: &R, given: &str) -> Result<String, Memory> {
+/// Tells what the run that a case asks for leaves.
+pub fn tell_asked<R: Files>(
+    alloc: Global,
+    answer: &mut Answer,
+    rt: &R,
+    given: &str,
+) -> Result<(), Memory> {
     let (head, files) = given.split_once("\n>>> ").unwrap_or((given, ""));
     if !are_clear(head) {
-        return plain(alloc, "out of form");
+        answer.add("out of form");
+        return Ok(());
     }
     let asked = Asked { rt, head, files };
     match line_of(head, "each ") {
-        "" => asked.left(alloc, Turn::NONE),
+        "" => asked.tell_left(alloc, answer, Turn::NONE),
         each => match each.split_once(' ') {
-            Some((what, name)) => asked.torn(alloc, what, name),
-            None => asked.failing_each(alloc, each),
+            Some((what, name)) => asked.tell_torn(alloc, answer, what, name),
+            None => asked.tell_failing(alloc, answer, each),
         },
     }
 }
@@ -55,49 +61,49 @@ struct Asked<'a, R: Files> {
 }
 
 impl<'a, R: Files> Asked<'a, R> {
+    // Tells what the run leaves.
+    fn tell_left(&self, alloc: Global, answer: &mut Answer, turn: Turn<'_>) -> Result<(), Memory> {
+        let mut world = self.world(alloc, turn)?;
+        world.tell_run(alloc, answer, self.head)
+    }
+
     // What the run leaves.
     fn left(&self, alloc: Global, turn: Turn<'_>) -> Result<String, Memory> {
-        let mut world = self.world(alloc, turn)?;
         let mut answer = Answer::new(alloc);
-        world.tell_run(alloc, &mut answer, self.head)?;
-        Ok(answer.into_text())
+        self.tell_left(alloc, &mut answer, turn)?;
+        answer.into_text()
     }
 
-    // How it ends for each front of a file, or for each bit of it that is another.
-    fn torn(&self, alloc: Global, what: &str, name: &str) -> Result<String, Memory> {
-        let world = self.world(alloc, Turn::NONE)?;
-        let line = line_of(self.head, "mungo ");
-        match what {
-            "front" => each_front(alloc, line, &world.folder, name),
-            _ => each_bit(alloc, line, &world.folder, name),
-        }
-    }
-
-    // What it leaves where each call of a stream fails in turn, and then where none fails.
-    fn failing_each(&self, alloc: Global, stream: &str) -> Result<String, Memory> {
-        let whole = self.left(alloc, Turn::NONE)?;
-        let mut answer = Answer::new(alloc);
-        self.add_failing(alloc, &mut answer, stream, whole.as_str())?;
-        answer.pair("none fails: ", whole.as_str())?;
-        Ok(answer.into_text())
-    }
-
-    // Adds what it leaves where each call of a stream fails in turn, up to the first that isn't made,
-    // so that all is left.
-    fn add_failing(
+    // Tells how it ends for each front of a file, or for each bit of it that is another.
+    fn tell_torn(
         &self,
         alloc: Global,
         answer: &mut Answer,
-        stream: &str,
-        whole: &str,
+        what: &str,
+        name: &str,
     ) -> Result<(), Memory> {
+        let world = self.world(alloc, Turn::NONE)?;
+        let line = line_of(self.head, "mungo ");
+        match what {
+            "front" => each_front(alloc, answer, line, &world.folder, name),
+            _ => each_bit(alloc, answer, line, &world.folder, name),
+        }
+    }
+
+    // Tells what it leaves where each call of a stream fails in turn, up to the first that isn't made,
+    // so that all is left; and then all.
+    fn tell_failing(&self, alloc: Global, answer: &mut Answer, stream: &str) -> Result<(), Memory> {
+        let whole = self.left(alloc, Turn::NONE)?;
+        let whole = whole.as_str();
         for call in 0..MOST_CALLS {
             let one = self.left(alloc, Turn { stream, call })?;
-            if one.as_str() == whole {
+            let one = one.as_str();
+            if one == whole {
                 break;
             }
-            add_failed(answer, stream, call, one.as_str())?;
+            write!(answer, "{stream} {call} fails: {one}\n");
         }
+        answer.pair("none fails: ", whole);
         Ok(())
     }
 
@@ -126,10 +132,10 @@ impl<'a, R: Files> Asked<'a, R> {
     }
 
     fn folder(&self, alloc: Global, turn: Turn<'_>) -> Result<MemFolder, Memory> {
-        let failing = self.failing(alloc, "folder", turn)?;
         let mut kept = FileList::new(alloc);
         self.add_files(alloc, &mut kept)?;
         let kept = files_for(alloc, self.head, kept)?;
+        let failing = self.failing(alloc, "folder", turn)?;
         MemFolder::new(alloc, kept, failing)
     }
 
@@ -143,13 +149,6 @@ impl<'a, R: Files> Asked<'a, R> {
         }
         add_files_here(alloc, self.rt, kept, line_of(self.head, "with "))
     }
-}
-
-fn add_failed(answer: &mut Answer, stream: &str, call: u32, left: &str) -> Result<(), Memory> {
-    answer.pair(stream, " ")?;
-    answer.show(&call)?;
-    answer.pair(" fails: ", left)?;
-    answer.add("\n")
 }
 
 /// The longest file here that a case may ask for.

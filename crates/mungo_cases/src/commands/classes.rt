@@ -11,11 +11,13 @@ use std::alloc::Global;
 /// of its words that the earlier command left; changed where the case says so.
 pub fn files_for(alloc: Global, head: &str, kept: FileList) -> Result<FileList, Memory> {
     let first = line_of(head, "first ");
-    if first.is_empty() {
-        changed(alloc, head, kept)
+    let mut files = if first.is_empty() {
+        kept
     } else {
-        changed(alloc, head, left_by(alloc, first, head, kept)?)
-    }
+        left_by(alloc, first, head, kept)?
+    };
+    change(alloc, head, &mut files)?;
+    Ok(files)
 }
 
 // The files of the words of a case's command that an earlier command left.
@@ -36,13 +38,12 @@ pub fn files_in(alloc: Global, folder: &MemFolder, names: &str) -> Result<FileLi
     Ok(files)
 }
 
-// The files with the changes that a case asks for.
-fn changed(alloc: Global, head: &str, mut files: FileList) -> Result<FileList, Memory> {
-    fill(alloc, line_of(head, "fills "), &mut files)?;
-    cut(alloc, line_of(head, "cuts "), &mut files)?;
-    set(alloc, line_of(head, "sets "), &mut files)?;
-    grow(alloc, line_of(head, "grows "), &mut files)?;
-    Ok(files)
+// Makes the changes that a case asks for.
+fn change(alloc: Global, head: &str, files: &mut FileList) -> Result<(), Memory> {
+    fill(alloc, line_of(head, "fills "), files)?;
+    cut(alloc, line_of(head, "cuts "), files)?;
+    set(alloc, line_of(head, "sets "), files)?;
+    grow(alloc, line_of(head, "grows "), files)
 }
 
 // A number behind a blank.
@@ -55,10 +56,7 @@ fn fill(alloc: Global, line: &str, files: &mut FileList) -> Result<(), Memory> {
     let Some((name, count)) = line.split_once(' ') else {
         return Ok(());
     };
-    let mut bytes = Vec::new(alloc);
-    for _ in 0..number(count) {
-        bytes.push(0)?;
-    }
+    let bytes = vec![in alloc; 0; number(count)]?;
     files.add(alloc, name, bytes.as_slice())
 }
 

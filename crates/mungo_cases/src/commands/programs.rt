@@ -6,17 +6,18 @@ mod codes;
 mod cores;
 mod flows;
 mod forms;
-mod frames;
 mod judged;
 mod keys;
 mod program;
 mod used;
 
-use cases::CasesFault;
-use std::rt::Files;
+use crate::commands::programs::program::tell_program;
+use cases::{Answer, Answers};
+use mg_text::Memory;
+use std::alloc::Global;
 
 /// The files of cases, in the order in which they are answered.
-const FILES: [&str; 29] = [
+pub const FILES: [&str; 29] = [
     "typed_unread.txt",
     "typed_declarations.txt",
     "typed_programs.txt",
@@ -48,10 +49,18 @@ const FILES: [&str; 29] = [
     "follows.txt",
 ];
 
-/// Tells the cases of programs.
-pub fn tell<R: Files + Print + AllocGlobal>(rt: &R) -> Result<(), CasesFault> {
-    for file in FILES {
-        frames::tell(rt, file)?;
+/// What answers cases of programs.
+pub struct Programs;
+
+impl Answers for Programs {
+    fn answer(
+        &self,
+        alloc: Global,
+        answer: &mut Answer,
+        file: &str,
+        given: &[u8],
+    ) -> Result<(), Memory> {
+        let text = str::from_utf8(given).unwrap_or("no text");
+        tell_program(alloc, answer, file, text)
     }
-    Ok(())
 }

@@ -3,18 +3,20 @@
 
 use crate::commands::classes::files_in;
 use crate::commands::world::World;
+use cases::Answer;
 use mg_io::MemFolder;
 use mg_text::Memory;
 use mg_top::Status;
 use std::alloc::Global;
 
-/// Whether the command refuses each front of a file of the folder as cut.
+/// Tells whether the command refuses each front of a file of the folder as cut.
 pub fn each_front(
     alloc: Global,
+    answer: &mut Answer,
     line: &str,
     folder: &MemFolder,
     name: &str,
-) -> Result<String, Memory> {
+) -> Result<(), Memory> {
     let bytes = folder.content(name).unwrap_or(b"");
     let mut others: u64 = 0;
     for count in 0..bytes.len() {
@@ -23,16 +25,19 @@ pub fn each_front(
         }
     }
     let all = bytes.len();
-    Ok(format!(in alloc; "{others} of {all} fronts are not refused as cut")?)
+    write!(answer, "{others} of {all} fronts are not refused as cut");
+    Ok(())
 }
 
-/// Whether the command ends as it may where a bit of a file of the folder is another, for each bit.
+/// Tells whether the command ends as it may where a bit of a file of the folder is another, for each
+/// bit.
 pub fn each_bit(
     alloc: Global,
+    answer: &mut Answer,
     line: &str,
     folder: &MemFolder,
     name: &str,
-) -> Result<String, Memory> {
+) -> Result<(), Memory> {
     let bytes = folder.content(name).unwrap_or(b"");
     let mut changed = Vec::from_slice(alloc, bytes)?;
     let mut others: u64 = 0;
@@ -46,7 +51,8 @@ pub fn each_bit(
             }
         }
     }
-    Ok(format!(in alloc; "{others} changes of a bit end otherwise")?)
+    write!(answer, "{others} changes of a bit end otherwise");
+    Ok(())
 }
 
 // Turns these bits of a byte.

@@ -10,11 +10,20 @@ use mg_top::Status;
 use std::alloc::Global;
 
 /// What a command is run in.
-#[derive(Drop)]
 pub struct World {
     pub folder: MemFolder,
     pub out: MemSink,
     pub err: MemSink,
+}
+
+impl Drop for World {
+    fn drop(self) {
+        let World {
+            folder: _,
+            out: _,
+            err: _,
+        } = self;
+    }
 }
 
 impl World {
@@ -42,39 +51,38 @@ impl World {
         head: &str,
     ) -> Result<(), Memory> {
         let status = self.run(alloc, line_of(head, "mungo "))?;
-        self.tell_ending(answer, status)?;
-        self.tell_files(answer, line_of(head, "shows "))?;
-        self.tell_bytes(answer, line_of(head, "bytes "))
+        self.tell_ending(answer, status);
+        tell_files(answer, &self.folder, line_of(head, "shows "));
+        tell_bytes(answer, &self.folder, line_of(head, "bytes "));
+        Ok(())
     }
 
     // Tells a status, how often the folder was called, and what was put on the sinks.
-    fn tell_ending(&self, answer: &mut Answer, status: Status) -> Result<(), Memory> {
-        answer.add("status ")?;
-        answer.show(&status.number())?;
-        answer.add(" after ")?;
-        answer.show(&self.folder.calls())?;
-        answer.add(" calls")?;
-        tell(answer, "out: ", self.out.bytes())?;
-        tell(answer, "err: ", self.err.bytes())
+    fn tell_ending(&self, answer: &mut Answer, status: Status) {
+        answer.add("status ");
+        answer.show(&status.number());
+        answer.add(" after ");
+        answer.show(&self.folder.calls());
+        answer.add(" calls");
+        tell(answer, "out: ", self.out.bytes());
+        tell(answer, "err: ", self.err.bytes());
     }
+}
 
-    // Tells the contents of the files of these names.
-    fn tell_files(&self, answer: &mut Answer, names: &str) -> Result<(), Memory> {
-        for name in names.split(' ') {
-            tell_file(answer, name, self.folder.content(name))?;
-        }
-        Ok(())
+// Tells the contents of the files of these names.
+fn tell_files(answer: &mut Answer, folder: &MemFolder, names: &str) {
+    for name in names.split(' ') {
+        tell_file(answer, name, folder.content(name));
     }
+}
 
-    // Tells the bytes of the files of these names that are there.
-    fn tell_bytes(&self, answer: &mut Answer, names: &str) -> Result<(), Memory> {
-        for name in names.split(' ') {
-            if let Some(bytes) = self.folder.content(name) {
-                answer.pair("\n>>> ", name)?;
-                tell_digits(answer, bytes)?;
-            }
+// Tells the bytes of the files of these names that are there.
+fn tell_bytes(answer: &mut Answer, folder: &MemFolder, names: &str) {
+    for name in names.split(' ') {
+        if let Some(bytes) = folder.content(name) {
+            answer.pair("\n>>> ", name);
+            tell_digits(answer, bytes);
         }
-        Ok(())
     }
 }
 
@@ -82,24 +90,23 @@ impl World {
 const IN_A_LINE: usize = 32;
 
 // Tells bytes by two hexadecimal digits each.
-fn tell_digits(answer: &mut Answer, bytes: &[u8]) -> Result<(), Memory> {
+fn tell_digits(answer: &mut Answer, bytes: &[u8]) {
     for piece in bytes.chunks(IN_A_LINE) {
-        answer.add("\n")?;
+        answer.add("\n");
         for byte in piece {
-            answer.hexadecimal(u32::from(*byte))?;
+            answer.hexadecimal(u32::from(*byte));
         }
     }
-    Ok(())
 }
 
 // Tells a file, or that there is none. A file with no name isn't told.
-fn tell_file(answer: &mut Answer, name: &str, content: Option<&[u8]>) -> Result<(), Memory> {
+fn tell_file(answer: &mut Answer, name: &str, content: Option<&[u8]>) {
     match content {
         Some(bytes) => {
-            answer.pair("\n>>> ", name)?;
-            tell(answer, "", bytes)
+            answer.pair("\n>>> ", name);
+            tell(answer, "", bytes);
         }
-        None if name.is_empty() => Ok(()),
+        None if name.is_empty() => {}
         None => answer.pair("\nno ", name),
     }
 }
@@ -108,10 +115,10 @@ fn tell_file(answer: &mut Answer, name: &str, content: Option<&[u8]>) -> Result<
 const MOST: usize = 2000;
 
 // Tells bytes in lines, each behind a label.
-fn tell(answer: &mut Answer, label: &str, bytes: &[u8]) -> Result<(), Memory> {
+fn tell(answer: &mut Answer, label: &str, bytes: &[u8]) {
     let count = bytes.len();
     if count == 0 {
-        return Ok(());
+        return;
     }
     if count > MOST {
         return tell_count(answer, label, count, " bytes");
@@ -122,20 +129,20 @@ fn tell(answer: &mut Answer, label: &str, bytes: &[u8]) -> Result<(), Memory> {
     }
 }
 
-fn tell_count(answer: &mut Answer, label: &str, count: usize, unit: &str) -> Result<(), Memory> {
-    answer.pair("\n", label)?;
-    answer.show(&count)?;
-    answer.add(unit)
+fn tell_count(answer: &mut Answer, label: &str, count: usize, unit: &str) {
+    answer.pair("\n", label);
+    answer.show(&count);
+    answer.add(unit);
 }
 
-fn tell_lines(answer: &mut Answer, label: &str, text: &str) -> Result<(), Memory> {
+fn tell_lines(answer: &mut Answer, label: &str, text: &str) {
     let (lines, end) = match text.strip_suffix('\n') {
         Some(lines) => (lines, ""),
         None => (text, " and no line end"),
     };
     for line in lines.split('\n') {
-        answer.pair("\n", label)?;
-        answer.add(line)?;
+        answer.pair("\n", label);
+        answer.add(line);
     }
-    answer.add(end)
+    answer.add(end);
 }

@@ -6,7 +6,6 @@ use cases::Answer;
 use cls_bytes::{ClassFault, read_class, write_class};
 use cls_code::CodeFault;
 use cls_tree::Class;
-use mg_text::Memory;
 use std::alloc::Global;
 
 /// Tells what the class of a case has, or its fault.
@@ -18,33 +17,27 @@ pub fn tell(
 ) -> Result<(), Unanswered> {
     let mut bytes = Vec::new(alloc);
     add_lines(&mut bytes, hello, given)?;
-    tell_class(alloc, answer, bytes.as_slice())?;
-    Ok(())
-}
-
-fn tell_class(alloc: Global, answer: &mut Answer, bytes: &[u8]) -> Result<(), Memory> {
+    let bytes = bytes.as_slice();
     if !is_written_back(alloc, bytes) {
-        answer.add("written otherwise")?;
+        answer.add("written otherwise");
     }
     match read(alloc, bytes) {
         Ok(class) => tell_parts(answer, &class),
         Err(fault) => answer.tell(&fault),
     }
+    Ok(())
 }
 
 // Tells the numbers of a class, its own, that of the class above and its access, then how many
 // constants, fields and attributes it has, and its methods.
-fn tell_parts(answer: &mut Answer, class: &Class) -> Result<(), Memory> {
-    let numbers = (class.this_class, class.super_class, class.access);
-    answer.tell(&numbers)?;
-    let counts = (class.pool.len(), class.fields.len(), class.attributes.len());
-    answer.line()?;
-    answer.tell(&counts)?;
+fn tell_parts(answer: &mut Answer, class: &Class) {
+    answer.tell(&(class.this_class, class.super_class, class.access));
+    answer.line();
+    answer.tell(&(class.pool.len(), class.fields.len(), class.attributes.len()));
     for method in class.methods.as_slice() {
-        answer.line()?;
-        answer.tell(method)?;
+        answer.line();
+        answer.tell(method);
     }
-    Ok(())
 }
 
 // Adds the bytes that lines give.

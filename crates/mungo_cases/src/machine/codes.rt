@@ -4,30 +4,21 @@ use crate::machine::instrs::tell_instrs;
 use crate::machine::spelling::bytes_of;
 use crate::machine::unanswered::Unanswered;
 use cases::Answer;
-use cls_code::{CodeFault, decode, encode};
-use cls_tree::Instr;
-use mg_text::{List, Memory};
+use cls_code::{decode, encode};
 use std::alloc::Global;
 
 /// Tells the instructions of a code, or its fault.
 pub fn tell(alloc: Global, answer: &mut Answer, given: &str) -> Result<(), Unanswered> {
     let bytes = bytes_of(alloc, given)?;
-    tell_code(alloc, answer, bytes.as_slice())?;
-    Ok(())
-}
-
-fn tell_code(alloc: Global, answer: &mut Answer, bytes: &[u8]) -> Result<(), Memory> {
+    let bytes = bytes.as_slice();
     if !is_encoded_back(alloc, bytes) {
-        answer.add("encoded otherwise")?;
+        answer.add("encoded otherwise");
     }
-    match read(alloc, bytes) {
+    match decode(alloc, bytes) {
         Ok(instrs) => tell_instrs(answer, instrs.as_slice()),
         Err(fault) => answer.tell(&fault),
     }
-}
-
-fn read(alloc: Global, bytes: &[u8]) -> Result<List<Instr>, CodeFault> {
-    decode(alloc, bytes)
+    Ok(())
 }
 
 // Whether these bytes are no code, or one that is encoded as they are.

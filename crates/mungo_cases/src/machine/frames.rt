@@ -34,7 +34,10 @@ pub fn tell(
 fn tell_run(alloc: Global, answer: &mut Answer, bytes: &[u8]) -> Result<(), Memory> {
     match read(alloc, bytes) {
         Ok(class) => tell_class(alloc, answer, class, STEPS),
-        Err(fault) => answer.tell(&fault),
+        Err(fault) => {
+            answer.tell(&fault);
+            Ok(())
+        }
     }
 }
 

@@ -3,17 +3,15 @@
 use crate::machine::spelling::{byte_of, number_of};
 use cases::Answer;
 use cls_tree::{Args, Instr};
-use mg_text::Memory;
 
 /// Tells instructions, each in a line.
-pub fn tell_instrs(answer: &mut Answer, instrs: &[Instr]) -> Result<(), Memory> {
+pub fn tell_instrs(answer: &mut Answer, instrs: &[Instr]) {
     for instr in instrs {
-        answer.line()?;
-        answer.hexadecimal(u32::from(instr.op))?;
-        answer.add(" ")?;
-        answer.tell(&instr.args)?;
+        answer.line();
+        answer.hexadecimal(u32::from(instr.op));
+        answer.add(" ");
+        answer.tell(&instr.args);
     }
-    Ok(())
 }
 
 /// The instruction of a line, but for a table. What stands alone is an opcode without arguments.

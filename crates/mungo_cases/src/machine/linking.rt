@@ -4,7 +4,7 @@ use crate::machine::described::class_of;
 use crate::machine::unanswered::Unanswered;
 use cases::Answer;
 use cls_tree::Class;
-use mg_text::{List, Memory};
+use mg_text::List;
 use std::alloc::Global;
 use vm_load::{LoadFault, load};
 use vm_model::{Linked, LinkedClass, LinkedMethod};
@@ -13,7 +13,10 @@ use vm_model::{Linked, LinkedClass, LinkedMethod};
 pub fn tell(alloc: Global, answer: &mut Answer, given: &str) -> Result<(), Unanswered> {
     let mut classes = List::new(alloc);
     add_classes(alloc, &mut classes, given)?;
-    tell_linked(alloc, answer, classes.as_slice())?;
+    match link(alloc, classes.as_slice()) {
+        Ok(linked) => tell_program(answer, &linked),
+        Err(fault) => answer.tell(&fault),
+    }
     Ok(())
 }
 
@@ -26,45 +29,33 @@ fn add_classes(alloc: Global, classes: &mut List<Class>, given: &str) -> Result<
     Ok(())
 }
 
-fn tell_linked(alloc: Global, answer: &mut Answer, classes: &[Class]) -> Result<(), Memory> {
-    match link(alloc, classes) {
-        Ok(linked) => tell_program(answer, &linked),
-        Err(fault) => answer.tell(&fault),
-    }
-}
-
 /// The program that these classes link to.
 pub fn link(alloc: Global, classes: &[Class]) -> Result<Linked, LoadFault> {
     load(alloc, classes)
 }
 
-fn tell_program(answer: &mut Answer, linked: &Linked) -> Result<(), Memory> {
+fn tell_program(answer: &mut Answer, linked: &Linked) {
     for class in linked.classes() {
-        tell_class(answer, class)?;
+        tell_class(answer, class);
     }
-    Ok(())
 }
 
-fn tell_class(answer: &mut Answer, class: &LinkedClass) -> Result<(), Memory> {
-    answer.line()?;
-    answer.add("class ")?;
-    answer.add(class.name.as_str())?;
+fn tell_class(answer: &mut Answer, class: &LinkedClass) {
+    answer.line();
+    answer.pair("class ", class.name.as_str());
     for method in class.methods.as_slice() {
-        tell_method(answer, method)?;
+        tell_method(answer, method);
     }
-    Ok(())
 }
 
-fn tell_method(answer: &mut Answer, method: &LinkedMethod) -> Result<(), Memory> {
-    answer.line()?;
-    answer.add(if method.is_static { "static " } else { "" })?;
-    answer.add(method.name.as_str())?;
-    answer.add(method.descriptor.as_str())?;
+fn tell_method(answer: &mut Answer, method: &LinkedMethod) {
+    answer.line();
+    answer.add(if method.is_static { "static " } else { "" });
+    answer.pair(method.name.as_str(), method.descriptor.as_str());
     for instr in method.code.as_slice() {
-        answer.line()?;
-        answer.hexadecimal(u32::from(instr.op))?;
-        answer.add(" ")?;
-        answer.tell(&instr.args)?;
+        answer.line();
+        answer.hexadecimal(u32::from(instr.op));
+        answer.add(" ");
+        answer.tell(&instr.args);
     }
-    Ok(())
 }

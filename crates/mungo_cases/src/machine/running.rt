@@ -31,16 +31,20 @@ pub fn tell_class(
 ) -> Result<(), Memory> {
     match link(alloc, &[class]) {
         Ok(linked) => tell_run(alloc, answer, &linked, steps),
-        Err(fault) => answer.tell(&fault),
+        Err(fault) => {
+            answer.tell(&fault);
+            Ok(())
+        }
     }
 }
 
 fn tell_run(alloc: Global, answer: &mut Answer, linked: &Linked, steps: u32) -> Result<(), Memory> {
     if !has_main(linked, "Hello") {
-        return answer.add("no main");
+        answer.add("no main");
+        return Ok(());
     }
-    let machine = Machine::start(alloc, linked, "Hello")?;
     let ports = no_ports(alloc)?;
+    let machine = Machine::start(alloc, linked, "Hello")?;
     let mut run = Run {
         linked,
         machine,
@@ -70,18 +74,19 @@ impl<'a> Run<'a> {
                 return Ok(());
             }
         }
-        begin(answer, steps)?;
-        answer.add("goes on")
+        begin(answer, steps);
+        answer.add("goes on");
+        Ok(())
     }
 
     // Takes a step, tells what it does, and answers whether it ended the run.
     fn tell_next(&mut self, alloc: Global, answer: &mut Answer, step: u32) -> Result<bool, Memory> {
         if self.is_to_wait() {
-            begin(answer, step)?;
-            answer.add("is to wait")?;
+            begin(answer, step);
+            answer.add("is to wait");
         }
         let stepped = self.take_step(alloc)?;
-        tell_step(answer, step, &stepped)
+        Ok(tell_step(answer, step, &stepped))
     }
 
     fn is_to_wait(&self) -> bool {
@@ -94,22 +99,18 @@ impl<'a> Run<'a> {
 }
 
 // Begins the line of the step of this number.
-fn begin(answer: &mut Answer, step: u32) -> Result<(), Memory> {
-    answer.line()?;
-    answer.show(&step)?;
-    answer.add(": ")
+fn begin(answer: &mut Answer, step: u32) {
+    answer.line();
+    answer.show(&step);
+    answer.add(": ");
 }
 
 // Tells what a step did, where that is seen, and answers whether it ended the run.
-fn tell_step(answer: &mut Answer, step: u32, stepped: &Stepped) -> Result<bool, Memory> {
+fn tell_step(answer: &mut Answer, step: u32, stepped: &Stepped) -> bool {
     if let Stepped::Went(None) = stepped {
-        return Ok(false);
+        return false;
     }
-    begin(answer, step)?;
-    answer.tell(stepped)?;
-    Ok(is_end(stepped))
-}
-
-fn is_end(stepped: &Stepped) -> bool {
+    begin(answer, step);
+    answer.tell(stepped);
     matches!(stepped, Stepped::Ended(_))
 }

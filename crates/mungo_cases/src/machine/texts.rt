@@ -8,7 +8,6 @@ use crate::machine::spelling::joined;
 use crate::machine::unanswered::Unanswered;
 use cases::Answer;
 use cls_tree::{Class, Const};
-use mg_text::Memory;
 use std::alloc::{AllocError, Global};
 
 /// Tells the characters of the text that has these bytes, or the fault of its class.
@@ -17,18 +16,15 @@ pub fn tell(alloc: Global, answer: &mut Answer, text: &[u8]) -> Result<(), Unans
         return Err(Unanswered::Form);
     }
     let bytes = spelled(alloc, text)?;
-    tell_class(alloc, answer, bytes.as_slice())?;
-    Ok(())
-}
-
-fn tell_class(alloc: Global, answer: &mut Answer, bytes: &[u8]) -> Result<(), Memory> {
+    let bytes = bytes.as_slice();
     if !is_written_back(alloc, bytes) {
-        answer.add("written otherwise")?;
+        answer.add("written otherwise");
     }
     match read(alloc, bytes) {
         Ok(class) => tell_text(answer, first_text(&class)),
         Err(fault) => answer.tell(&fault),
     }
+    Ok(())
 }
 
 // The first constant, where it is a text.
@@ -40,12 +36,11 @@ fn first_text(class: &Class) -> &str {
 }
 
 // Tells the characters of a text by their numbers, each in a line.
-fn tell_text(answer: &mut Answer, text: &str) -> Result<(), Memory> {
+fn tell_text(answer: &mut Answer, text: &str) {
     for character in text.chars() {
-        answer.line()?;
-        answer.hexadecimal(u32::from(character))?;
+        answer.line();
+        answer.hexadecimal(u32::from(character));
     }
-    Ok(())
 }
 
 // The bytes of a class whose pool begins with a text of these bytes. Behind it stand the name A and

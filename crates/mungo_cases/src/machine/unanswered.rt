@@ -1,5 +1,6 @@
 //! Why a case has no answer.
 
+use cases::Answer;
 use mg_refusal::Stop;
 use mg_text::Memory;
 use std::alloc::{AllocError, AllocFailed};
@@ -18,13 +19,13 @@ pub enum Unanswered {
 }
 
 impl Unanswered {
-    /// What is told in the place of an answer. Want of memory has nothing to tell.
-    pub fn told(self) -> Result<&'static str, Memory> {
+    /// Adds what is told in the place of an answer. Want of memory has nothing to tell.
+    pub fn tell(self, answer: &mut Answer) {
         match self {
-            Unanswered::Form => Ok("out of form"),
-            Unanswered::Restless => Ok("no rest"),
-            Unanswered::Refused(kind) => Ok(kind),
-            Unanswered::Memory => Err(Memory),
+            Unanswered::Form => answer.add("out of form"),
+            Unanswered::Restless => answer.add("no rest"),
+            Unanswered::Refused(kind) => answer.add(kind),
+            Unanswered::Memory => answer.fail(),
         }
     }
 }

@@ -4,7 +4,6 @@ use crate::machine::classes::{is_written_back, read};
 use crate::machine::unanswered::Unanswered;
 use cases::Answer;
 use cls_bytes::ClassFault;
-use mg_text::Memory;
 use std::alloc::{AllocError, Global};
 
 /// Tells of all fronts of the bytes of Hello, or of all changes of a byte of it, how many there are
@@ -20,15 +19,11 @@ pub fn tell(
         "changes" => changes(alloc, hello)?,
         _ => return Err(Unanswered::Form),
     };
-    tell_count(answer, count)?;
-    Ok(())
-}
-
-fn tell_count(answer: &mut Answer, count: Option<u64>) -> Result<(), Memory> {
     match count {
         Some(count) => answer.show(&count),
         None => answer.add("not all are as wanted"),
     }
+    Ok(())
 }
 
 // How many fronts of the bytes there are, if each is cut in a field.

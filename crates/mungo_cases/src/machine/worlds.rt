@@ -19,7 +19,7 @@ mod world;
 use crate::machine::unanswered::Unanswered;
 use crate::machine::worlds::given::Given;
 use crate::machine::worlds::program::classes_of;
-use cases::{Answers, plain};
+use cases::{Answer, Answers};
 use mg_text::Memory;
 use std::alloc::Global;
 use std::rt::Files;
@@ -31,20 +31,26 @@ pub struct Worlds<'a, R: Files + AllocGlobal> {
 }
 
 impl<'a, R: Files + AllocGlobal> Answers for Worlds<'a, R> {
-    fn answer(&self, alloc: Global, _file: &str, given: &[u8]) -> Result<String, Memory> {
-        match self.told(alloc, given) {
-            Ok(told) => Ok(told),
-            Err(why) => plain(alloc, why.told()?),
+    fn answer(
+        &self,
+        alloc: Global,
+        answer: &mut Answer,
+        _file: &str,
+        given: &[u8],
+    ) -> Result<(), Memory> {
+        if let Err(why) = self.tell(alloc, answer, given) {
+            why.tell(answer);
         }
+        Ok(())
     }
 }
 
 impl<'a, R: Files + AllocGlobal> Worlds<'a, R> {
-    // What the worlds of a case come to.
-    fn told(&self, alloc: Global, given: &[u8]) -> Result<String, Unanswered> {
+    // Tells what the worlds of a case come to.
+    fn tell(&self, alloc: Global, answer: &mut Answer, given: &[u8]) -> Result<(), Unanswered> {
         let text = str::from_utf8(given).map_err(|_| Unanswered::Form)?;
         let given = Given::of(text).ok_or(Unanswered::Form)?;
         let classes = classes_of(alloc, self.rt, &given)?;
-        world::told(alloc, classes.as_slice(), &given)
+        world::tell(alloc, answer, classes.as_slice(), &given)
     }
 }

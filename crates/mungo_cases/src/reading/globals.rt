@@ -1,7 +1,7 @@
 //! Cases of global protocols: that each is read, or its first fault; and what its roles do, or why
 //! one of them has no local protocol.
 
-use cases::{Answer, Answers, fault_text, plain};
+use cases::{Answer, Answers};
 use mg_projected::{ProjectedFault, RoleFile, projected};
 use mg_text::Memory;
 use scr_global_read::read_global;
@@ -16,45 +16,44 @@ pub const FILES: [&str; 2] = ["globals.txt", "projections.txt"];
 pub struct Projecting;
 
 impl Answers for Projecting {
-    fn answer(&self, alloc: Global, file: &str, given: &[u8]) -> Result<String, Memory> {
+    fn answer(
+        &self,
+        alloc: Global,
+        answer: &mut Answer,
+        file: &str,
+        given: &[u8],
+    ) -> Result<(), Memory> {
         match file {
-            "globals.txt" => judged(alloc, given),
-            _ => projections(alloc, given),
+            "globals.txt" => judged(alloc, answer, given),
+            _ => projections(alloc, answer, given),
         }
+        Ok(())
     }
 }
 
 // That a protocol is read, or the fault.
-fn judged(alloc: Global, given: &[u8]) -> Result<String, Memory> {
+fn judged(alloc: Global, answer: &mut Answer, given: &[u8]) {
     match read_global(alloc, 0, given) {
-        Ok(_) => plain(alloc, "read"),
-        Err(fault) => fault_text(alloc, &fault),
+        Ok(_) => answer.add("read"),
+        Err(fault) => answer.fault(&fault),
     }
 }
 
 // The files of the roles, or the fault.
-fn projections(alloc: Global, given: &[u8]) -> Result<String, Memory> {
+fn projections(alloc: Global, answer: &mut Answer, given: &[u8]) {
     match projected(alloc, 0, given) {
-        Ok(files) => shown(alloc, files.as_slice()),
-        Err(ProjectedFault::Unread(fault)) => fault_text(alloc, &fault),
-        Err(ProjectedFault::Unprojected(fault)) => unprojected(alloc, &fault),
-        Err(ProjectedFault::Memory) => Err(Memory),
+        Ok(files) => add_files(answer, files.as_slice()),
+        Err(fault) => add_fault(answer, &fault),
     }
 }
 
 // The name and text of each file.
-fn shown(alloc: Global, files: &[RoleFile]) -> Result<String, Memory> {
-    let mut answer = Answer::new(alloc);
+fn add_files(answer: &mut Answer, files: &[RoleFile]) {
     for file in files {
-        add_file(&mut answer, file)?;
+        answer.line();
+        answer.pair(file.name.as_str(), "\n");
+        answer.add(without_last_feed(file.text.as_str()));
     }
-    Ok(answer.into_text())
-}
-
-fn add_file(answer: &mut Answer, file: &RoleFile) -> Result<(), Memory> {
-    answer.line()?;
-    answer.pair(file.name.as_str(), "\n")?;
-    answer.add(without_last_feed(file.text.as_str()))
 }
 
 // A text without its last line feed.
@@ -62,23 +61,27 @@ fn without_last_feed(text: &str) -> &str {
     text.strip_suffix('\n').unwrap_or(text)
 }
 
+fn add_fault(answer: &mut Answer, fault: &ProjectedFault) {
+    match fault {
+        ProjectedFault::Unread(fault) => answer.fault(fault),
+        ProjectedFault::Unprojected(fault) => add_unprojected(answer, fault),
+        ProjectedFault::Memory => answer.fail(),
+    }
+}
+
 // A fault of projecting as `LINE:COLUMN: KIND ROLE`, and the inner fault's kind.
-fn unprojected(alloc: Global, fault: &ProjectFault) -> Result<String, Memory> {
+fn add_unprojected(answer: &mut Answer, fault: &ProjectFault) {
     match fault {
         ProjectFault::NotMergeable { place, name } => {
-            let mut answer = Answer::new(alloc);
-            answer.place(*place)?;
-            answer.pair(": NotMergeable ", name.as_str())?;
-            Ok(answer.into_text())
+            answer.place(*place);
+            answer.pair(": NotMergeable ", name.as_str());
         }
         ProjectFault::Unprojected { place, name, fault } => {
-            let mut answer = Answer::new(alloc);
-            answer.place(*place)?;
-            answer.pair(": Unprojected ", name.as_str())?;
-            answer.pair(" ", kind(fault))?;
-            Ok(answer.into_text())
+            answer.place(*place);
+            answer.pair(": Unprojected ", name.as_str());
+            answer.pair(" ", kind(fault));
         }
-        ProjectFault::Memory => Err(Memory),
+        ProjectFault::Memory => answer.fail(),
     }
 }
 

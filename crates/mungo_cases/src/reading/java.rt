@@ -10,7 +10,7 @@ mod tokens;
 mod trees;
 mod workloads;
 
-use cases::Answers;
+use cases::{Answer, Answers};
 use mg_text::Memory;
 use std::alloc::Global;
 
@@ -32,18 +32,26 @@ pub const FILES: [&str; 10] = [
 pub struct Java;
 
 impl Answers for Java {
-    fn answer(&self, alloc: Global, file: &str, given: &[u8]) -> Result<String, Memory> {
+    fn answer(
+        &self,
+        alloc: Global,
+        answer: &mut Answer,
+        file: &str,
+        given: &[u8],
+    ) -> Result<(), Memory> {
         match file {
-            "java_tokens.txt" => tokens::shown(alloc, given),
-            "long_texts.txt" => tokens::size_of_text(alloc, given),
-            "java_trees.txt" => spelled::tree(alloc, given),
-            "depths.txt" => spelled::verdict(alloc, given),
-            "sources.txt" => sources::tree(alloc, given),
-            "java_faults.txt" => sources::verdict(alloc, given),
-            "java_layouts.txt" => printed::layout(alloc, given),
-            "workloads.txt" => workloads::laid_out(alloc, given),
-            "workload_texts.txt" => workloads::text(alloc, given),
-            _ => printed::again(alloc, given),
+            "java_tokens.txt" | "long_texts.txt" => {
+                tokens::tell(alloc, answer, file, given);
+                Ok(())
+            }
+            "java_layouts.txt" => {
+                printed::layout(alloc, answer, given);
+                Ok(())
+            }
+            "java_trees.txt" | "depths.txt" => spelled::tell(alloc, answer, file, given),
+            "workloads.txt" => workloads::laid_out(alloc, answer, given),
+            "workload_texts.txt" => workloads::text(alloc, answer, given),
+            _ => sources::tell(alloc, answer, file, given),
         }
     }
 }

@@ -1,110 +1,101 @@
-//! Answers on the text of local protocols: tokens, faults, what is read and how it is printed.
+//! Answers on the text of local protocols: tokens, faults, what is read, how it is printed, and the
+//! typestates and APIs that are made of it.
 
 use crate::reading::bases::add_place;
-use cases::{Answer, fault_text, plain, told};
-use mg_text::{Memory, Place};
+use crate::reading::walks::{add_api, typestate_text};
+use cases::Answer;
+use mg_text::Memory;
 use scr_lex::{reserved, tokens};
-use scr_read::{Local, ScrFault, Statement, print_local, read_local};
+use scr_read::{Local, Statement, print_local, read_local};
+use scr_trace::label_call_name;
 use scr_tree::{Token, TokenKind};
 use std::alloc::Global;
 
 /// The mark that a word is.
-pub fn reserved_word(alloc: Global, given: &[u8]) -> Result<String, Memory> {
-    told(alloc, &reserved(given))
+pub fn reserved_word(answer: &mut Answer, given: &[u8]) {
+    answer.tell(&reserved(given));
 }
 
 /// A line for each token of the file of number 7, or the offset of the byte that is bad.
-pub fn tokens_of(alloc: Global, given: &[u8]) -> Result<String, Memory> {
+pub fn tokens_of(alloc: Global, answer: &mut Answer, given: &[u8]) {
     if given.len() > 1000 {
-        return plain(alloc, "too long");
+        return answer.add("too long");
     }
-    let found = match tokens(alloc, 7, given) {
-        Ok(found) => found,
-        Err(fault) => return told(alloc, &fault),
-    };
-    let mut answer = Answer::new(alloc);
-    for token in found.as_slice() {
-        add_token(&mut answer, token)?;
+    match tokens(alloc, 7, given) {
+        Ok(found) => add_tokens(answer, found.as_slice()),
+        Err(fault) => answer.tell(&fault),
     }
-    Ok(answer.into_text())
+}
+
+fn add_tokens(answer: &mut Answer, found: &[Token]) {
+    for token in found {
+        add_token(answer, token);
+    }
 }
 
 // The place of a token, and what it is.
-fn add_token(answer: &mut Answer, token: &Token) -> Result<(), Memory> {
-    add_place(answer, token.place)?;
-    add_kind(answer, &token.kind)?;
-    answer.add("\n")
-}
-
-fn add_kind(answer: &mut Answer, kind: &TokenKind) -> Result<(), Memory> {
-    match kind {
+fn add_token(answer: &mut Answer, token: &Token) {
+    add_place(answer, token.place);
+    match &token.kind {
         TokenKind::Name(name) => answer.pair(" name ", name.as_str()),
         TokenKind::Quoted(body) => answer.pair(" text ", body.as_str()),
         TokenKind::Mark(mark) => {
-            answer.add(" ")?;
-            answer.tell(mark)
+            answer.add(" ");
+            answer.tell(mark);
+        }
+    }
+    answer.add("\n");
+}
+
+/// What is asked, by the file where the case stands, of the protocol of the file of number 3; or the
+/// fault.
+pub fn tell(alloc: Global, answer: &mut Answer, asked: &str, given: &[u8]) -> Result<(), Memory> {
+    match read_local(alloc, 3, given) {
+        Ok(local) => tell_read(alloc, answer, asked, &local),
+        Err(fault) => {
+            answer.fault(&fault);
+            Ok(())
         }
     }
 }
 
-/// The protocol of a text.
-pub fn read(alloc: Global, given: &[u8]) -> Result<Local, ScrFault> {
-    read_local(alloc, 0, given)
-}
-
-/// That a protocol is read, or the fault.
-pub fn judged(alloc: Global, given: &[u8]) -> Result<String, Memory> {
-    match read(alloc, given) {
-        Ok(_) => plain(alloc, "read"),
-        Err(fault) => fault_text(alloc, &fault),
+// What is asked of a protocol. Of those that are only judged it is enough that they are read.
+fn tell_read(alloc: Global, answer: &mut Answer, asked: &str, local: &Local) -> Result<(), Memory> {
+    match asked {
+        "whole.txt" => add_whole(answer, local),
+        "printed.txt" => answer.made(print_local(alloc, local)),
+        "generated.txt" => answer.made(typestate_text(alloc, local)),
+        // the answer to the first choice, which the role `C` makes
+        "label_calls.txt" => answer.made(label_call_name(alloc, local, 1, "C")),
+        "apis.txt" => add_api(alloc, answer, local)?,
+        _ => answer.add("read"),
     }
+    Ok(())
 }
 
-/// The text of a protocol, or the fault.
-pub fn printed(alloc: Global, given: &[u8]) -> Result<String, Memory> {
-    match read(alloc, given) {
-        Ok(local) => plain(alloc, print_local(alloc, &local)?.as_str()),
-        Err(fault) => fault_text(alloc, &fault),
-    }
-}
-
-/// The file, name, role and number of roles of the protocol of the file of number 3, and its
-/// statements.
-pub fn whole(alloc: Global, given: &[u8]) -> Result<String, Memory> {
-    match read_local(alloc, 3, given) {
-        Ok(local) => shown(alloc, &local),
-        Err(fault) => fault_text(alloc, &fault),
-    }
-}
-
-fn shown(alloc: Global, local: &Local) -> Result<String, Memory> {
-    let mut answer = Answer::new(alloc);
+// The file, name, role and number of roles of a protocol, and its statements.
+fn add_whole(answer: &mut Answer, local: &Local) {
     answer.tell(&(
         local.file(),
         local.name().as_str(),
         local.me().as_str(),
         local.roles().len(),
-    ))?;
+    ));
     for statement in local.body().as_slice() {
-        add_statement(&mut answer, statement)?;
+        add_statement(answer, statement);
     }
-    Ok(answer.into_text())
 }
 
 // A line for a statement: of a loop its place, its name and how many statements it has.
-fn add_statement(answer: &mut Answer, statement: &Statement) -> Result<(), Memory> {
+fn add_statement(answer: &mut Answer, statement: &Statement) {
     match statement {
         Statement::Rec { place, name, body } => {
-            add_loop(answer, *place, name.as_str(), body.len())
+            answer.add("\n");
+            answer.place(*place);
+            answer.pair(": rec ", name.as_str());
+            answer.add(" of ");
+            answer.show(&body.len());
         }
         _ => answer.add("\nanother statement"),
     }
-}
-
-fn add_loop(answer: &mut Answer, place: Place, name: &str, len: usize) -> Result<(), Memory> {
-    answer.add("\n")?;
-    answer.place(place)?;
-    answer.pair(": rec ", name)?;
-    answer.add(" of ")?;
-    answer.show(&len)
 }

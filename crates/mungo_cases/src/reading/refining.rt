@@ -6,7 +6,7 @@
 //! What is wanted is read off the typestates by hand.
 
 use crate::reading::bases::as_text;
-use cases::{Answer, Answers, plain};
+use cases::{Answer, Answers};
 use mg_text::Memory;
 use std::alloc::Global;
 use ts_read::read_typestate;
@@ -20,64 +20,85 @@ pub const FILES: [&str; 2] = ["told.txt", "pairs.txt"];
 pub struct Refining;
 
 impl Answers for Refining {
-    fn answer(&self, alloc: Global, file: &str, given: &[u8]) -> Result<String, Memory> {
-        let Some((a, b)) = as_text(given).split_once("\nfor\n") else {
-            return plain(alloc, "no two typestates");
-        };
-        let Ok(a) = read_typestate(alloc, 0, a.as_bytes()) else {
-            return plain(alloc, "the first is refused");
-        };
-        let Ok(b) = read_typestate(alloc, 1, b.as_bytes()) else {
-            return plain(alloc, "the second is refused");
-        };
-        compared(alloc, file, &a, &b)
+    fn answer(
+        &self,
+        alloc: Global,
+        answer: &mut Answer,
+        file: &str,
+        given: &[u8],
+    ) -> Result<(), Memory> {
+        match as_text(given).split_once("\nfor\n") {
+            Some((a, b)) => compared(alloc, answer, file, a.as_bytes(), b.as_bytes()),
+            None => {
+                answer.add("no two typestates");
+                Ok(())
+            }
+        }
     }
 }
 
-// What a file wants of the verdict on two typestates.
-fn compared(alloc: Global, file: &str, a: &Typestate, b: &Typestate) -> Result<String, Memory> {
+// What a file wants of the verdict on what two texts spell.
+fn compared(
+    alloc: Global,
+    answer: &mut Answer,
+    file: &str,
+    a: &[u8],
+    b: &[u8],
+) -> Result<(), Memory> {
+    let Ok(a) = read_typestate(alloc, 0, a) else {
+        answer.add("the first is refused");
+        return Ok(());
+    };
+    let Ok(b) = read_typestate(alloc, 1, b) else {
+        answer.add("the second is refused");
+        return Ok(());
+    };
+    add_compared(alloc, answer, file, &a, &b)
+}
+
+fn add_compared(
+    alloc: Global,
+    answer: &mut Answer,
+    file: &str,
+    a: &Typestate,
+    b: &Typestate,
+) -> Result<(), Memory> {
     let verdict = refine(alloc, a, b)?;
     match file {
-        "pairs.txt" => paired(alloc, a, b, &verdict),
-        _ => told(alloc, &verdict),
+        "pairs.txt" => add_pairs(answer, a, b, &verdict),
+        _ => add_verdict(answer, &verdict),
     }
+    Ok(())
 }
 
 // The lines that are told of a verdict.
-fn told(alloc: Global, verdict: &Verdict) -> Result<String, Memory> {
-    let mut answer = Answer::new(alloc);
-    add_verdict(&mut answer, verdict)?;
-    Ok(answer.into_text())
-}
-
-fn add_verdict(answer: &mut Answer, verdict: &Verdict) -> Result<(), Memory> {
+fn add_verdict(answer: &mut Answer, verdict: &Verdict) {
     match verdict {
         Verdict::Yes(pairs) => {
-            answer.add("yes, ")?;
-            answer.show(&pairs.len())?;
-            answer.add(" pairs")
+            answer.add("yes, ");
+            answer.show(&pairs.len());
+            answer.add(" pairs");
         }
         Verdict::No { calls, reason } => {
-            answer.add("no")?;
+            answer.add("no");
             for call in calls.as_slice() {
-                add_call(answer, call)?;
+                add_call(answer, call);
             }
-            add_reason(answer, reason)
+            add_reason(answer, reason);
         }
     }
 }
 
 // A line of a call.
-fn add_call(answer: &mut Answer, call: &PathCall) -> Result<(), Memory> {
-    answer.pair("\n", call.method.as_str())?;
-    match &call.answer {
-        Some(label) => answer.pair(" ", label.as_str()),
-        None => Ok(()),
+fn add_call(answer: &mut Answer, call: &PathCall) {
+    answer.pair("\n", call.method.as_str());
+    if let Some(label) = &call.answer {
+        answer.pair(" ", label.as_str());
     }
 }
 
 // The line of a reason.
-fn add_reason(answer: &mut Answer, reason: &Reason) -> Result<(), Memory> {
+fn add_reason(answer: &mut Answer, reason: &Reason) {
     match reason {
         Reason::NoMethod(method) => answer.pair("\nNoMethod ", method.as_str()),
         Reason::SignatureDiffers(method) => answer.pair("\nSignatureDiffers ", method.as_str()),
@@ -87,43 +108,22 @@ fn add_reason(answer: &mut Answer, reason: &Reason) -> Result<(), Memory> {
 }
 
 // The pairs of a verdict, and what they show with and without one of them.
-fn paired(
-    alloc: Global,
-    a: &Typestate,
-    b: &Typestate,
-    verdict: &Verdict,
-) -> Result<String, Memory> {
+fn add_pairs(answer: &mut Answer, a: &Typestate, b: &Typestate, verdict: &Verdict) {
     let Verdict::Yes(pairs) = verdict else {
-        return plain(alloc, "no");
+        return answer.add("no");
     };
-    let mut answer = Answer::new(alloc);
-    add_pairs(&mut answer, a, b, pairs.as_slice())?;
-    Ok(answer.into_text())
-}
-
-fn add_pairs(
-    answer: &mut Answer,
-    a: &Typestate,
-    b: &Typestate,
-    pairs: &[Pair],
-) -> Result<(), Memory> {
+    let pairs = pairs.as_slice();
     for pair in pairs {
-        add_pair(answer, a, b, *pair)?;
+        answer.pair(place_name(a, pair.a), " ");
+        answer.pair(place_name(b, pair.b), "\n");
     }
-    add_shown(answer, "all", is_shown(a, b, pairs))?;
+    add_shown(answer, "all", is_shown(a, b, pairs));
     if let [_, rest @ ..] = pairs {
-        add_shown(answer, "\nwithout the first", is_shown(a, b, rest))?;
+        add_shown(answer, "\nwithout the first", is_shown(a, b, rest));
     }
     if let [front @ .., _] = pairs {
-        add_shown(answer, "\nwithout the last", is_shown(a, b, front))?;
+        add_shown(answer, "\nwithout the last", is_shown(a, b, front));
     }
-    Ok(())
-}
-
-// The line of a pair: the names of its places.
-fn add_pair(answer: &mut Answer, a: &Typestate, b: &Typestate, pair: Pair) -> Result<(), Memory> {
-    answer.pair(place_name(a, pair.a), " ")?;
-    answer.pair(place_name(b, pair.b), "\n")
 }
 
 fn place_name(t: &Typestate, at: To) -> &str {
@@ -141,6 +141,6 @@ fn is_shown(a: &Typestate, b: &Typestate, pairs: &[Pair]) -> bool {
 }
 
 // What tells whether some pairs show it.
-fn add_shown(answer: &mut Answer, which: &str, shown: bool) -> Result<(), Memory> {
-    answer.pair(which, if shown { ": shown" } else { ": not shown" })
+fn add_shown(answer: &mut Answer, which: &str, shown: bool) {
+    answer.pair(which, if shown { ": shown" } else { ": not shown" });
 }

@@ -1,105 +1,93 @@
 //! What is written in typestate files: states and their entries with the places of names.
 
-use cases::{Answer, plain, told};
+use cases::Answer;
 use mg_read::ParseFault;
-use mg_text::Memory;
 use std::alloc::Global;
 use ts_parse::{
-    Naming, WrittenBranch, WrittenEntry, WrittenMethod, WrittenState, WrittenTarget,
-    WrittenTypestate, read_written, tokens,
+    Naming, WrittenEntry, WrittenMethod, WrittenState, WrittenTarget, WrittenTypestate,
+    read_written, tokens,
 };
 
 /// A line for each state and each entry of a file, or where its tokens begin no file.
-pub fn written(alloc: Global, given: &[u8]) -> Result<String, Memory> {
+pub fn written(alloc: Global, answer: &mut Answer, given: &[u8]) {
     if given.len() > 1000 {
-        return plain(alloc, "too long");
+        return answer.add("too long");
     }
     let found = match tokens(alloc, 3, given) {
         Ok(found) => found,
-        Err(fault) => return told(alloc, &fault),
+        Err(fault) => return answer.tell(&fault),
     };
     match read_written(alloc, found.as_slice()) {
-        Ok(file) => shown(alloc, &file),
-        Err(fault) => refused(alloc, fault),
+        Ok(file) => add_file(answer, &file),
+        Err(fault) => add_refused(answer, fault),
     }
 }
 
 // Where the token stands that no file goes on with.
-fn refused(alloc: Global, fault: ParseFault) -> Result<String, Memory> {
+fn add_refused(answer: &mut Answer, fault: ParseFault) {
     match fault {
         ParseFault::Syntax(Some(place)) => {
-            let mut answer = Answer::new(alloc);
-            answer.add("Syntax ")?;
-            answer.place(place)?;
-            Ok(answer.into_text())
+            answer.add("Syntax ");
+            answer.place(place);
         }
-        ParseFault::Syntax(None) => plain(alloc, "Syntax at the end"),
-        ParseFault::Memory => Err(Memory),
+        ParseFault::Syntax(None) => answer.add("Syntax at the end"),
+        ParseFault::Memory => answer.fail(),
     }
 }
 
-fn shown(alloc: Global, file: &WrittenTypestate) -> Result<String, Memory> {
-    let mut answer = Answer::new(alloc);
-    answer.add(file.name.as_str())?;
+fn add_file(answer: &mut Answer, file: &WrittenTypestate) {
+    answer.add(file.name.as_str());
     for state in file.states.as_slice() {
-        add_state(&mut answer, state)?;
+        add_state(answer, state);
     }
-    Ok(answer.into_text())
 }
 
-fn add_state(answer: &mut Answer, state: &WrittenState) -> Result<(), Memory> {
-    answer.add("\n")?;
-    add_naming(answer, &state.name)?;
+fn add_state(answer: &mut Answer, state: &WrittenState) {
+    answer.add("\n");
+    add_naming(answer, &state.name);
     for entry in state.entries.as_slice() {
-        add_entry(answer, entry)?;
+        add_entry(answer, entry);
     }
-    Ok(())
 }
 
-fn add_naming(answer: &mut Answer, name: &Naming) -> Result<(), Memory> {
-    answer.add(name.text.as_str())?;
-    answer.add(" ")?;
-    answer.place(name.place)
+fn add_naming(answer: &mut Answer, name: &Naming) {
+    answer.pair(name.text.as_str(), " ");
+    answer.place(name.place);
 }
 
-fn add_entry(answer: &mut Answer, entry: &WrittenEntry) -> Result<(), Memory> {
+fn add_entry(answer: &mut Answer, entry: &WrittenEntry) {
     match entry {
         WrittenEntry::Method(method) => add_method(answer, method),
         WrittenEntry::DropEnd(place) => {
-            answer.add("\n  drop: end ")?;
-            answer.place(*place)
+            answer.add("\n  drop: end ");
+            answer.place(*place);
         }
     }
 }
 
-fn add_method(answer: &mut Answer, method: &WrittenMethod) -> Result<(), Memory> {
-    answer.add("\n  ")?;
-    answer.tell(&method.result)?;
-    answer.add(" ")?;
-    add_naming(answer, &method.name)?;
-    answer.add(" ")?;
-    answer.tell(&method.params.as_slice())?;
-    add_target(answer, &method.target)
+fn add_method(answer: &mut Answer, method: &WrittenMethod) {
+    answer.add("\n  ");
+    answer.tell(&method.result);
+    answer.add(" ");
+    add_naming(answer, &method.name);
+    answer.add(" ");
+    answer.tell(&method.params.as_slice());
+    add_target(answer, &method.target);
 }
 
-fn add_target(answer: &mut Answer, target: &WrittenTarget) -> Result<(), Memory> {
+fn add_target(answer: &mut Answer, target: &WrittenTarget) {
     match target {
         WrittenTarget::One(to) => {
-            answer.add(" to ")?;
-            add_naming(answer, to)?;
+            answer.add(" to ");
+            add_naming(answer, to);
         }
         WrittenTarget::ByAnswer(branches) => {
             for branch in branches.as_slice() {
-                add_branch(answer, branch)?;
+                answer.add(" ");
+                add_naming(answer, &branch.label);
+                answer.add(" to ");
+                add_naming(answer, &branch.to);
             }
         }
     }
-    Ok(())
-}
-
-fn add_branch(answer: &mut Answer, branch: &WrittenBranch) -> Result<(), Memory> {
-    answer.add(" ")?;
-    add_naming(answer, &branch.label)?;
-    answer.add(" to ")?;
-    add_naming(answer, &branch.to)
 }

@@ -56,10 +56,6 @@ abbrev pub named_of : Option Named → Option Culprit
 named_of None = None
 named_of (Some n) = Some (culprit n.place n.name)
 
-abbrev pub clash_of : Option (Bor CodeAction) → Option Culprit
-clash_of None = None
-clash_of (Some a) = Some (culprit a.now.place a.now.call)
-
 abbrev pub call_of : CodeAction → Name
 call_of a = a.call
 

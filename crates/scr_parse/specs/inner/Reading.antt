@@ -103,8 +103,7 @@ other_name_at mark ts = do
 unfoldable pub names_at : Mark → Reader Tok (List Name)
 names_at mark ts = do
   first ← name_at ts
-  others ← with_front (first.0.1 ∷ []) (all_of (is_at mark) (other_name_at mark) first.1)
-  Some (others.0, others.1)
+  with_front (first.0.1 ∷ []) (all_of (is_at mark) (other_name_at mark) first.1)
 
 -- ---- what stands before the protocol
 
@@ -156,8 +155,7 @@ unfoldable pub title_at : Reader Tok (Place × Name)
 title_at ts = do
   start ← mark_at marks.Local ts
   protocol ← mark_at marks.Protocol start.1
-  name ← name_at protocol.1
-  Some (name.0, name.1)
+  name_at protocol.1
 
 -- ---- the header
 
@@ -187,8 +185,7 @@ more_roles_at front ts = with_front front (all_of (is_at marks.Comma) other_role
 unfoldable pub roles_at : Reader Tok (List Role)
 roles_at ts = do
   first ← role_at ts
-  roles ← more_roles_at (first.0 ∷ []) first.1
-  Some (roles.0, roles.1)
+  more_roles_at (first.0 ∷ []) first.1
 
 -- "role", with no "self" behind it
 abbrev pub is_other_role : List Tok → Bool
@@ -290,8 +287,7 @@ other_with f ts = mark_at marks.Or ts >>= λ start. block_with f start.1
 unfoldable pub branches_with : {S : Type 0} → Reader Tok S → Reader Tok (List (List S))
 branches_with f ts = do
   first ← block_with f ts
-  others ← with_front (first.0 ∷ []) (all_of (is_at marks.Or) (other_with f) first.1)
-  Some (others.0, others.1)
+  with_front (first.0 ∷ []) (all_of (is_at marks.Or) (other_with f) first.1)
 
 -- "choice" "at" name branches
 unfoldable pub choice_with : {S A : Type 0} → (Place → Name → List (List S) → A) → Reader Tok S → Reader Tok A

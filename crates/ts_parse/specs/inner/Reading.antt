@@ -74,8 +74,7 @@ behind_at mark part ts = mark_at mark ts >>= λ start. part start.1
 unfoldable pub listed_at : {A : Type 0} → Mark → (List Tok → Bool) → Reader Tok A → Reader Tok (List A)
 listed_at mark go part ts = do
   first ← part ts
-  others ← with_front (first.0 ∷ []) (all_of go (behind_at mark part) first.1)
-  Some (others.0, others.1)
+  with_front (first.0 ∷ []) (all_of go (behind_at mark part) first.1)
 
 -- a dot, and a name behind it
 abbrev pub is_dot_name : List Tok → Bool

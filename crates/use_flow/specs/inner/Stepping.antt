@@ -69,6 +69,15 @@ abbrev pub loop_flow : (loop : ℕ) → (behind : Now) → List Jump → Log →
 loop_flow l behind js log =
     rules.flow (joined behind (caught (BehindLoop l) js)) (passing (GoesOn l) (passing (BehindLoop l) js)) log
 
+-- where a turn of a loop ends, with what goes on there, and what jumps on past the loop
+abbrev pub turn_flow : (loop : ℕ) → Flow → Flow
+turn_flow l f = rules.flow (joined f.now (caught (GoesOn l) f.jumps)) (passing (GoesOn l) (passing (BehindLoop l) f.jumps)) f.log
+
+-- What the code has behind a turn of a loop: what the rules have at its end, and what jumps behind the loop.
+pub record Turned (l : ℕ) (f : Flow) (scope : List ℕ) (before : Jumps) (end leaves : Now) (behind : Course) : Type 0 where
+  pub follows : Follows (turn_flow l f) scope before end behind
+  pub leaves-is : leaves ≡ caught (BehindLoop l) f.jumps
+
 abbrev pub while_end : Followed → (scope outer : List ℕ) → (loop : ℕ) → Stmt → rules.Evaluated → Flow
 while_end s sc out l body v =
     let f = step s sc out body v.yes v.log in

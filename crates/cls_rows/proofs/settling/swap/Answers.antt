@@ -12,7 +12,7 @@ returns-in_default-top-clause-swapped c = one_swap c.args.stacks.now c.args.fram
 pub settle_on-requires-clause-fits : goal.settle_on-requires-clause-fits
 settle_on-requires-clause-fits c = lower_fits (stack_at c.args.stacks.now c.args.frame.operands) _ _
     (stack_at c.push.new.self c.in_ok-lower.lower)
-    c.in-Some.first.kind c.in-Some-top.second.kind c.args.scene.max_stack c.in-Some.ensures.1 c.in-Some-top.ensures.1
+    c.in-Some.first.kind c.in-Some-top.second.kind c.args.limit c.in-Some.ensures.1 c.in-Some-top.ensures.1
     c.in_ok-lower.ensures.made c.requires.fits
 
 pub returns-clause-grows : goal.returns-clause-grows
@@ -20,7 +20,7 @@ returns-clause-grows c = grows_then c.settle_on.result c.args.stacks.now c.push.
     c.settle_on.ensures.grows
 
 pub returns-clause-swapped : goal.returns-clause-swapped
-returns-clause-swapped c = goes_swaps c.args.stacks.now c.push.new.self c.settle_on.new.stacks c.args.scene.max_stack c.args.frame _ _
+returns-clause-swapped c = goes_swaps c.args.stacks.now c.push.new.self c.settle_on.new.stacks c.args.limit c.args.frame _ _
     c.in-Some.first.kind c.in-Some-top.second.kind c.in_ok-lower.lower c.settle_on.result c.in-Some.ensures.1 c.in-Some-top.ensures.1
     c.in_ok-lower.ensures.made
     c.requires.fits c.settle_on.ensures.settled

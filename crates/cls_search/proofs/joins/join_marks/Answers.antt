@@ -1,3 +1,4 @@
+use Rattle.std.proofs.lemmas.Grind.{common_steps}
 use Rattle.std.proofs.Common.{◌+◌, List, Bool, Some, map, sym, ap, subst, ◌∙◌, option_map, arith}
 use Rattle.std.proofs.lemmas.List.{length-map}
 use Rattle.std.proofs.lemmas.Option.{slice_get-map, slice_get-get_or}
@@ -27,3 +28,6 @@ pub returns : goal.returns
 returns c =
     joins_all (map instr_of c.args.code.now) c.loop-instr.marks.items c.loop-instr.instr-index c.loop-instr.invariant
     (let l = length-map c.args.code.now instr_of in omega (arith, l, c.loop-instr-test.false))
+
+pub loop-instr-init : goal.loop-instr-init
+loop-instr-init c = grind (arith, common_steps)

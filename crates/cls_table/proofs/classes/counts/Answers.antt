@@ -1,3 +1,4 @@
+use Rattle.std.proofs.lemmas.Grind.{common_steps}
 use Rattle.std.proofs.Common.{◌≡◌, ℕ, ◌+◌, List, [], ◌∷◌, ◌++◌, Some, length, take, get_or, position, sym, ap, subst, ◌∙◌, arith}
 use Rattle.std.specs.Str.{bytes_eq}
 use Rattle.std.proofs.lemmas.List.{take_more, take_all, map-append}
@@ -47,3 +48,6 @@ loop-class-preserved c =
 pub returns-clause-counted : goal.returns-clause-counted
 returns-clause-counted c = subst (λ cs. AreCounted c.args.names.now (classes_of cs) c.loop-class.counts.items)
     (take_all c.loop-class.class-index c.args.classes.now (omega (arith, c.loop-class-test.false))) c.loop-class.invariant.1
+
+pub loop-class-init : goal.loop-class-init
+loop-class-init c = grind (arith, common_steps)

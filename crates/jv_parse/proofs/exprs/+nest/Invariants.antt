@@ -13,9 +13,6 @@ use Rattle.jv_parse.proofs.exprs.+nest.Given as goal
 abbrev pub decreases-args_of : goal.decreases-args_of
 decreases-args_of l = 600 * l.room + l.levels + 21
 
-abbrev pub decreases-next_arg_of : goal.decreases-next_arg_of
-decreases-next_arg_of l = 600 * l.room + l.levels + 20
-
 abbrev pub decreases-chain_of : goal.decreases-chain_of
 decreases-chain_of l = 600 * l.room + l.levels + (7 + 2 * l.looseness)
 

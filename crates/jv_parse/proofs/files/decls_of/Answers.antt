@@ -8,7 +8,7 @@ use Rattle.jv_reading.specs.Files.{is_some_token, decl_at}
 use Rattle.jv_reading.proofs.Decls.{decl_shorter}
 use Rattle.jv_parse.specs.inner.Rests.{decls_at}
 use Rattle.jv_parse.proofs.ExprTurns.{Left-fails}
-use Rattle.jv_parse.proofs.FileTurns.{decls_start}
+use Rattle.jv_parse.proofs.FileTurns.{decls_start, tokens_left, none_left}
 use Rattle.jv_parse.proofs.files.decls_of.Goals as goal
 
 pub turns-init : goal.turns-init
@@ -20,7 +20,7 @@ returns-in_err-decl c =
     rw (p.1, p.2)
     (Left-fails is_some_token decl_at c.in_err-decl.field-0.0 (map decl_of c.turns.decls.items) c.turns.rest.now
     (decls_at c.args.tokens.now)
-    (sym c.is_some_token.ensures ∙ c.turns-test.true) c.in_err-decl.ensures c.turns.invariant)
+    (tokens_left c.turns.rest.now (sym c.is_empty.ensures ∙ c.turns-test.true)) c.in_err-decl.ensures c.turns.invariant)
 
 pub turns-smaller : goal.turns-smaller
 turns-smaller c = decl_shorter c.turns.rest.now (decl_of c.in_ok-decl.decl, c.in_ok-decl.after.now) c.in_ok-decl.ensures
@@ -34,9 +34,9 @@ turns-preserved c =
     rw e
     (Left-more is_some_token decl_at (map decl_of c.turns.decls.items) c.turns.rest.now (decl_of one) c.in_ok-decl.after.now
     (decls_at c.args.tokens.now)
-    (sym c.is_some_token.ensures ∙ c.turns-test.true) c.in_ok-decl.ensures shorter c.turns.invariant)
+    (tokens_left c.turns.rest.now (sym c.is_empty.ensures ∙ c.turns-test.true)) c.in_ok-decl.ensures shorter c.turns.invariant)
 
 pub returns : goal.returns
 returns c =
     Left-done is_some_token decl_at (map decl_of c.turns.decls.items) c.turns.rest.now (decls_at c.args.tokens.now)
-    (sym c.is_some_token.ensures ∙ c.turns-test.false) c.turns.invariant
+    (none_left c.turns.rest.now (sym c.is_empty.ensures ∙ c.turns-test.false)) c.turns.invariant

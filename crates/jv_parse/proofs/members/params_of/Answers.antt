@@ -6,7 +6,7 @@ use Rattle.jv_reading.specs.Base.{is_sign}
 use Rattle.jv_reading.specs.Files.{next_param_at, params_at}
 use Rattle.jv_reading.proofs.Members.{next_param_shorter}
 use Rattle.jv_parse.proofs.ExprTurns.{Left-fails}
-use Rattle.jv_parse.proofs.FileTurns.{params_start, params_fail}
+use Rattle.jv_parse.proofs.FileTurns.{params_start, params_fail, next_param_is}
 use Rattle.jv_parse.proofs.members.params_of.Goals as goal
 
 pub returns-in_err-first : goal.returns-in_err-first
@@ -25,20 +25,24 @@ returns-in_err-param c =
     rw (p.1, p.2)
     (Left-fails (is_sign signs.Comma) next_param_at c.in_err-param.field-0.0 c.more.params.items c.more.rest.now
     (params_at c.args.tokens.now)
-    (sym c.is_sign.ensures ∙ c.more-test.true) c.in_err-param.ensures c.more.invariant)
+    (sym c.in-Some.ensures.comes)
+    (rw (next_param_is c.in-Some.field-0-0 c.more.rest.now c.in-Some.next.now (sym c.in-Some.ensures.it)) c.in_err-param.ensures)
+    c.more.invariant)
 
 pub more-smaller : goal.more-smaller
-more-smaller c = next_param_shorter c.more.rest.now (c.in_ok-param.param, c.in_ok-param.after.now) c.in_ok-param.ensures
+more-smaller c = next_param_shorter c.more.rest.now (c.in_ok-param.param, c.in_ok-param.after.now)
+    (next_param_is c.in-Some.field-0-0 c.more.rest.now c.in-Some.next.now (sym c.in-Some.ensures.it) ∙ c.in_ok-param.ensures)
 
 pub more-preserved : goal.more-preserved
 more-preserved c =
-    let shorter = next_param_shorter c.more.rest.now (c.in_ok-param.param, c.in_ok-param.after.now) c.in_ok-param.ensures in
+    let read = next_param_is c.in-Some.field-0-0 c.more.rest.now c.in-Some.next.now (sym c.in-Some.ensures.it) ∙ c.in_ok-param.ensures in
+    let shorter = next_param_shorter c.more.rest.now (c.in_ok-param.param, c.in_ok-param.after.now) read in
     rw c.in_ok-push-2.ensures.ok
     (Left-more (is_sign signs.Comma) next_param_at c.more.params.items c.more.rest.now c.in_ok-param.param c.in_ok-param.after.now
     (params_at c.args.tokens.now)
-    (sym c.is_sign.ensures ∙ c.more-test.true) c.in_ok-param.ensures shorter c.more.invariant)
+    (sym c.in-Some.ensures.comes) read shorter c.more.invariant)
 
 pub returns : goal.returns
 returns c =
     Left-done (is_sign signs.Comma) next_param_at c.more.params.items c.more.rest.now (params_at c.args.tokens.now)
-    (sym c.is_sign.ensures ∙ c.more-test.false) c.more.invariant
+    (sym c.in_default.ensures.comes) c.more.invariant

@@ -1,5 +1,5 @@
-use Rattle.std.proofs.Common.{sym, ◌∙◌}
-use Rattle.std.specs.Prelude.{map}
+use Rattle.std.proofs.Common.{sym, ap, ◌∙◌}
+use Rattle.std.specs.Prelude.{map, not}
 use Rattle.std.proofs.lemmas.Result.{err_from_is_err_and}
 use Rattle.mg_read.specs.Reader.{all_of}
 use Rattle.jv_tree.specs.View.{field_of, method_of}
@@ -17,7 +17,7 @@ returns-in_err-member c =
     rw (p.1, p.2)
     (sorting_fails c.in_err-member.field-0.0 (map field_of c.turns.members.fields.items) (map method_of c.turns.members.methods.items)
     c.turns.rest.now
-    (all_of not_closed member_at c.args.tokens.now) (sym c.not_closed.ensures ∙ c.turns-test.true) c.in_err-member.ensures
+    (all_of not_closed member_at c.args.tokens.now) (ap not (sym c.is_sign.ensures ∙ c.turns-test.true)) c.in_err-member.ensures
     c.turns.invariant)
 
 pub turns-smaller : goal.turns-smaller
@@ -25,15 +25,16 @@ turns-smaller c = member_at_shorter c.turns.rest.now (member_of c.in_ok-member.m
 
 pub turns-preserved : goal.turns-preserved
 turns-preserved c =
-    sorting_more (map field_of c.turns.members.fields.items) (map field_of c.in_ok-members.members.fields.items)
+    sorting_more (map field_of c.turns.members.fields.items) (map field_of c.add_member.new.members.fields.items)
     (map method_of c.turns.members.methods.items)
-    (map method_of c.in_ok-members.members.methods.items) c.turns.rest.now c.in_ok-member.after.now (member_of c.in_ok-member.member)
+    (map method_of c.add_member.new.members.methods.items) c.turns.rest.now c.in_ok-member.after.now (member_of c.in_ok-member.member)
     (all_of not_closed member_at c.args.tokens.now)
-    (sym c.not_closed.ensures ∙ c.turns-test.true) c.in_ok-member.ensures c.in_ok-members.ensures.fields c.in_ok-members.ensures.methods
+    (ap not (sym c.is_sign.ensures ∙ c.turns-test.true)) c.in_ok-member.ensures c.in_ok-add_member.ensures.fields
+    c.in_ok-add_member.ensures.methods
     c.turns.invariant
 
 pub returns : goal.returns
 returns c =
     sorting_done (map field_of c.turns.members.fields.items) (map method_of c.turns.members.methods.items) c.turns.rest.now
     (all_of not_closed member_at c.args.tokens.now)
-    (sym c.not_closed.ensures ∙ c.turns-test.false) c.turns.invariant
+    (ap not (sym c.is_sign.ensures ∙ c.turns-test.false)) c.turns.invariant

@@ -1,12 +1,16 @@
-use Rattle.std.proofs.Common.{◌≡◌, ◌++◌, ◌∷◌, [], sym, ◌∙◌}
+use Rattle.std.proofs.Common.{arith, ◌≡◌, ◌++◌, ◌∷◌, [], sym, ◌∙◌}
+use Rattle.std.proofs.lemmas.Grind.{common_steps}
 use Rattle.std.specs.Prelude.{map}
 use Rattle.std.proofs.lemmas.Result.{err_from_is_err_and}
 use Rattle.std.proofs.lemmas.List.{map_push}
 use Rattle.mg_read.proofs.Loop.{Left-more, Left-done}
+use Rattle.jv_tree.proofs.ViewLaws.{views}
 use Rattle.jv_tree.specs.View.{stmt_of, group_of}
-use Rattle.jv_reading.specs.Stmts.{is_case, goes_on, stmt_at, item_with, items_with, group_with, groups_with}
+use Rattle.jv_reading.specs.Stmts.{block_with, else_with, if_with, labelled_with, loop_with, stmt_with, switch_with, is_case, goes_on}
+use Rattle.jv_reading.specs.Stmts.{stmt_at, item_with, items_with, group_with, groups_with}
+use Rattle.jv_parse.specs.inner.Loops.{do_at, while_at}
+use Rattle.jv_parse.proofs.StmtTurns.{do_is, while_is, items_start, groups_start, item_at_shorter, group_at_shorter}
 use Rattle.jv_parse.proofs.ExprTurns.{Left-fails}
-use Rattle.jv_parse.proofs.StmtTurns.{items_start, groups_start, item_at_shorter, group_at_shorter}
 use Rattle.jv_parse.proofs.stmts.+nest_stmts.Goals as goal
 
 pub items_of-items-init : goal.items_of-items-init
@@ -66,3 +70,86 @@ pub groups_of-returns : goal.groups_of-returns
 groups_of-returns t c = Left-done is_case (group_with c.args.levels (stmt_at c.args.levels)) (map group_of c.turns.groups.items)
     c.turns.rest.now (groups_with c.args.levels (stmt_at c.args.levels) c.args.tokens.now) (sym c.is_case.ensures ∙ c.turns-test.false)
     c.turns.invariant
+
+pub block_of-returns : goal.block_of-returns
+unfolding block_with
+block_of-returns t c = grind (arith, views)
+
+pub group_of-returns : goal.group_of-returns
+unfolding group_with
+group_of-returns t c = grind (arith, views)
+
+pub if_of-returns : goal.if_of-returns
+unfolding if_with else_with
+if_of-returns t c = grind (arith, views)
+
+pub if_of-returns-in-Some : goal.if_of-returns-in-Some
+unfolding if_with else_with
+if_of-returns-in-Some t c = grind (arith, views)
+
+pub loop_of-returns : goal.loop_of-returns
+unfolding loop_with
+loop_of-returns t c = grind (arith, views, while_is, do_is)
+
+pub loop_of-returns-in_err-start : goal.loop_of-returns-in_err-start
+unfolding loop_with
+loop_of-returns-in_err-start t c = grind (arith, views, while_is, do_is)
+
+pub loop_of-returns-in_err-start-2 : goal.loop_of-returns-in_err-start-2
+unfolding loop_with
+loop_of-returns-in_err-start-2 t c = grind (arith, views, while_is, do_is)
+
+pub loop_of-returns-then-is_word : goal.loop_of-returns-then-is_word
+unfolding loop_with
+loop_of-returns-then-is_word t c = grind (arith, views, while_is, do_is)
+
+pub stmt_of-returns-in_err-place : goal.stmt_of-returns-in_err-place
+unfolding stmt_at stmt_with labelled_with
+stmt_of-returns-in_err-place t c = grind (arith, common_steps)
+
+pub stmt_of-returns-in_err-rest : goal.stmt_of-returns-in_err-rest
+unfolding stmt_at stmt_with labelled_with
+stmt_of-returns-in_err-rest t c = grind (arith, common_steps)
+
+pub switch_of-returns : goal.switch_of-returns
+unfolding switch_with
+switch_of-returns t c = grind (arith, views)
+
+pub do_of-returns : goal.do_of-returns
+unfolding do_at
+do_of-returns t c = grind (arith, common_steps)
+
+pub group_of-returns-in_default : goal.group_of-returns-in_default
+unfolding group_with
+group_of-returns-in_default t c = grind (arith, views)
+
+pub inner_of-returns : goal.inner_of-returns
+inner_of-returns t c = grind (arith, common_steps)
+
+pub stmt_of-returns : goal.stmt_of-returns
+unfolding stmt_at stmt_with labelled_with
+stmt_of-returns t c = grind (arith, common_steps)
+
+pub stmt_of-returns-then-is_sign : goal.stmt_of-returns-then-is_sign
+unfolding stmt_at stmt_with labelled_with
+stmt_of-returns-then-is_sign t c = grind (arith, common_steps)
+
+pub stmt_of-returns-then-is_sign-2 : goal.stmt_of-returns-then-is_sign-2
+unfolding stmt_at stmt_with labelled_with
+stmt_of-returns-then-is_sign-2 t c = grind (arith, common_steps)
+
+pub stmt_of-returns-then-is_word : goal.stmt_of-returns-then-is_word
+unfolding stmt_at stmt_with labelled_with
+stmt_of-returns-then-is_word t c = grind (arith, common_steps)
+
+pub stmt_of-returns-then-is_word-2 : goal.stmt_of-returns-then-is_word-2
+unfolding stmt_at stmt_with labelled_with
+stmt_of-returns-then-is_word-2 t c = grind (arith, common_steps)
+
+pub stmt_of-returns-then-is_word-4 : goal.stmt_of-returns-then-is_word-4
+unfolding stmt_at stmt_with labelled_with
+stmt_of-returns-then-is_word-4 t c = grind (arith, common_steps)
+
+pub while_of-returns : goal.while_of-returns
+unfolding while_at
+while_of-returns t c = grind (arith, common_steps)

@@ -1,4 +1,5 @@
-use Rattle.std.proofs.Common.{Some, sym, ap, ◌∙◌}
+use Rattle.std.proofs.Common.{arith, Some, sym, ap, ◌∙◌}
+use Rattle.std.proofs.lemmas.Grind.{common_steps}
 use Rattle.std.specs.Prelude.{map}
 use Rattle.jv_tree.specs.declared.built_in.SessionCall.{SessionCall}
 use Rattle.jv_tree.specs.BuiltIn.{PlainMethod}
@@ -17,3 +18,6 @@ returns c =
     ∙ ap Some (sym (c.typed.ensures ∙ ap (λ e. typed e c.plain.result) (kind-Session c.in-Some.call c.args.args c.args.place)
     ∙ ap (typed (Core.Session c.args.place c.in-Some.call (exprs_of (map expr_of c.args.args.items))))
     (c.plain.ensures ∙ ap (λ (m : PlainMethod). plain_type m.result) c.method.ensures)))
+
+pub returns-in_default : goal.returns-in_default
+returns-in_default c = grind (arith, common_steps)

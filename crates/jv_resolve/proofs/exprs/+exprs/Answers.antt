@@ -8,6 +8,7 @@ use Rattle.std.specs.Prelude.{map, Some, option_map}
 use Rattle.std.proofs.lemmas.Result.{err_from_is_err_and}
 use Rattle.jv_tree.specs.View.{expr_of, exprs_of}
 use Rattle.jv_core.specs.View.{expr_of as core_expr}
+use Rattle.jv_core.proofs.ViewLaws.{kind-Neg, kind-Not}
 use Rattle.jv_resolve_law.specs.Expressions.{OnValue, typed, resolved, resolved_all, receiver, member, call_own, call_on, make}
 use Rattle.jv_resolve.specs.inner.HeadsSeen.{head_seen}
 use Rattle.jv_resolve.specs.inner.Named.{variable_named, receiver_named}
@@ -76,10 +77,10 @@ resolve_expr-returns-in_err-inner-in-Neg t c =
 pub resolve_expr-returns-in_ok-inner-in-Neg : goal.resolve_expr-returns-in_ok-inner-in-Neg
 resolve_expr-returns-in_ok-inner-in-Neg t c =
     steps.is-Neg (tables_seen c.args.scope.now.table.now) (standing_seen c.args.scope.now) c.args.locals.now c.args.expr.now
-    (resolved_seen c.negative.result) c.in-Neg.of (operand_seen c.in_ok-inner-in-Neg.inner)
+    (resolved_seen c.typed.result) c.in-Neg.of (operand_seen c.in_ok-inner-in-Neg.inner)
     (ap (λ y. resolved (tables_seen c.args.scope.now.table.now) (standing_seen c.args.scope.now) c.args.locals.now (expr_of y))
     (sym c.deref-in-Neg.ensures) ∙ c.in_ok-inner-in-Neg.ensures)
-    c.in-Neg.is c.negative.ensures
+    c.in-Neg.is (c.typed.ensures ∙ ap (λ e. typed e types.Int) (kind-Neg c.in_ok-inner-in-Neg.inner.expr c.args.expr.now.place))
 
 pub resolve_expr-returns-in_err-inner-in-Not : goal.resolve_expr-returns-in_err-inner-in-Not
 resolve_expr-returns-in_err-inner-in-Not t c =
@@ -93,10 +94,11 @@ resolve_expr-returns-in_err-inner-in-Not t c =
 pub resolve_expr-returns-in_ok-inner-in-Not : goal.resolve_expr-returns-in_ok-inner-in-Not
 resolve_expr-returns-in_ok-inner-in-Not t c =
     steps.is-Not (tables_seen c.args.scope.now.table.now) (standing_seen c.args.scope.now) c.args.locals.now c.args.expr.now
-    (resolved_seen c.opposite.result) c.in-Not.of (operand_seen c.in_ok-inner-in-Not.inner)
+    (resolved_seen c.typed-in-Not.result) c.in-Not.of (operand_seen c.in_ok-inner-in-Not.inner)
     (ap (λ y. resolved (tables_seen c.args.scope.now.table.now) (standing_seen c.args.scope.now) c.args.locals.now (expr_of y))
     (sym c.deref-in-Not.ensures) ∙ c.in_ok-inner-in-Not.ensures)
-    c.in-Not.is c.opposite.ensures
+    c.in-Not.is (c.typed-in-Not.ensures ∙ ap (λ e. typed e types.Boolean) (kind-Not c.in_ok-inner-in-Not.inner.expr
+    c.args.expr.now.place))
 
 pub resolve_expr-returns-in_err-left-in-Binary : goal.resolve_expr-returns-in_err-left-in-Binary
 resolve_expr-returns-in_err-left-in-Binary t c =

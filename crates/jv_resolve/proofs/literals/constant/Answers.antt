@@ -1,4 +1,5 @@
-use Rattle.std.proofs.Common.{Some, sym, ap, ◌∙◌}
+use Rattle.std.proofs.Common.{arith, Some, sym, ap, ◌∙◌}
+use Rattle.std.proofs.lemmas.Grind.{common_steps}
 use Rattle.jv_meaning.specs.Program.{constant_position}
 use Rattle.jv_core.specs.Tree as Core
 use Rattle.jv_core.specs.declared.program.CoreType.TheVariants as types
@@ -17,3 +18,6 @@ returns c =
     ∙ ap (λ o. o >>= λ j. Some (typed (Core.Constant c.args.place k.number j) (types.Enum k.number)))
     (sym c.in-Some-constant_place.ensures)
     ∙ ap Some (sym (c.typed.ensures ∙ ap (λ e. typed e (types.Enum k.number)) (kind-Constant k.number i c.args.place)))
+
+pub returns-in_default-constant_place : goal.returns-in_default-constant_place
+returns-in_default-constant_place c = grind (arith, common_steps)

@@ -1,4 +1,5 @@
-use Rattle.std.proofs.Common.{refl}
+use Rattle.std.proofs.Common.{arith, refl}
+use Rattle.std.proofs.lemmas.Grind.{common_steps}
 use Rattle.std.specs.Prelude.{◌+◌}
 use Rattle.jv_tree.specs.View.{method_of}
 use Rattle.jv_resolve.proofs.Called.{called_got, not_called}
@@ -15,3 +16,6 @@ returns-in-Some-get c =
     c.args.entry.now.class.now.methods.items _ refl c.args.name.now c.in-Some.place
     c.in-Some.ensures c.as_slice.result.now c.as_slice.ensures.items
     c.in-Some-get.method c.in-Some-get.ensures.lookup
+
+pub returns-in-None-get : goal.returns-in-None-get
+returns-in-None-get c = grind (arith, common_steps)

@@ -649,7 +649,7 @@ resolve_inner-returns-in_err-resolved-clause-it t c =
 
 pub resolve_inner-returns-clause-it : goal.resolve_inner-returns-clause-it
 resolve_inner-returns-clause-it t c = c.in_ok-resolved.ensures.it ∙
-    ap (λ y. Some (counting (stmt_of y) (counted_seen c.resolve_stmt.new.body))) (sym c.in_ok-boxed_stmt.ensures)
+    ap (λ y. Some (counting (stmt_of y) (counted_seen c.resolve_stmt.new.body))) (sym c.in_ok-boxed.ensures)
 
 pub resolve_inner-returns-clause-locals : goal.resolve_inner-returns-clause-locals
 resolve_inner-returns-clause-locals t c = c.in_ok-resolved.ensures.locals

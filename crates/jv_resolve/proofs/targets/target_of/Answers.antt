@@ -13,7 +13,7 @@ returns-in_err-target c =
 
 pub returns : goal.returns
 returns c =
-    gives_as (λ x. x) c.variable_of.result _ _
+    gives_as (λ x. x) c.variable_of-variable.result _ _
     (after (resolved (tables_seen c.args.scope.now.table.now) (standing_seen c.args.scope.now) c.args.body.now.locals
     (expr_of c.args.target.now)) (resolved_seen c.in_ok-target.target) (λ (r : Resolved). variable_in r.expr) c.in_ok-target.ensures)
-    c.variable_of.ensures
+    c.variable_of-variable.ensures

@@ -1,4 +1,5 @@
 use Rattle.std.proofs.Common.{◌+◌, sym, ap, ◌∙◌, arith}
+use Rattle.std.proofs.lemmas.Grind.{common_steps}
 use Rattle.std.specs.Option.{option_or}
 use Rattle.jv_types.specs.inner.Signatures.{params_seen}
 use Rattle.jv_types.specs.Tables.{program_in}
@@ -31,3 +32,6 @@ loop-i-preserved c =
     (same_within c.args.types.now c.loop-i.i NoValue _ (omega (arith, c.requires, c.loop-i-test.true)))
     ∙ ap (λ o. option_or o (left_misfit c.args.args.now (params_seen (program_in c.args.table.now) c.args.params) c.args.types.now
     (c.loop-i.i + 1))) (sym c.in_default.ensures)
+
+pub returns : goal.returns
+returns c = grind (arith, common_steps)

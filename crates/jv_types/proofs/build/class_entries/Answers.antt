@@ -1,3 +1,5 @@
+use Rattle.std.proofs.Common.{arith}
+use Rattle.std.proofs.lemmas.Grind.{common_steps}
 use Rattle.jv_types.specs.inner.Kept.{class_kept}
 use Rattle.jv_types.proofs.Building.{none_here, none_later, kept_more}
 use Rattle.jv_types.proofs.build.class_entries.Goals as goal
@@ -21,3 +23,6 @@ loop-decl-preserved c =
 
 pub returns-clause-numbers : goal.returns-clause-numbers
 returns-clause-numbers c = c.loop-decl.invariant.numbers
+
+pub returns-clause-classes : goal.returns-clause-classes
+returns-clause-classes c = grind (arith, common_steps)

@@ -1,3 +1,5 @@
+use Rattle.std.proofs.Common.{arith}
+use Rattle.std.proofs.lemmas.Grind.{common_steps}
 use Rattle.jv_types.specs.inner.Kept.{enum_kept}
 use Rattle.jv_types.proofs.Building.{none_here, none_later, kept_more}
 use Rattle.jv_types.proofs.build.enum_entries.Goals as goal
@@ -13,3 +15,6 @@ loop-decl-preserved c = record {
   enums = kept_more c.args.decls.now c.loop-decl.decl-index c.decl-item.result c.loop-decl-test.true c.decl-item.is enum_kept _ _ _
       c.loop-decl.invariant.enums c.in_ok-add_enum.ensures;
 }
+
+pub returns : goal.returns
+returns c = grind (arith, common_steps)

@@ -1,3 +1,5 @@
+use Rattle.std.proofs.Common.{arith}
+use Rattle.jv_types.proofs.Finding.{found}
 use Rattle.jv_types.proofs.Building.{typestate_found, typestate_missing}
 use Rattle.jv_types.proofs.Numbering.{number_found}
 use Rattle.jv_types.proofs.build.typestate_for.Goals as goal

@@ -16,11 +16,11 @@ returns c =
       place = c.args.place;
       name = c.args.name;
       receiver = None;
-      is_own = c.calls_protocol.result;
+      is_own = c.own_call-own.result.is_protocol;
       field =
           None;
-      helper = c.calls_helper.result;
+      helper = c.own_call-own.result.is_helper;
     } in
     let e = Call c.args.place c.args.name.now args in
     c.end_method.ensures e (subst (λ (o : Option Signature). IsSite s e site o args) (sym c.called-signature.ensures)
-    (plain_site s site args refl c.calls_protocol.ensures refl c.calls_helper.ensures))
+    (plain_site s site args refl c.own_call-own.ensures.protocol refl c.own_call-own.ensures.helper))

@@ -1,4 +1,5 @@
-use Rattle.std.proofs.Common.{◌≡◌, ◌||◌, map, true, false, IfOk, OnOk, refl, sym, ap, subst, ◌∙◌}
+use Rattle.std.proofs.Common.{◌≡◌, ◌||◌, not, map, true, false, IfOk, OnOk, refl, sym, ap, subst, ◌∙◌, arith}
+use Rattle.std.proofs.lemmas.Grind.{common_steps}
 use Rattle.std.specs.Option.{option_map}
 use Rattle.jv_tree.specs.declared.tree.StmtKind.TheVariants as kinds
 use Rattle.jv_tree.specs.Source.{Return}
@@ -55,7 +56,7 @@ leave_stmt-returns-in_ok-other-in-Some-clause-exits t c =
 
 pub leave_stmt-returns-in_ok-jumps-in-While-clause-through : goal.leave_stmt-returns-in_ok-jumps-in-While-clause-through
 leave_stmt-returns-in_ok-jumps-in-While-clause-through t c =
-    subst (λ s. c.ends_while.result ≡ leaves s Through) (forms.while_is c.args.stmt.now c.in-While.condition c.in-While.inner
+    subst (λ s. c.either-in-While.result ≡ leaves s Through) (forms.while_is c.args.stmt.now c.in-While.condition c.in-While.inner
     c.deref-in-While.result.now c.deref-in-While.ensures c.in-While.label (option_map (λ n. n.now) c.label_text-label.result)
     c.label_text-label.ensures c.in-While.is)
     (forms.while_left c.args.stmt.now.place (option_map (λ n. n.now) c.label_text-label.result) (expr_of c.in-While.condition)
@@ -63,8 +64,8 @@ leave_stmt-returns-in_ok-jumps-in-While-clause-through t c =
     (met_at c.leave_stmt-in-While.new.exits) (met_at c.leave_loop.new.self)
     c.in_ok-hidden-in-While.hidden c.in_ok-jumps-in-While.jumps c.in_ok-hidden-in-While.ensures.met
     c.in_ok-leave_stmt-in-While.ensures.exits c.in_ok-jumps-in-While.ensures.met
-    c.in_ok-hidden-in-While.ensures.plain c.in_ok-hidden-in-While.ensures.labelled c.in_ok-jumps-in-While.ensures.inner c.ends_while.result
-    c.ends_while.ensures).0
+    c.in_ok-hidden-in-While.ensures.plain c.in_ok-hidden-in-While.ensures.labelled c.in_ok-jumps-in-While.ensures.inner c.either-in-While.result
+    (c.either-in-While.ensures ∙ ap (λ b. not b || c.in_ok-jumps-in-While.jumps.breaks) c.is_always_true.ensures)).0
 
 pub leave_stmt-returns-in_ok-jumps-in-While-clause-exits : goal.leave_stmt-returns-in_ok-jumps-in-While-clause-exits
 leave_stmt-returns-in_ok-jumps-in-While-clause-exits t c =
@@ -76,8 +77,8 @@ leave_stmt-returns-in_ok-jumps-in-While-clause-exits t c =
     (met_at c.leave_stmt-in-While.new.exits) (met_at c.leave_loop.new.self)
     c.in_ok-hidden-in-While.hidden c.in_ok-jumps-in-While.jumps c.in_ok-hidden-in-While.ensures.met
     c.in_ok-leave_stmt-in-While.ensures.exits c.in_ok-jumps-in-While.ensures.met
-    c.in_ok-hidden-in-While.ensures.plain c.in_ok-hidden-in-While.ensures.labelled c.in_ok-jumps-in-While.ensures.inner c.ends_while.result
-    c.ends_while.ensures).1
+    c.in_ok-hidden-in-While.ensures.plain c.in_ok-hidden-in-While.ensures.labelled c.in_ok-jumps-in-While.ensures.inner c.either-in-While.result
+    (c.either-in-While.ensures ∙ ap (λ b. not b || c.in_ok-jumps-in-While.jumps.breaks) c.is_always_true.ensures)).1
 
 pub leave_stmt-returns-in_ok-jumps-in-Do-clause-through : goal.leave_stmt-returns-in_ok-jumps-in-Do-clause-through
 leave_stmt-returns-in_ok-jumps-in-Do-clause-through t c =
@@ -107,14 +108,16 @@ leave_stmt-returns-in_ok-jumps-in-Do-clause-exits t c =
 
 pub leave_stmt-returns-in_ok-completes-in-Switch-clause-through : goal.leave_stmt-returns-in_ok-completes-in-Switch-clause-through
 leave_stmt-returns-in_ok-completes-in-Switch-clause-through t c =
-    subst (λ s. c.ends_switch.result ≡ leaves s Through) (forms.switch_is c.args.stmt.now c.in-Switch.field-0 c.in-Switch.groups
+    subst (λ s. c.either-in-Switch.result ≡ leaves s Through) (forms.switch_is c.args.stmt.now c.in-Switch.field-0 c.in-Switch.groups
     c.in-Switch.field-2 c.as_slice-groups.result.now c.in-Switch.is c.as_slice-groups.ensures.items)
     (forms.switch_left c.args.stmt.now.place (expr_of c.in-Switch.field-0) (groups_of (map group_of c.as_slice-groups.result.now))
     c.in-Switch.field-2 (met_at c.args.exits.now) (met_at c.enter_switch-hidden.new.self) (met_at c.leave_groups.new.exits)
     (met_at c.leave_switch-broken.new.self)
     c.enter_switch-hidden.result c.enter_switch-hidden.ensures.met c.in_ok-completes-in-Switch.ensures.exits
     c.leave_switch-broken.ensures.met c.enter_switch-hidden.ensures.hidden
-    c.ends_switch.result c.in_ok-completes-in-Switch.completes c.leave_switch-broken.result c.ends_switch.ensures
+    c.either-in-Switch.result c.in_ok-completes-in-Switch.completes c.leave_switch-broken.result
+    (c.either-in-Switch.ensures ∙ ap (λ b. not c.has_default.result || b) c.either-ends.ensures
+    ∙ ap (λ b. not b || (c.in_ok-completes-in-Switch.completes || c.leave_switch-broken.result)) c.has_default.ensures)
     c.in_ok-completes-in-Switch.ensures.last c.leave_switch-broken.ensures.inner).0
 
 pub leave_stmt-returns-in_ok-completes-in-Switch-clause-exits : goal.leave_stmt-returns-in_ok-completes-in-Switch-clause-exits
@@ -127,35 +130,37 @@ leave_stmt-returns-in_ok-completes-in-Switch-clause-exits t c =
     (met_at c.leave_switch-broken.new.self)
     c.enter_switch-hidden.result c.enter_switch-hidden.ensures.met c.in_ok-completes-in-Switch.ensures.exits
     c.leave_switch-broken.ensures.met c.enter_switch-hidden.ensures.hidden
-    c.ends_switch.result c.in_ok-completes-in-Switch.completes c.leave_switch-broken.result c.ends_switch.ensures
+    c.either-in-Switch.result c.in_ok-completes-in-Switch.completes c.leave_switch-broken.result
+    (c.either-in-Switch.ensures ∙ ap (λ b. not c.has_default.result || b) c.either-ends.ensures
+    ∙ ap (λ b. not b || (c.in_ok-completes-in-Switch.completes || c.leave_switch-broken.result)) c.has_default.ensures)
     c.in_ok-completes-in-Switch.ensures.last c.leave_switch-broken.ensures.inner).1
 
-pub leave_stmt-returns-in_ok-add_break-in-Break-clause-through : goal.leave_stmt-returns-in_ok-add_break-in-Break-clause-through
-leave_stmt-returns-in_ok-add_break-in-Break-clause-through t c =
+pub leave_stmt-returns-in_ok-add-in-Break-clause-through : goal.leave_stmt-returns-in_ok-add-in-Break-clause-through
+leave_stmt-returns-in_ok-add-in-Break-clause-through t c =
     subst (λ s. false ≡ leaves s Through) (forms.break_is c.args.stmt.now c.in-Break.label (option_map (λ n. n.now) c.label_text.result)
     c.label_text.ensures c.in-Break.is)
     refl
 
-pub leave_stmt-returns-in_ok-add_break-in-Break-clause-exits : goal.leave_stmt-returns-in_ok-add_break-in-Break-clause-exits
-leave_stmt-returns-in_ok-add_break-in-Break-clause-exits t c =
-    subst (λ s. Adds (leaves s) (met_at c.args.exits.now) (met_at c.add_break.new.self)) (forms.break_is c.args.stmt.now c.in-Break.label
+pub leave_stmt-returns-in_ok-add-in-Break-clause-exits : goal.leave_stmt-returns-in_ok-add-in-Break-clause-exits
+leave_stmt-returns-in_ok-add-in-Break-clause-exits t c =
+    subst (λ s. Adds (leaves s) (met_at c.args.exits.now) (met_at c.add.new.self)) (forms.break_is c.args.stmt.now c.in-Break.label
     (option_map (λ n. n.now) c.label_text.result) c.label_text.ensures c.in-Break.is)
-    (break_adds (met_at c.args.exits.now) (met_at c.add_break.new.self) (option_map (λ n. n.now) c.label_text.result)
-    c.in_ok-add_break-in-Break.ensures)
+    (break_adds (met_at c.args.exits.now) (met_at c.add.new.self) (option_map (λ n. n.now) c.label_text.result)
+    c.in_ok-add-in-Break.ensures)
 
-pub leave_stmt-returns-in_ok-add_continue-in-Continue-clause-through : goal.leave_stmt-returns-in_ok-add_continue-in-Continue-clause-through
-leave_stmt-returns-in_ok-add_continue-in-Continue-clause-through t c =
+pub leave_stmt-returns-in_ok-add-in-Continue-clause-through : goal.leave_stmt-returns-in_ok-add-in-Continue-clause-through
+leave_stmt-returns-in_ok-add-in-Continue-clause-through t c =
     subst (λ s. false ≡ leaves s Through) (forms.continue_is c.args.stmt.now c.in-Continue.label
     (option_map (λ n. n.now) c.label_text-in-Continue.result) c.label_text-in-Continue.ensures c.in-Continue.is)
     refl
 
-pub leave_stmt-returns-in_ok-add_continue-in-Continue-clause-exits : goal.leave_stmt-returns-in_ok-add_continue-in-Continue-clause-exits
-leave_stmt-returns-in_ok-add_continue-in-Continue-clause-exits t c =
-    subst (λ s. Adds (leaves s) (met_at c.args.exits.now) (met_at c.add_continue.new.self))
+pub leave_stmt-returns-in_ok-add-in-Continue-clause-exits : goal.leave_stmt-returns-in_ok-add-in-Continue-clause-exits
+leave_stmt-returns-in_ok-add-in-Continue-clause-exits t c =
+    subst (λ s. Adds (leaves s) (met_at c.args.exits.now) (met_at c.add-in-Continue.new.self))
     (forms.continue_is c.args.stmt.now c.in-Continue.label (option_map (λ n. n.now) c.label_text-in-Continue.result)
     c.label_text-in-Continue.ensures c.in-Continue.is)
-    (continue_adds (met_at c.args.exits.now) (met_at c.add_continue.new.self) (option_map (λ n. n.now) c.label_text-in-Continue.result)
-    c.in_ok-add_continue-in-Continue.ensures)
+    (continue_adds (met_at c.args.exits.now) (met_at c.add-in-Continue.new.self) (option_map (λ n. n.now) c.label_text-in-Continue.result)
+    c.in_ok-add-in-Continue.ensures)
 
 pub leave_stmt-returns-in-Return-clause-through : goal.leave_stmt-returns-in-Return-clause-through
 leave_stmt-returns-in-Return-clause-through t c =
@@ -230,3 +235,15 @@ pub leave_groups-returns-clause-exits : goal.leave_groups-returns-clause-exits
 leave_groups-returns-clause-exits t c =
     (groups_done c.args.groups.now c.loop-group.group-index c.loop-group-test.false (groups_of (map group_of c.args.groups.now))
     (met_at c.args.exits.now) (met_at c.loop-group.exits) c.loop-group.last c.loop-group.invariant).1
+
+pub leave_stmt-returns-in_err-jumps-in-Do-clause-exits : goal.leave_stmt-returns-in_err-jumps-in-Do-clause-exits
+leave_stmt-returns-in_err-jumps-in-Do-clause-exits t c = grind (arith, common_steps)
+
+pub leave_stmt-returns-in_err-jumps-in-Do-clause-through : goal.leave_stmt-returns-in_err-jumps-in-Do-clause-through
+leave_stmt-returns-in_err-jumps-in-Do-clause-through t c = grind (arith, common_steps)
+
+pub leave_stmt-returns-in_err-jumps-in-While-clause-exits : goal.leave_stmt-returns-in_err-jumps-in-While-clause-exits
+leave_stmt-returns-in_err-jumps-in-While-clause-exits t c = grind (arith, common_steps)
+
+pub leave_stmt-returns-in_err-jumps-in-While-clause-through : goal.leave_stmt-returns-in_err-jumps-in-While-clause-through
+leave_stmt-returns-in_err-jumps-in-While-clause-through t c = grind (arith, common_steps)

@@ -48,26 +48,6 @@ check_args-returns t c =
     index_done (scope_seen c.args.scope.now c.args.locals.now) (exprs_of (map expr_of c.args.args.now)) c.args.args.now c.loop-arg.arg-index
     c.loop-arg.given c.loop-arg-test.false c.loop-arg.invariant
 
--- ---- operators
-
-pub check_neg-returns-in_err-inner : goal.check_neg-returns-in_err-inner
-check_neg-returns-in_err-inner t c =
-    let r = err_from_is_err_and c.from_residual.result c.from_residual.ensures.1 in
-    rw (r.1, r.2) (neg_tells (scope_seen c.args.scope.now c.args.locals.now) c.args.place (expr_of c.args.of.now) c.in_err-inner.field-0.0
-    c.in_err-inner.ensures)
-
-pub check_neg-returns : goal.check_neg-returns
-check_neg-returns t c = c.end_neg.ensures (scope_seen c.args.scope.now c.args.locals.now) c.in_ok-inner.ensures
-
-pub check_not-returns-in_err-inner : goal.check_not-returns-in_err-inner
-check_not-returns-in_err-inner t c =
-    let r = err_from_is_err_and c.from_residual.result c.from_residual.ensures.1 in
-    rw (r.1, r.2) (not_tells (scope_seen c.args.scope.now c.args.locals.now) c.args.place (expr_of c.args.of.now) c.in_err-inner.field-0.0
-    c.in_err-inner.ensures)
-
-pub check_not-returns : goal.check_not-returns
-check_not-returns t c = c.end_not.ensures (scope_seen c.args.scope.now c.args.locals.now) c.in_ok-inner.ensures
-
 -- ---- members
 
 pub check_member-returns-then-is_this : goal.check_member-returns-then-is_this
@@ -91,16 +71,6 @@ check_member-returns t c =
     c.in_ok-check_expr.ensures.fine
 
 -- ---- calls
-
-pub check_call-returns-in_err-given : goal.check_call-returns-in_err-given
-check_call-returns-in_err-given t c =
-    let r = err_from_is_err_and c.from_residual.result c.from_residual.ensures.1 in
-    rw (r.1, r.2)
-    (call_tells (scope_seen c.args.scope.now c.args.locals.now) c.args.place c.args.name.now (exprs_of (map expr_of c.args.args.now))
-    c.in_err-given.field-0.0 c.in_err-given.ensures)
-
-pub check_call-returns : goal.check_call-returns
-check_call-returns t c = c.end_call.ensures
 
 pub check_receiver-returns-then-is_this : goal.check_receiver-returns-then-is_this
 check_receiver-returns-then-is_this t c = sym c.is_this.ensures ∙ c.if-is_this.true
@@ -170,17 +140,41 @@ check_expr-returns-in-Member t c =
     c.deref.result.now c.as_str-in-Member.result.now c.in-Member.is
     c.deref.ensures c.as_str-in-Member.ensures c.check_member.ensures
 
-pub check_expr-returns-in-Neg : goal.check_expr-returns-in-Neg
-check_expr-returns-in-Neg t c = neg_as (scope_seen c.args.scope.now c.args.locals.now) c.args.expr.now c.check_neg.result c.in-Neg.of
-    c.deref-in-Neg.result.now c.in-Neg.is c.deref-in-Neg.ensures c.check_neg.ensures
+pub check_expr-returns-in_err-inner-in-Neg : goal.check_expr-returns-in_err-inner-in-Neg
+check_expr-returns-in_err-inner-in-Neg t c =
+    let r = err_from_is_err_and c.from_residual.result c.from_residual.ensures.1 in
+    let s = scope_seen c.args.scope.now c.args.locals.now in
+    let of = c.deref-in-Neg.result.now in
+    rw (r.1, r.2)
+    (neg_as s c.args.expr.now (Err c.in_err-inner-in-Neg.field-0.0) c.in-Neg.of of c.in-Neg.is c.deref-in-Neg.ensures
+    (neg_tells s c.args.expr.now.place (expr_of of) c.in_err-inner-in-Neg.field-0.0 c.in_err-inner-in-Neg.ensures))
 
-pub check_expr-returns-in-Not : goal.check_expr-returns-in-Not
-check_expr-returns-in-Not t c = not_as (scope_seen c.args.scope.now c.args.locals.now) c.args.expr.now c.check_not.result c.in-Not.of
-    c.deref-in-Not.result.now c.in-Not.is c.deref-in-Not.ensures c.check_not.ensures
+pub check_expr-returns-in_ok-inner-in-Neg : goal.check_expr-returns-in_ok-inner-in-Neg
+check_expr-returns-in_ok-inner-in-Neg t c =
+    let s = scope_seen c.args.scope.now c.args.locals.now in
+    neg_as s c.args.expr.now c.end_neg.result c.in-Neg.of c.deref-in-Neg-2.result.now c.in-Neg.is c.deref-in-Neg-2.ensures
+    (c.end_neg.ensures s (subst (λ (z : KeptExpr). IsChecked s (expr_of z) c.in_ok-inner-in-Neg.inner)
+    (c.deref-in-Neg.ensures ∙ sym c.deref-in-Neg-2.ensures) c.in_ok-inner-in-Neg.ensures))
+
+pub check_expr-returns-in_err-inner-in-Not : goal.check_expr-returns-in_err-inner-in-Not
+check_expr-returns-in_err-inner-in-Not t c =
+    let r = err_from_is_err_and c.from_residual-in_err-inner-in-Not.result c.from_residual-in_err-inner-in-Not.ensures.1 in
+    let s = scope_seen c.args.scope.now c.args.locals.now in
+    let of = c.deref-in-Not.result.now in
+    rw (r.1, r.2)
+    (not_as s c.args.expr.now (Err c.in_err-inner-in-Not.field-0.0) c.in-Not.of of c.in-Not.is c.deref-in-Not.ensures
+    (not_tells s c.args.expr.now.place (expr_of of) c.in_err-inner-in-Not.field-0.0 c.in_err-inner-in-Not.ensures))
+
+pub check_expr-returns-in_ok-inner-in-Not : goal.check_expr-returns-in_ok-inner-in-Not
+check_expr-returns-in_ok-inner-in-Not t c =
+    let s = scope_seen c.args.scope.now c.args.locals.now in
+    not_as s c.args.expr.now c.end_not.result c.in-Not.of c.deref-in-Not-2.result.now c.in-Not.is c.deref-in-Not-2.ensures
+    (c.end_not.ensures s (subst (λ (z : KeptExpr). IsChecked s (expr_of z) c.in_ok-inner-in-Not.inner)
+    (c.deref-in-Not.ensures ∙ sym c.deref-in-Not-2.ensures) c.in_ok-inner-in-Not.ensures))
 
 pub check_expr-returns-in_err-one-in-Binary : goal.check_expr-returns-in_err-one-in-Binary
 check_expr-returns-in_err-one-in-Binary t c =
-    let r = err_from_is_err_and c.from_residual.result c.from_residual.ensures.1 in
+    let r = err_from_is_err_and c.from_residual-in_err-one-in-Binary.result c.from_residual-in_err-one-in-Binary.ensures.1 in
     let l = c.deref-in-Binary.result.now in
     rw (r.1, r.2)
     (binary_as (scope_seen c.args.scope.now c.args.locals.now) c.args.expr.now (Err c.in_err-one-in-Binary.field-0.0) c.in-Binary.op
@@ -213,11 +207,22 @@ check_expr-returns-in_ok-other-in-Binary t c =
     (subst (λ (z : KeptExpr). IsChecked s (expr_of z) c.in_ok-other-in-Binary.other)
     (c.deref-in-Binary-2.ensures ∙ sym c.deref-in-Binary-4.ensures) c.in_ok-other-in-Binary.ensures))
 
-pub check_expr-returns-in-Call : goal.check_expr-returns-in-Call
-check_expr-returns-in-Call t c =
-    call_as (scope_seen c.args.scope.now c.args.locals.now) c.args.expr.now c.check_call.result c.in-Call.name c.in-Call.args
-    c.as_str-in-Call.result.now c.as_slice.result.now c.in-Call.is
-    c.as_str-in-Call.ensures c.as_slice.ensures.items c.check_call.ensures
+pub check_expr-returns-in_err-given-in-Call : goal.check_expr-returns-in_err-given-in-Call
+check_expr-returns-in_err-given-in-Call t c =
+    let r = err_from_is_err_and c.from_residual-in_err-given-in-Call.result c.from_residual-in_err-given-in-Call.ensures.1 in
+    let s = scope_seen c.args.scope.now c.args.locals.now in
+    let given = c.as_slice-args.result.now in
+    rw (r.1, r.2)
+    (call_as s c.args.expr.now (Err c.in_err-given-in-Call.field-0.0) c.in-Call.name c.in-Call.args c.in-Call.name given c.in-Call.is refl
+    c.as_slice-args.ensures.items
+    (call_tells s c.args.expr.now.place c.in-Call.name (exprs_of (map expr_of given)) c.in_err-given-in-Call.field-0.0
+    c.in_err-given-in-Call.ensures))
+
+pub check_expr-returns-in_ok-given-in-Call : goal.check_expr-returns-in_ok-given-in-Call
+check_expr-returns-in_ok-given-in-Call t c =
+    call_as (scope_seen c.args.scope.now c.args.locals.now) c.args.expr.now c.end_call.result c.in-Call.name c.in-Call.args
+    c.as_str-in-Call.result.now c.as_slice-args.result.now c.in-Call.is
+    c.as_str-in-Call.ensures c.as_slice-args.ensures.items c.end_call.ensures
 
 pub check_expr-returns-in_err-receiver-in-MethodCall : goal.check_expr-returns-in_err-receiver-in-MethodCall
 check_expr-returns-in_err-receiver-in-MethodCall t c =
@@ -235,11 +240,11 @@ check_expr-returns-in_err-given-in-MethodCall t c =
     let r = err_from_is_err_and c.from_residual-in_err-given-in-MethodCall.result c.from_residual-in_err-given-in-MethodCall.ensures.1 in
     let s = (scope_seen c.args.scope.now c.args.locals.now) in
     let of = c.deref-in-MethodCall.result.now in
-    let given = c.as_slice-args.result.now in
+    let given = c.as_slice-args-in-MethodCall.result.now in
     rw (r.1, r.2)
     (method_call_as s c.args.expr.now (Err c.in_err-given-in-MethodCall.field-0.0) c.in-MethodCall.of c.in-MethodCall.name
     c.in-MethodCall.args of c.in-MethodCall.name given
-    c.in-MethodCall.is c.deref-in-MethodCall.ensures refl c.as_slice-args.ensures.items
+    c.in-MethodCall.is c.deref-in-MethodCall.ensures refl c.as_slice-args-in-MethodCall.ensures.items
     (args_tell s c.args.expr.now.place c.in-MethodCall.name (exprs_of (map expr_of given)) (expr_of of)
     c.in_ok-receiver-in-MethodCall.receiver c.in_ok-receiver-in-MethodCall.ensures
     c.in_err-given-in-MethodCall.field-0.0 c.in_err-given-in-MethodCall.ensures))
@@ -253,8 +258,8 @@ pub check_expr-returns-in_ok-given-in-MethodCall : goal.check_expr-returns-in_ok
 check_expr-returns-in_ok-given-in-MethodCall t c =
     method_call_as (scope_seen c.args.scope.now c.args.locals.now) c.args.expr.now c.end_method_call.result c.in-MethodCall.of
     c.in-MethodCall.name c.in-MethodCall.args
-    c.deref-in-MethodCall-2.result.now c.as_str-in-MethodCall.result.now c.as_slice-args.result.now c.in-MethodCall.is
-    c.deref-in-MethodCall-2.ensures c.as_str-in-MethodCall.ensures c.as_slice-args.ensures.items c.end_method_call.ensures
+    c.deref-in-MethodCall-2.result.now c.as_str-in-MethodCall.result.now c.as_slice-args-in-MethodCall.result.now c.in-MethodCall.is
+    c.deref-in-MethodCall-2.ensures c.as_str-in-MethodCall.ensures c.as_slice-args-in-MethodCall.ensures.items c.end_method_call.ensures
 
 pub check_expr-returns-in-New : goal.check_expr-returns-in-New
 check_expr-returns-in-New t c =

@@ -14,15 +14,6 @@ decreases-check_expr l = 4 * goal.size-check_expr l
 abbrev pub decreases-check_member : goal.decreases-check_member
 decreases-check_member l = 4 * goal.size-check_member l + 1
 
-abbrev pub decreases-check_neg : goal.decreases-check_neg
-decreases-check_neg l = 4 * goal.size-check_neg l + 1
-
-abbrev pub decreases-check_not : goal.decreases-check_not
-decreases-check_not l = 4 * goal.size-check_not l + 1
-
-abbrev pub decreases-check_call : goal.decreases-check_call
-decreases-check_call l = 4 * goal.size-check_call l + 2
-
 abbrev pub decreases-check_receiver : goal.decreases-check_receiver
 decreases-check_receiver l = 4 * goal.size-check_receiver l + 1
 

@@ -9,15 +9,15 @@ use Rattle.jv_types.proofs.Checking.{tells_first}
 use Rattle.jv_types.proofs.StmtLoops.{answers_last}
 use Rattle.jv_types.proofs.heads.check_loop.Goals as goal
 
-pub returns-in_err-check_condition : goal.returns-in_err-check_condition
-returns-in_err-check_condition c =
+pub returns-in_err-check_value : goal.returns-in_err-check_value
+returns-in_err-check_value c =
     let r = err_from_is_err_and c.from_residual.result c.from_residual.ensures.1 in
     let s = scope_seen c.args.scope.now c.args.locals.now in
     let e = expr_of c.args.condition.now in
     rw (r.1, r.2)
-    (tells_first c.in_err-check_condition.field-0.0 (value_told s e (Fitting BooleanType)) (label_told s c.args.place c.args.label.now)
+    (tells_first c.in_err-check_value.field-0.0 (value_told s e (Fitting BooleanType)) (label_told s c.args.place c.args.label.now)
     (loop_told s c.args.place c.args.label.now e)
-    refl c.in_err-check_condition.ensures)
+    refl c.in_err-check_value.ensures)
 
 pub returns : goal.returns
 returns c =
@@ -25,4 +25,4 @@ returns c =
     let e = expr_of c.args.condition.now in
     answers_last c.check_label.result (value_told s e (Fitting BooleanType)) (label_told s c.args.place c.args.label.now)
     (loop_told s c.args.place c.args.label.now e)
-    refl c.in_ok-check_condition.ensures c.check_label.ensures
+    refl c.in_ok-check_value.ensures c.check_label.ensures

@@ -1,3 +1,5 @@
+use Rattle.std.proofs.Common.{arith}
+use Rattle.std.proofs.lemmas.Grind.{common_steps}
 use Rattle.jv_types.specs.declared.demands.Demand.TheVariants as demands
 use Rattle.jv_types.specs.Tables.{program_in}
 use Rattle.jv_types.specs.inner.Declaring.{broken_in_class}
@@ -17,3 +19,12 @@ other_answers-requires-clause-alike c =
     none_at (λ e. broken_in_class (program_in c.args.table.now) demands.OfSignature (typestate_in e) (class_in e)) c.args.entries.now
     c.requires.alike
     c.loop-item.item-index c.item-item.result c.loop-item-test.true c.item-item.is
+
+pub loop-item-preserved : goal.loop-item-preserved
+loop-item-preserved c = grind (arith, common_steps)
+
+pub returns : goal.returns
+returns c = grind (arith, common_steps)
+
+pub returns-then-is_some : goal.returns-then-is_some
+returns-then-is_some c = grind (arith, common_steps)

@@ -1,4 +1,6 @@
-use Rattle.std.proofs.Common.{List, sym, ap, ◌∙◌, map}
+use Rattle.jv_types.proofs.Mentioned.{arg_steps}
+use Rattle.jv_types.proofs.Mentioned.{mentioned}
+use Rattle.std.proofs.Common.{List, sym, ap, ◌∙◌, map, arith}
 use Rattle.jv_tree.specs.declared.tree.Expr.{Expr}
 use Rattle.jv_tree.specs.View.{expr_of, exprs_of}
 use Rattle.jv_rules.specs.Members.{mentions_in, mentions_in_args}
@@ -33,3 +35,36 @@ unknown_in-returns-else-is_some-2 t c =
     (c.unknown_in-found-in-MethodCall.ensures ∙ ap (λ (x : Expr). first_by (unknown_class (program_in c.args.table.now))
     (mentions_in (expr_of x))) c.deref-in-MethodCall.ensures)
     (sym c.if-is_some-2.false ∙ c.is_some-in-MethodCall.ensures))
+
+pub unknown_in-returns-else-is_some : goal.unknown_in-returns-else-is_some
+unknown_in-returns-else-is_some t c = grind (arith, mentioned)
+
+pub unknown_in-returns-in-Call : goal.unknown_in-returns-in-Call
+unknown_in-returns-in-Call t c = grind (arith, mentioned)
+
+pub unknown_in-returns-in-Int : goal.unknown_in-returns-in-Int
+unknown_in-returns-in-Int t c = grind (arith, mentioned)
+
+pub unknown_in-returns-in-Member : goal.unknown_in-returns-in-Member
+unknown_in-returns-in-Member t c = grind (arith, mentioned)
+
+pub unknown_in-returns-in-Neg : goal.unknown_in-returns-in-Neg
+unknown_in-returns-in-Neg t c = grind (arith, mentioned)
+
+pub unknown_in-returns-in-New : goal.unknown_in-returns-in-New
+unknown_in-returns-in-New t c = grind (arith, mentioned)
+
+pub unknown_in-returns-in-Not : goal.unknown_in-returns-in-Not
+unknown_in-returns-in-Not t c = grind (arith, mentioned)
+
+pub unknown_in-returns-in-This : goal.unknown_in-returns-in-This
+unknown_in-returns-in-This t c = grind (arith, mentioned)
+
+pub unknown_in-returns-then-is_some : goal.unknown_in-returns-then-is_some
+unknown_in-returns-then-is_some t c = grind (arith, mentioned)
+
+pub unknown_in-returns-then-is_some-2 : goal.unknown_in-returns-then-is_some-2
+unknown_in-returns-then-is_some-2 t c = grind (arith, mentioned)
+
+pub unknown_in_args-returns : goal.unknown_in_args-returns
+unknown_in_args-returns t c = grind (arith, arg_steps)

@@ -1,3 +1,5 @@
+use Rattle.std.proofs.Common.{arith}
+use Rattle.std.proofs.lemmas.Grind.{common_steps}
 use Rattle.std.proofs.lemmas.Result.{err_from_is_err_and}
 use Rattle.jv_types.specs.Tables.{program_in}
 use Rattle.jv_types.specs.inner.Tabled.{class_in}
@@ -20,3 +22,6 @@ loop-method-preserved c =
     let k = class_in c.args.class.now in
     method_more p k c.as_slice-method-items.result.now c.loop-method.method-index k.methods c.loop-method.invariant c.method-item.result
     c.loop-method-test.true c.method-item.is c.in_ok-check_method.ensures
+
+pub returns : goal.returns
+returns c = grind (arith, common_steps)

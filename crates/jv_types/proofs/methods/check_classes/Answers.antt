@@ -1,5 +1,6 @@
+use Rattle.std.proofs.lemmas.Grind.{common_steps}
 use Rattle.std.proofs.lemmas.Result.{err_from_is_err_and}
-use Rattle.std.proofs.Common.{map}
+use Rattle.std.proofs.Common.{map, arith}
 use Rattle.jv_types.specs.Tables.{program_in}
 use Rattle.jv_types.specs.inner.Tabled.{class_in}
 use Rattle.jv_types.proofs.MethodSteps.{entry_in, class_wrong, class_more}
@@ -22,3 +23,6 @@ loop-class-preserved c =
     class_more (program_in c.args.table.now) c.args.classes.now c.loop-class.class-index (map class_in c.args.classes.now)
     c.loop-class.invariant c.class-item.result c.loop-class-test.true c.class-item.is
     c.in_ok-check_class.ensures
+
+pub returns : goal.returns
+returns c = grind (arith, common_steps)

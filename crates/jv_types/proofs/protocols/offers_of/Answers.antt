@@ -1,4 +1,5 @@
-use Rattle.std.proofs.Common.{map}
+use Rattle.std.proofs.Common.{map, arith}
+use Rattle.std.proofs.lemmas.Grind.{common_steps}
 use Rattle.ts_tree.specs.View.{state_of}
 use Rattle.jv_rules.specs.Program.{offers_in}
 use Rattle.jv_types.proofs.Offering.{offers_more}
@@ -10,3 +11,6 @@ loop-state-preserved c =
     c.add_offers.new.all.items
     c.as_slice.result.now (offers_in (map state_of c.args.states.now)) c.loop-state.invariant c.in_ok-add_offers.ensures
     c.as_slice.ensures.items
+
+pub returns : goal.returns
+returns c = grind (arith, common_steps)

@@ -1,4 +1,5 @@
-use Rattle.std.proofs.Common.{◌≡◌, ◌-◌, drop, length, map, Some, None, refl, sym, ap, subst, ◌∙◌}
+use Rattle.std.proofs.Common.{◌≡◌, ◌-◌, drop, length, map, Some, None, refl, sym, ap, subst, ◌∙◌, arith}
+use Rattle.std.proofs.lemmas.Grind.{common_steps}
 use Rattle.std.proofs.lemmas.Result.{err_from_is_err_and}
 use Rattle.jv_tree.specs.declared.tree.StmtKind.TheVariants as kinds
 use Rattle.jv_tree.specs.View.{expr_of, stmt_of, stmts_of, group_of, groups_of}
@@ -6,11 +7,12 @@ use Rattle.jv_types.specs.inner.Scopes.{scope_seen}
 use Rattle.jv_rules.specs.Scope.{behind, Loop, within}
 use Rattle.jv_rules.specs.Scope as targets
 use Rattle.jv_types.specs.inner.Judging.{Tells}
-use Rattle.jv_types.specs.inner.Stating.{Answers, Extends, stmt_fault, stmts_fault, groups_fault, loop_told}
+use Rattle.jv_types.specs.inner.Stating.{Answers, Extends, stmt_fault, stmts_fault, groups_fault, value_told, loop_told}
 use Rattle.jv_types.proofs.Checking.{tells_first, tells_later}
 use Rattle.jv_types.proofs.StmtLoops.{answers_as, answers_last, judged_start, judged_wrong, judged_more, judged_done, all_dropped}
 use Rattle.jv_types.proofs.StmtLoops.{group_wrong, group_more, groups_done}
 use Rattle.jv_types.proofs.StmtForms as forms
+use Rattle.jv_types.proofs.StmtSteps.{print_told, return_told}
 use Rattle.jv_types.proofs.stmts.+stmts.Goals as goal
 
 pub check_stmt-returns-in-Block-clause-told : goal.check_stmt-returns-in-Block-clause-told
@@ -44,13 +46,21 @@ check_stmt-returns-in-Continue-clause-told t c =
 
 pub check_stmt-returns-in-Print-clause-told : goal.check_stmt-returns-in-Print-clause-told
 check_stmt-returns-in-Print-clause-told t c =
-    answers_as c.check_print.result _ _ (forms.print_is (scope_seen c.args.scope.now c.args.locals.now) c.args.stmt.now c.in-Print.value
-    c.in-Print.is) c.check_print.ensures
+    let s = scope_seen c.args.scope.now c.args.locals.now in
+    answers_as c.check_value-in-Print.result _ _ (forms.print_is s c.args.stmt.now c.in-Print.value c.in-Print.is ∙
+    print_told s c.args.stmt.now.place (expr_of c.in-Print.value)) c.check_value-in-Print.ensures
 
-pub check_stmt-returns-in-Eval-clause-told : goal.check_stmt-returns-in-Eval-clause-told
-check_stmt-returns-in-Eval-clause-told t c =
-    answers_as c.check_eval.result _ _ (forms.eval_is (scope_seen c.args.scope.now c.args.locals.now) c.args.stmt.now c.in-Eval.value
-    c.in-Eval.is) c.check_eval.ensures
+pub check_stmt-returns-in_err-check_expr-in-Eval-clause-told : goal.check_stmt-returns-in_err-check_expr-in-Eval-clause-told
+check_stmt-returns-in_err-check_expr-in-Eval-clause-told t c =
+    let r = err_from_is_err_and c.from_residual-in_err-check_expr-in-Eval.result c.from_residual-in_err-check_expr-in-Eval.ensures.1 in
+    rw (r.1, r.2)
+    (subst (Tells c.in_err-check_expr-in-Eval.field-0.0) (sym (forms.eval_is (scope_seen c.args.scope.now c.args.locals.now)
+    c.args.stmt.now c.in-Eval.value c.in-Eval.is)) c.in_err-check_expr-in-Eval.ensures)
+
+pub check_stmt-returns-in_ok-check_expr-in-Eval-clause-told : goal.check_stmt-returns-in_ok-check_expr-in-Eval-clause-told
+check_stmt-returns-in_ok-check_expr-in-Eval-clause-told t c =
+    forms.eval_is (scope_seen c.args.scope.now c.args.locals.now) c.args.stmt.now c.in-Eval.value c.in-Eval.is
+    ∙ c.in_ok-check_expr-in-Eval.ensures.fine
 
 pub check_stmt-returns-in_err-check_loop-in-While-clause-told : goal.check_stmt-returns-in_err-check_loop-in-While-clause-told
 check_stmt-returns-in_err-check_loop-in-While-clause-told t c =
@@ -96,10 +106,10 @@ check_stmt-returns-in_err-check_choice-in-Switch-clause-told t c =
 
 pub check_stmt-returns-in_ok-check_choice-in-Switch-clause-told : goal.check_stmt-returns-in_ok-check_choice-in-Switch-clause-told
 check_stmt-returns-in_ok-check_choice-in-Switch-clause-told t c =
-    answers_last c.check_chosen.result _ _ _ (forms.switch_is (scope_seen c.args.scope.now c.args.locals.now) c.args.stmt.now
+    answers_last c.check_groups.result _ _ _ (forms.switch_is (scope_seen c.args.scope.now c.args.locals.now) c.args.stmt.now
     c.in-Switch.value c.in-Switch.groups _ c.as_slice-groups.result.now
     (within targets.Switch (scope_seen c.args.scope.now c.args.locals.now)) c.in-Switch.is c.as_slice-groups.ensures.items refl)
-    c.in_ok-check_choice-in-Switch.ensures c.check_chosen.ensures.told
+    c.in_ok-check_choice-in-Switch.ensures c.check_groups.ensures.told
 
 pub check_stmts-loop-stmt-init : goal.check_stmts-loop-stmt-init
 check_stmts-loop-stmt-init t c =
@@ -150,46 +160,49 @@ check_groups-loop-group-init t c =
 pub check_groups-returns-in_err-check_stmts-clause-told : goal.check_groups-returns-in_err-check_stmts-clause-told
 check_groups-returns-in_err-check_stmts-clause-told t c =
     let r = err_from_is_err_and c.from_residual.result c.from_residual.ensures.1 in
+    let body = stmts_of (map stmt_of c.as_slice.result.now) in
     rw (r.1, r.2)
-    (group_wrong (scope_seen c.args.scope.now c.args.locals.now) (groups_of (map group_of c.args.groups.now)) c.args.groups.now
-    c.loop-group.group-index c.loop-group.invariant.left c.group-item.result c.loop-group-test.true c.group-item.is
+    (group_wrong (within targets.Switch (scope_seen c.args.scope.now c.args.locals.now)) (groups_of (map group_of c.args.groups.now))
+    c.args.groups.now c.loop-group.group-index c.loop-group.invariant.left c.group-item.result c.loop-group-test.true c.group-item.is
     c.as_slice.result.now c.as_slice.ensures.items c.in_err-check_stmts.field-0.0
-    (subst (λ l. Tells c.in_err-check_stmts.field-0.0
-    (stmts_fault (scope_seen c.args.scope.now l) (stmts_of (map stmt_of c.as_slice.result.now)))) c.loop-group.invariant.locals
-    c.in_err-check_stmts.ensures.told))
+    (subst (λ l. Tells c.in_err-check_stmts.field-0.0 (stmts_fault (within targets.Switch (scope_seen c.args.scope.now l)) body))
+    c.loop-group.invariant.locals
+    (subst (λ z. Tells c.in_err-check_stmts.field-0.0 (stmts_fault z body)) (c.within-within.ensures c.loop-group.locals)
+    c.in_err-check_stmts.ensures.told)))
 
 pub check_groups-loop-group-preserved : goal.check_groups-loop-group-preserved
 check_groups-loop-group-preserved t c =
+    let body = stmts_of (map stmt_of c.as_slice.result.now) in
     record {
-      left = group_more (scope_seen c.args.scope.now c.args.locals.now) (groups_of (map group_of c.args.groups.now)) c.args.groups.now
-          c.loop-group.group-index c.loop-group.invariant.left c.group-item.result c.loop-group-test.true c.group-item.is
+      left = group_more (within targets.Switch (scope_seen c.args.scope.now c.args.locals.now)) (groups_of (map group_of c.args.groups.now))
+          c.args.groups.now c.loop-group.group-index c.loop-group.invariant.left c.group-item.result c.loop-group-test.true c.group-item.is
           c.as_slice.result.now c.as_slice.ensures.items
-          (subst (λ l. stmts_fault (scope_seen c.args.scope.now l) (stmts_of (map stmt_of c.as_slice.result.now)) ≡ None)
-          c.loop-group.invariant.locals c.in_ok-check_stmts.ensures.told);
+          (subst (λ l. stmts_fault (within targets.Switch (scope_seen c.args.scope.now l)) body ≡ None) c.loop-group.invariant.locals
+          (subst (λ z. stmts_fault z body ≡ None) (c.within-within.ensures c.loop-group.locals) c.in_ok-check_stmts.ensures.told));
       locals = c.in_ok-check_stmts.ensures.kept ∙ c.loop-group.invariant.locals;
     }
 
 pub check_groups-returns-clause-told : goal.check_groups-returns-clause-told
 check_groups-returns-clause-told t c =
-    groups_done (scope_seen c.args.scope.now c.args.locals.now) (groups_of (map group_of c.args.groups.now)) c.args.groups.now
-    c.loop-group.group-index c.loop-group.invariant.left c.loop-group-test.false
+    groups_done (within targets.Switch (scope_seen c.args.scope.now c.args.locals.now)) (groups_of (map group_of c.args.groups.now))
+    c.args.groups.now c.loop-group.group-index c.loop-group.invariant.left c.loop-group-test.false
 
 pub check_groups-returns-clause-kept : goal.check_groups-returns-clause-kept
 check_groups-returns-clause-kept t c =
     c.loop-group.invariant.locals
 
-pub check_stmt-returns-in_err-check_condition-in-If-clause-told : goal.check_stmt-returns-in_err-check_condition-in-If-clause-told
-check_stmt-returns-in_err-check_condition-in-If-clause-told t c =
+pub check_stmt-returns-in_err-check_value-in-If-clause-told : goal.check_stmt-returns-in_err-check_value-in-If-clause-told
+check_stmt-returns-in_err-check_value-in-If-clause-told t c =
     let r = err_from_is_err_and c.from_residual.result c.from_residual.ensures.1 in
     rw (r.1, r.2) (forms.if_tells (scope_seen c.args.scope.now c.args.locals.now) c.args.stmt.now c.in-If.condition c.in-If.inner
-    c.in-If.inner.value refl c.in-If.otherwise c.in-If.is c.in_err-check_condition-in-If.field-0.0
-    c.in_err-check_condition-in-If.ensures)
+    c.in-If.inner.value refl c.in-If.otherwise c.in-If.is c.in_err-check_value-in-If.field-0.0
+    c.in_err-check_value-in-If.ensures)
 
 pub check_stmt-returns-in-None-clause-told : goal.check_stmt-returns-in-None-clause-told
 check_stmt-returns-in-None-clause-told t c =
     answers_last c.check_stmt.result _ _ _ (forms.if_is (scope_seen c.args.scope.now c.args.locals.now) c.args.stmt.now c.in-If.condition
     c.in-If.inner c.deref.result.now c.deref.ensures (c.in-If.is ∙ ap (kinds.If c.in-If.condition c.in-If.inner) c.in-None.is))
-    c.in_ok-check_condition-in-If.ensures c.check_stmt.ensures.told
+    c.in_ok-check_value-in-If.ensures c.check_stmt.ensures.told
 
 pub check_stmt-returns-in_err-check_stmt-in-Some-clause-told : goal.check_stmt-returns-in_err-check_stmt-in-Some-clause-told
 check_stmt-returns-in_err-check_stmt-in-Some-clause-told t c =
@@ -198,7 +211,7 @@ check_stmt-returns-in_err-check_stmt-in-Some-clause-told t c =
     (tells_later c.in_err-check_stmt-in-Some.field-0.0 _ _ _ (forms.if_else_is (scope_seen c.args.scope.now c.args.locals.now)
     c.args.stmt.now c.in-If.condition c.in-If.inner c.deref-in-Some.result.now c.deref-in-Some.ensures c.in-Some.otherwise
     c.in-Some.otherwise.value refl (c.in-If.is ∙ ap (kinds.If c.in-If.condition c.in-If.inner) c.in-Some.is))
-    c.in_ok-check_condition-in-If.ensures (tells_first c.in_err-check_stmt-in-Some.field-0.0 _ _ _ refl
+    c.in_ok-check_value-in-If.ensures (tells_first c.in_err-check_stmt-in-Some.field-0.0 _ _ _ refl
     c.in_err-check_stmt-in-Some.ensures.told))
 
 pub check_stmt-returns-in_ok-check_stmt-in-Some-clause-told : goal.check_stmt-returns-in_ok-check_stmt-in-Some-clause-told
@@ -206,7 +219,7 @@ check_stmt-returns-in_ok-check_stmt-in-Some-clause-told t c =
     answers_last c.check_stmt-in-Some-2.result _ _ _ (forms.if_else_is (scope_seen c.args.scope.now c.args.locals.now) c.args.stmt.now
     c.in-If.condition c.in-If.inner c.deref-in-Some.result.now c.deref-in-Some.ensures c.in-Some.otherwise c.deref-in-Some-2.result.now
     c.deref-in-Some-2.ensures (c.in-If.is ∙ ap (kinds.If c.in-If.condition c.in-If.inner) c.in-Some.is))
-    c.in_ok-check_condition-in-If.ensures
+    c.in_ok-check_value-in-If.ensures
     (answers_last c.check_stmt-in-Some-2.result _ _ _ refl c.in_ok-check_stmt-in-Some.ensures.told
     (subst (λ l. Answers (stmt_fault (scope_seen c.args.scope.now l) (stmt_of c.deref-in-Some-2.result.now)) c.check_stmt-in-Some-2.result)
     c.in_ok-check_stmt-in-Some.ensures.kept c.check_stmt-in-Some-2.ensures.told))
@@ -218,8 +231,11 @@ check_stmt-returns-in-None-value-clause-told t c =
 
 pub check_stmt-returns-in-Some-value-clause-told : goal.check_stmt-returns-in-Some-value-clause-told
 check_stmt-returns-in-Some-value-clause-told t c =
-    answers_as c.check_returned.result _ _ (forms.return_is (scope_seen c.args.scope.now c.args.locals.now) c.args.stmt.now
-    (Some c.in-Some-value.value) (c.in-Return.is ∙ ap kinds.Return c.in-Some-value.is)) c.check_returned.ensures
+    let s = scope_seen c.args.scope.now c.args.locals.now in
+    let e = expr_of c.in-Some-value.value in
+    answers_as c.check_value-in-Some-value.result _ _ (forms.return_is s c.args.stmt.now (Some c.in-Some-value.value)
+    (c.in-Return.is ∙ ap kinds.Return c.in-Some-value.is) ∙ return_told s c.args.stmt.now.place e ∙
+    ap (value_told s e) (sym c.wanted_result-wanted.ensures)) c.check_value-in-Some-value.ensures
 
 pub check_inner-returns-clause-told : goal.check_inner-returns-clause-told
 check_inner-returns-clause-told t c =
@@ -228,7 +244,20 @@ check_inner-returns-clause-told t c =
     c.args.label.now _ (c.within-within.ensures c.args.locals.now) c.label_text.ensures)
     c.check_stmt.ensures.told
 
-pub check_chosen-returns-clause-told : goal.check_chosen-returns-clause-told
-check_chosen-returns-clause-told t c =
-    subst (λ z. Answers (groups_fault z (groups_of (map group_of c.args.groups.now))) c.check_groups.result)
-    (c.within-within.ensures c.args.locals.now) c.check_groups.ensures.told
+pub check_stmt-returns-in_err-check_choice-in-Switch-clause-kept : goal.check_stmt-returns-in_err-check_choice-in-Switch-clause-kept
+check_stmt-returns-in_err-check_choice-in-Switch-clause-kept t c = grind (arith, common_steps)
+
+pub check_stmt-returns-in_err-check_expr-in-Eval-clause-kept : goal.check_stmt-returns-in_err-check_expr-in-Eval-clause-kept
+check_stmt-returns-in_err-check_expr-in-Eval-clause-kept t c = grind (arith, common_steps)
+
+pub check_stmt-returns-in_err-check_inner-in-Do-clause-kept : goal.check_stmt-returns-in_err-check_inner-in-Do-clause-kept
+check_stmt-returns-in_err-check_inner-in-Do-clause-kept t c = grind (arith, common_steps)
+
+pub check_stmt-returns-in_err-check_loop-in-While-clause-kept : goal.check_stmt-returns-in_err-check_loop-in-While-clause-kept
+check_stmt-returns-in_err-check_loop-in-While-clause-kept t c = grind (arith, common_steps)
+
+pub check_stmt-returns-in_err-check_stmt-in-Some-clause-kept : goal.check_stmt-returns-in_err-check_stmt-in-Some-clause-kept
+check_stmt-returns-in_err-check_stmt-in-Some-clause-kept t c = grind (arith, common_steps)
+
+pub check_stmt-returns-in_err-check_value-in-If-clause-kept : goal.check_stmt-returns-in_err-check_value-in-If-clause-kept
+check_stmt-returns-in_err-check_value-in-If-clause-kept t c = grind (arith, common_steps)

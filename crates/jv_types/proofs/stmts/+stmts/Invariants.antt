@@ -1,5 +1,7 @@
 use Rattle.std.proofs.Common.{◌≡◌, ◌+◌, ◌*◌, drop, map}
 use Rattle.jv_tree.specs.View.{stmt_of, stmts_of, group_of, groups_of}
+use Rattle.jv_rules.specs.Scope.{within}
+use Rattle.jv_rules.specs.Scope as targets
 use Rattle.jv_types.specs.inner.Scopes.{scope_seen}
 use Rattle.jv_types.specs.inner.Stating.{groups_fault}
 use Rattle.jv_types.proofs.StmtLoops.{AreJudged}
@@ -17,16 +19,13 @@ decreases-check_groups l = 4 * goal.size-check_groups l + 2
 abbrev pub decreases-check_inner : goal.decreases-check_inner
 decreases-check_inner l = 4 * goal.size-check_inner l + 1
 
-abbrev pub decreases-check_chosen : goal.decreases-check_chosen
-decreases-check_chosen l = 4 * goal.size-check_chosen l + 3
-
 abbrev pub invariant-check_stmts-loop-stmt : goal.invariant-check_stmts-loop-stmt
 invariant-check_stmts-loop-stmt l = AreJudged (scope_seen l.scope l.initial.locals) (scope_seen l.scope l.locals)
     (stmts_of (map stmt_of l.stmts)) (stmts_of (map stmt_of (drop l.stmt-index l.stmts)))
 
 abbrev pub invariant-check_groups-loop-group : goal.invariant-check_groups-loop-group
 invariant-check_groups-loop-group l = record {
-  left : groups_fault (scope_seen l.scope l.initial.locals) (groups_of (map group_of l.groups)) ≡ groups_fault
-      (scope_seen l.scope l.initial.locals) (groups_of (map group_of (drop l.group-index l.groups)));
+  left : groups_fault (within targets.Switch (scope_seen l.scope l.initial.locals)) (groups_of (map group_of l.groups)) ≡ groups_fault
+      (within targets.Switch (scope_seen l.scope l.initial.locals)) (groups_of (map group_of (drop l.group-index l.groups)));
   locals : l.locals ≡ l.initial.locals;
 }

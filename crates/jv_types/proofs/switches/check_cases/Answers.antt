@@ -1,10 +1,13 @@
-use Rattle.std.proofs.Common.{map, Bor, Option, Some, None, sym, ap, ◌∙◌}
+use Rattle.std.proofs.Common.{map, Bor, Option, Some, None, false, sym, ap, ◌∙◌}
 use Rattle.std.specs.Option.{option_map}
 use Rattle.std.proofs.lemmas.Result.{err_from_is_err_and}
 use Rattle.mg_text.specs.declared.text.Text.{Text}
 use Rattle.jv_tree.specs.View.{expr_of, group_of, groups_of}
+use Rattle.jv_rules.specs.inner.Deciding.{is_case_of}
+use Rattle.jv_types.specs.Tables.{program_in}
 use Rattle.jv_types.specs.inner.View.{type_seen}
 use Rattle.jv_types.specs.inner.Scopes.{scope_seen}
+use Rattle.jv_types.specs.inner.Stating.{bad_case}
 use Rattle.jv_types.proofs.Choosing.{cases_decided}
 use Rattle.jv_types.proofs.switches.check_cases.Goals as goal
 
@@ -24,7 +27,9 @@ returns-in-Some c =
     (groups_of (map group_of c.args.groups.now))
     (map (λ (l : Bor (Option Text)). l.now) c.as_slice.result.now) (Some c.in-Some.name.now)
     (ap (map (λ (l : Bor (Option Text)). l.now)) c.as_slice.ensures.value ∙ c.in_ok-labels.ensures)
-    (ap (option_map (λ n. n.now)) (sym c.in-Some.is) ∙ c.in_ok-bad.ensures)
+    (ap (option_map (λ n. n.now)) (sym c.in-Some.is) ∙ c.in_ok-bad.ensures ∙
+    ap (λ met. bad_case (is_case_of (program_in c.args.scope.now.table.now) (Some (type_seen c.args.ty))) met false
+    (map (λ (l : Bor (Option Text)). l.now) c.as_slice.result.now)) c.new-met.ensures)
 
 pub returns : goal.returns
 returns c =
@@ -32,4 +37,6 @@ returns c =
     (groups_of (map group_of c.args.groups.now))
     (map (λ (l : Bor (Option Text)). l.now) c.as_slice.result.now) None
     (ap (map (λ (l : Bor (Option Text)). l.now)) c.as_slice.ensures.value ∙ c.in_ok-labels.ensures)
-    (ap (option_map (λ n. n.now)) (sym c.in-None.is) ∙ c.in_ok-bad.ensures)
+    (ap (option_map (λ n. n.now)) (sym c.in-None.is) ∙ c.in_ok-bad.ensures ∙
+    ap (λ met. bad_case (is_case_of (program_in c.args.scope.now.table.now) (Some (type_seen c.args.ty))) met false
+    (map (λ (l : Bor (Option Text)). l.now) c.as_slice.result.now)) c.new-met.ensures)

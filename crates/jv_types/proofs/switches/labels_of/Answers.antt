@@ -1,4 +1,5 @@
-use Rattle.std.proofs.Common.{map}
+use Rattle.std.proofs.Common.{map, arith}
+use Rattle.std.proofs.lemmas.Grind.{common_steps}
 use Rattle.jv_tree.specs.View.{group_of, groups_of}
 use Rattle.jv_rules.specs.Conditions.{cases}
 use Rattle.jv_types.proofs.Choosing.{labels_more}
@@ -10,3 +11,6 @@ loop-group-preserved c =
     (map (λ l. l.now) c.loop-group.all.items) (map (λ l. l.now) c.add_labels.new.all.items)
     c.as_slice.result.now (cases (groups_of (map group_of c.args.groups.now))) c.loop-group.invariant c.in_ok-add_labels.ensures
     c.as_slice.ensures.items
+
+pub returns : goal.returns
+returns c = grind (arith, common_steps)

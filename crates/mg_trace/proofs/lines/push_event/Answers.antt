@@ -1,3 +1,5 @@
+use Rattle.std.proofs.Common.{arith}
+use Rattle.std.proofs.lemmas.Grind.{common_steps}
 use Rattle.std.proofs.lemmas.Result.{on_ok_weaker}
 use Rattle.mg_trace.specs.inner.Tabled.{telling_of}
 use Rattle.mg_trace.proofs.Telling.{left}
@@ -10,3 +12,6 @@ returns-in_ok-push_object-in-Leave c = λ h.
     c.known-in-Leave.result.0.now c.known-in-Leave.result.1.now c.known-in-Leave.ensures.class c.known-in-Leave.ensures.method _ _ _ _
     c.in_ok-push_object-in-Leave.ensures line (c.told_word.ensures h))
     c.push_word.ensures
+
+pub returns-in-Enter : goal.returns-in-Enter
+returns-in-Enter c = grind (arith, common_steps)

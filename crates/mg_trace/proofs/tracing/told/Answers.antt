@@ -1,3 +1,5 @@
+use Rattle.std.proofs.Common.{arith}
+use Rattle.std.proofs.lemmas.Grind.{common_steps}
 use Rattle.std.proofs.Common.{[], ◌∙◌, sym, ap, subst, take}
 use Rattle.mg_trace.specs.Trace.{lines_from}
 use Rattle.mg_trace.specs.inner.Kept.{AreKnown}
@@ -14,3 +16,6 @@ loop-event-preserved c =
       known = subst (λ events. AreKnown c.push_next.new.roles.items events) (sym more) next.0;
       lines = next.1 ∙ ap (λ events. lines_from (telling_of c.args.answers) c.args.names.now [] events) (sym more);
     }
+
+pub returns : goal.returns
+returns c = grind (arith, common_steps)

@@ -1,3 +1,4 @@
+use Rattle.std.proofs.lemmas.Grind.{common_steps}
 use Rattle.std.proofs.Common.{refl, sym, arith}
 use Rattle.mg_words.proofs.CodeLemmas.{begun, begun_keeps, more_at, never_at, keeps_at, stuck_at, barred_at, end_at}
 use Rattle.mg_words.proofs.runs.judge_run.Goals as goal
@@ -35,3 +36,6 @@ pub returns : goal.returns
 returns c =
     end_at c.args.input c.args.words.now c.loop-word.asked _ c.loop-word.invariant.read c.loop-word.invariant.keeps
     (rw c.in_default.is at c.split_first.ensures.cases)
+
+pub slice_bounds-asked-count : goal.slice_bounds-asked-count
+slice_bounds-asked-count c = grind (arith, common_steps)

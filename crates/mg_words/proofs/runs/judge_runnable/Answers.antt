@@ -1,5 +1,6 @@
-use Rattle.std.proofs.Common.{sym}
-use Rattle.mg_words.specs.inner.Judging.{asked_of}
+use Rattle.std.proofs.Common.{sym, ap}
+use Rattle.mg_words.specs.declared.runs.Input.{Input}
+use Rattle.mg_words.specs.inner.Judging.{asked_of, made}
 use Rattle.mg_words.proofs.CodeLemmas.{lacks_first, wrong_file_at, runnable_at}
 use Rattle.mg_words.proofs.runs.judge_runnable.Goals as goal
 
@@ -13,7 +14,14 @@ returns-in-Some c =
     wrong_file_at c.args.input (asked_of c.args.asked) c.args.files.now c.in-Some.word.now (sym c.if-not-is_whole.ensures) c.requires.plain
     c.in-Some.ensures
 
-pub returns : goal.returns
-returns c =
-    runnable_at c.args.input (asked_of c.args.asked) c.args.files.now _ c.command.ensures (sym c.if-not-is_whole.ensures) c.requires.some
-    c.in_default.ensures
+pub returns-in-Sources : goal.returns-in-Sources
+returns-in-Sources c =
+    runnable_at c.args.input (asked_of c.args.asked) c.args.files.now _
+    (ap (λ (k : Input). made k (asked_of c.args.asked) c.args.files.now) (sym c.in-Sources.is)) (sym c.if-not-is_whole.ensures)
+    c.requires.some c.in_default.ensures
+
+pub returns-in-Classes : goal.returns-in-Classes
+returns-in-Classes c =
+    runnable_at c.args.input (asked_of c.args.asked) c.args.files.now _
+    (ap (λ (k : Input). made k (asked_of c.args.asked) c.args.files.now) (sym c.in-Classes.is)) (sym c.if-not-is_whole.ensures)
+    c.requires.some c.in_default.ensures

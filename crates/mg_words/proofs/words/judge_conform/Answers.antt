@@ -1,3 +1,5 @@
+use Rattle.std.proofs.Common.{arith}
+use Rattle.std.proofs.lemmas.Grind.{common_steps}
 use Rattle.std.proofs.Common.{refl}
 use Rattle.mg_words.proofs.WordsLemmas.{few_conform, few_protocol, wrong_protocol, wrong_calls, wrong_third, refuted}
 use Rattle.mg_words.proofs.words.judge_conform.Goals as goal
@@ -21,3 +23,6 @@ pub returns-in-Some-split_first-2 : goal.returns-in-Some-split_first-2
 returns-in-Some-split_first-2 c =
     wrong_third _ _ _ _ _ _ _ c.in-Some.ensures.cases.0 c.in-Some-split_first.ensures.cases.0 c.in-Some-split_first-2.ensures.cases.0
     (c.if-not-is_file.ensures.0 refl) (c.if-not-is_file_name.ensures.0 refl)
+
+pub returns-in-None-split_first-2 : goal.returns-in-None-split_first-2
+returns-in-None-split_first-2 c = grind (arith, common_steps)

@@ -1,3 +1,5 @@
+use Rattle.std.proofs.Common.{arith}
+use Rattle.std.proofs.lemmas.Grind.{common_steps}
 use Rattle.std.proofs.Common.{refl}
 use Rattle.mg_words.proofs.WordsLemmas.{refuted}
 use Rattle.mg_words.proofs.RefineLemmas.{few_refine, few_first, wrong_first, wrong_second, wrong_surplus}
@@ -22,3 +24,6 @@ pub returns-in-Some-split_first-2 : goal.returns-in-Some-split_first-2
 returns-in-Some-split_first-2 c =
     wrong_surplus _ _ _ _ _ _ _ c.in-Some.ensures.cases.0 c.in-Some-split_first.ensures.cases.0 c.in-Some-split_first-2.ensures.cases.0
     (c.if-not-is_file.ensures.0 refl) (c.if-not-is_file-2.ensures.0 refl)
+
+pub returns-in-None-split_first-2 : goal.returns-in-None-split_first-2
+returns-in-None-split_first-2 c = grind (arith, common_steps)

@@ -1,64 +1,50 @@
 //! The code of the last method of a core, over a pool of its own, and the constants of that pool.
 
 use crate::machine::instrs::tell_instrs;
-use cases::{Answer, fault_text};
+use cases::Answer;
 use cls_tree::Code;
-use gen_code::{GenFault, Pool, gen_method};
+use gen_code::{Pool, gen_method};
 use jv_core::Core;
-use mg_text::Memory;
 use std::alloc::Global;
 
-/// The code of the last method, or what is too large in it; and a line for each constant of the
+/// Tells the code of the last method, or what is too large in it; and a line for each constant of the
 /// pool.
-pub(crate) fn last_code(alloc: Global, core: &Core) -> Result<String, Memory> {
-    let mut answer = Answer::new(alloc);
-    tell_last(alloc, &mut answer, core)?;
-    Ok(answer.into_text())
-}
-
-fn tell_last(alloc: Global, answer: &mut Answer, core: &Core) -> Result<(), Memory> {
+pub(crate) fn tell_last(alloc: Global, answer: &mut Answer, core: &Core) {
     let mut pool = Pool::new(alloc);
-    tell_generated(alloc, answer, core, &mut pool)?;
-    tell_pool(answer, &pool)
+    tell_generated(alloc, answer, core, &mut pool);
+    tell_pool(answer, &pool);
 }
 
 // The code of the last method over a pool, or what is too large in it.
-fn tell_generated(
-    alloc: Global,
-    answer: &mut Answer,
-    core: &Core,
-    pool: &mut Pool,
-) -> Result<(), Memory> {
+fn tell_generated(alloc: Global, answer: &mut Answer, core: &Core, pool: &mut Pool) {
     let count = core.methods().len();
     if count == 0 {
-        return Err(Memory);
+        return answer.add("no method");
     }
     let Ok(last) = u32::try_from(count - 1) else {
-        return Err(Memory);
+        return answer.add("too many methods");
     };
     match gen_method(alloc, core, last, pool) {
         Ok(code) => tell_code(answer, &code),
-        Err(GenFault::Memory) => Err(Memory),
-        Err(fault) => answer.add(fault_text(alloc, &fault)?.as_str()),
+        Err(fault) => answer.fault(&fault),
     }
 }
 
 // The number of the name of a code, the most operands, and how many locals there are; and a line for
 // each instruction.
-fn tell_code(answer: &mut Answer, code: &Code) -> Result<(), Memory> {
-    answer.show(&code.name)?;
-    answer.add(" ")?;
-    answer.show(&code.max_stack)?;
-    answer.add(" ")?;
-    answer.show(&code.max_locals)?;
-    tell_instrs(answer, code.instrs.as_slice())
+fn tell_code(answer: &mut Answer, code: &Code) {
+    answer.show(&code.name);
+    answer.add(" ");
+    answer.show(&code.max_stack);
+    answer.add(" ");
+    answer.show(&code.max_locals);
+    tell_instrs(answer, code.instrs.as_slice());
 }
 
 // A line for each constant.
-fn tell_pool(answer: &mut Answer, pool: &Pool) -> Result<(), Memory> {
+fn tell_pool(answer: &mut Answer, pool: &Pool) {
     for entry in pool.entries() {
-        answer.line()?;
-        answer.tell(entry)?;
+        answer.line();
+        answer.tell(entry);
     }
-    Ok(())
 }

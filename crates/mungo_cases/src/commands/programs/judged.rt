@@ -1,27 +1,25 @@
 //! The type conditions of Java files, by the call that judges them all.
 
-use cases::{File, fault_text};
+use cases::{Answer, File};
 use jv_read::{JavaFault, read_java};
 use jv_tree::File as Tree;
-use jv_types::{TypeFault, judge};
-use mg_text::{List, Memory};
+use jv_types::judge;
+use mg_text::List;
 use std::alloc::Global;
 
-/// That the files are well typed, or the first fault of their types; the fault of a file that can't
-/// be read.
-pub(crate) fn told(alloc: Global, files: &[File<'_>]) -> Result<String, Memory> {
+/// Tells that the files are well typed, or the first fault of their types; the fault of a file that
+/// can't be read.
+pub(crate) fn tell(alloc: Global, answer: &mut Answer, files: &[File<'_>]) {
     match trees_of(alloc, files) {
-        Ok(trees) => answer_of(alloc, trees.as_slice()),
-        Err(JavaFault::Memory) => Err(Memory),
-        Err(fault) => fault_text(alloc, &fault),
+        Ok(trees) => tell_judged(alloc, answer, trees.as_slice()),
+        Err(fault) => answer.fault(&fault),
     }
 }
 
-fn answer_of(alloc: Global, trees: &[Tree]) -> Result<String, Memory> {
+fn tell_judged(alloc: Global, answer: &mut Answer, trees: &[Tree]) {
     match judge(alloc, trees, &[], &[]) {
-        Ok(()) => Ok(String::from_str(alloc, "fine")?),
-        Err(TypeFault::Memory) => Err(Memory),
-        Err(fault) => fault_text(alloc, &fault),
+        Ok(()) => answer.add("fine"),
+        Err(fault) => answer.fault(&fault),
     }
 }
 

@@ -1,9 +1,10 @@
 //! Keys of tables as text, and what tables have for some of them.
 
+use cases::Answer;
 use jv_core::Core;
 use mg_sets::StateSet;
 use mg_text::Memory;
-use std::alloc::{AllocError, Global};
+use std::alloc::Global;
 use use_flow::{Follows, TableKey, Tables};
 use use_infer::infer;
 
@@ -38,62 +39,62 @@ const KEYS: [TableKey; 7] = [
     },
 ];
 
-/// What the tables have for the keys before anything flows, and at the end.
-pub(crate) fn held(alloc: Global, core: &Core) -> Result<String, Memory> {
-    let mut text = String::from_str(alloc, "at first:")?;
-    put_first(&mut text, alloc, core)?;
-    text.push_str("\nat the end:")?;
-    put_last(&mut text, alloc, core)?;
-    Ok(text)
-}
-
-fn put_first(text: &mut String, alloc: Global, core: &Core) -> Result<(), Memory> {
+/// Tells what the tables have for the keys before anything flows, and at the end.
+pub(crate) fn tell_held(alloc: Global, answer: &mut Answer, core: &Core) -> Result<(), Memory> {
+    answer.add("at first:");
     let start = Tables::new(alloc, core)?;
-    put_held(text, &start)
-}
-
-fn put_last(text: &mut String, alloc: Global, core: &Core) -> Result<(), Memory> {
+    tell_sets(answer, &start);
+    answer.add("\nat the end:");
     let least = infer(alloc, core, &mut Follows::new())?;
-    put_held(text, &least)
-}
-
-// Appends a line for each key: the members of its set, or `none` where the tables lack it.
-fn put_held(text: &mut String, tables: &Tables) -> Result<(), Memory> {
-    for key in KEYS {
-        text.push('\n')?;
-        put_key(text, key)?;
-        match tables.find(key) {
-            Some(set) => put_set(text, set)?,
-            None => text.push_str(" none")?,
-        }
-    }
+    tell_sets(answer, &least);
     Ok(())
 }
 
-/// Appends a key: its kind, and its numbers.
-pub(crate) fn put_key(text: &mut String, key: TableKey) -> Result<(), AllocError> {
+// Tells a line for each key: the members of its set, or `none` where the tables lack it.
+fn tell_sets(answer: &mut Answer, tables: &Tables) {
+    for key in KEYS {
+        answer.add("\n");
+        tell_key(answer, key);
+        match tables.find(key) {
+            Some(set) => tell_set(answer, set),
+            None => answer.add(" none"),
+        }
+    }
+}
+
+/// Tells a key: its kind, and its numbers.
+pub(crate) fn tell_key(answer: &mut Answer, key: TableKey) {
     match key {
         TableKey::Field {
             class,
             state,
             field,
-        } => write!(text, "F {class} {state} {field}:"),
-        TableKey::Param { context, param } => write!(text, "P {context} {param}:"),
-        TableKey::Result { context } => write!(text, "R {context}:"),
-        TableKey::Enter { method, field } => write!(text, "E {method} {field}:"),
-        TableKey::Leave { method, field } => write!(text, "L {method} {field}:"),
+        } => tell_numbers(answer, "F", &[class, state, field]),
+        TableKey::Param { context, param } => tell_numbers(answer, "P", &[context, param]),
+        TableKey::Result { context } => tell_numbers(answer, "R", &[context]),
+        TableKey::Enter { method, field } => tell_numbers(answer, "E", &[method, field]),
+        TableKey::Leave { method, field } => tell_numbers(answer, "L", &[method, field]),
         TableKey::Loop {
             context,
             number,
             slot,
-        } => write!(text, "H {context} {number} {slot}:"),
+        } => tell_numbers(answer, "H", &[context, number, slot]),
     }
 }
 
-/// Appends the members of a set.
-pub(crate) fn put_set(text: &mut String, set: &StateSet) -> Result<(), AllocError> {
-    for member in set.iter() {
-        write!(text, " {member}")?;
+fn tell_numbers(answer: &mut Answer, kind: &str, numbers: &[u32]) {
+    answer.add(kind);
+    for number in numbers {
+        answer.add(" ");
+        answer.show(number);
     }
-    Ok(())
+    answer.add(":");
+}
+
+/// Tells the members of a set.
+pub(crate) fn tell_set(answer: &mut Answer, set: &StateSet) {
+    for member in set.iter() {
+        answer.add(" ");
+        answer.show(&member);
+    }
 }

@@ -2,58 +2,83 @@
 
 use crate::commands::programs::{codes, cores, flows, forms, judged, keys, used};
 use crate::sources::sources_of;
-use cases::{File, files_of};
+use cases::{Answer, File, files_of};
 use jv_core::Core;
 use mg_accepted::resolve_program;
-use mg_refusal::Stop;
+use mg_refusal::{Refusal, Stop};
 use mg_text::Memory;
 use mg_top::refused;
 use std::alloc::Global;
 
-/// The answer to the files of a case, by the file where the case stands: the line of what refuses
-/// them, or what is asked of their core.
-pub(crate) fn answer(alloc: Global, asked: &str, text: &str) -> Result<String, Memory> {
+/// Tells what is asked of the files of a case, by the file where the case stands: the line of what
+/// refuses them, or what is asked of their core.
+pub(crate) fn tell_program(
+    alloc: Global,
+    answer: &mut Answer,
+    asked: &str,
+    text: &str,
+) -> Result<(), Memory> {
     let files = files_of(alloc, text)?;
     let files = files.as_slice();
     if asked == "judged.txt" {
-        return judged::told(alloc, files);
+        judged::tell(alloc, answer, files);
+        return Ok(());
     }
     match core_of(alloc, files) {
-        Ok(core) => answer_of(alloc, asked, files, &core),
-        Err(Stop::Refused(refusal)) => {
-            let sources = sources_of(alloc, files)?;
-            let line = refused(alloc, sources.names.as_slice(), &refusal)?;
-            without_end(alloc, line.as_str())
-        }
+        Ok(core) => tell_core(alloc, answer, asked, files, &core),
+        Err(Stop::Refused(refusal)) => tell_refusal(alloc, answer, files, &refusal),
         Err(Stop::Memory) => Err(Memory),
     }
 }
 
-// What is asked of a core. Of programs that are only judged it is enough that they have one.
-fn answer_of(
+// Tells what is asked of a core. Of programs that are only judged it is enough that they have one.
+fn tell_core(
     alloc: Global,
+    answer: &mut Answer,
     asked: &str,
     files: &[File<'_>],
     core: &Core,
-) -> Result<String, Memory> {
+) -> Result<(), Memory> {
     match asked {
-        "forms.txt" => forms::last_body(alloc, core),
-        "cores.txt" => cores::shown(alloc, core),
-        "codes.txt" => codes::last_code(alloc, core),
-        "contexts.txt" => flows::all_contexts(alloc, core),
-        "flows.txt" => flows::shown(alloc, files, core),
-        "tables.txt" => keys::held(alloc, core),
-        "reads.txt" => flows::keys_read(alloc, files, core),
-        "follows.txt" => flows::counted(alloc, core),
-        _ if asked.starts_with("used_") => used::told(alloc, files, core),
-        _ => Ok(String::from_str(alloc, "fine")?),
+        "forms.txt" => forms::tell_last(alloc, answer, core),
+        "contexts.txt" => flows::tell_contexts(alloc, answer, core),
+        "flows.txt" => flows::tell_flows(alloc, answer, files, core),
+        "tables.txt" => keys::tell_held(alloc, answer, core),
+        "reads.txt" => flows::tell_reads(alloc, answer, files, core),
+        "follows.txt" => flows::tell_count(alloc, answer, core),
+        _ => {
+            tell_whole(alloc, answer, asked, files, core);
+            Ok(())
+        }
     }
 }
 
+// Tells what is asked of a whole core.
+fn tell_whole(alloc: Global, answer: &mut Answer, asked: &str, files: &[File<'_>], core: &Core) {
+    match asked {
+        "cores.txt" => cores::tell(answer, core),
+        "codes.txt" => codes::tell_last(alloc, answer, core),
+        _ if asked.starts_with("used_") => used::tell(alloc, answer, files, core),
+        _ => answer.add("fine"),
+    }
+}
+
+// Tells the line of what refuses files.
+fn tell_refusal(
+    alloc: Global,
+    answer: &mut Answer,
+    files: &[File<'_>],
+    refusal: &Refusal,
+) -> Result<(), Memory> {
+    let sources = sources_of(alloc, files)?;
+    let line = refused(alloc, sources.names.as_slice(), refusal)?;
+    answer.add(without_end(line.as_str()));
+    Ok(())
+}
+
 /// A text that ends with a line feed, without that.
-pub(crate) fn without_end(alloc: Global, text: &str) -> Result<String, Memory> {
-    let lines = text.strip_suffix('\n').unwrap_or("no line feed at the end");
-    Ok(String::from_str(alloc, lines)?)
+pub(crate) fn without_end(text: &str) -> &str {
+    text.strip_suffix('\n').unwrap_or("no line feed at the end")
 }
 
 // The core of the files whose names tell of which kind they are.

@@ -1,44 +1,42 @@
 //! The usages of a program: the report, or the first demand that fails.
 
 use crate::commands::programs::program::without_end;
-use cases::File;
+use cases::{Answer, File};
 use jv_core::Core;
-use mg_text::{Memory, Place};
+use mg_text::{Memory, Text};
 use std::alloc::Global;
 use use_check::{CheckFault, check, report};
 use use_flow::{Demand, Element, typestate_of};
 
-/// That a program is accepted, with its report, or the line of the demand that fails.
-pub(crate) fn told(alloc: Global, files: &[File<'_>], core: &Core) -> Result<String, Memory> {
+/// Tells that a program is accepted, with its report, or the line of the demand that fails.
+pub(crate) fn tell(alloc: Global, answer: &mut Answer, files: &[File<'_>], core: &Core) {
     match check(alloc, core) {
-        Ok(accepted) => {
-            let lines = report(alloc, core, &accepted)?;
-            accepted_with(alloc, lines.as_str())
-        }
-        Err(fault) => line(alloc, files, core, &fault),
+        Ok(accepted) => tell_report(answer, report(alloc, core, &accepted)),
+        Err(fault) => tell_fault(answer, files, core, &fault),
     }
 }
 
-fn accepted_with(alloc: Global, lines: &str) -> Result<String, Memory> {
-    let text = format!(in alloc; "accepted\n{lines}")?;
-    without_end(alloc, text.as_str())
+fn tell_report(answer: &mut Answer, report: Result<Text, Memory>) {
+    let Ok(report) = report else {
+        return answer.fail();
+    };
+    let lines = report.as_str();
+    answer.add("accepted");
+    if !lines.is_empty() {
+        answer.pair("\n", without_end(lines));
+    }
 }
 
-// A fault as a line: the place, the kind, the slot and the element.
-fn line(
-    alloc: Global,
-    files: &[File<'_>],
-    core: &Core,
-    fault: &CheckFault,
-) -> Result<String, Memory> {
+// Tells a fault as a line: the place, the kind, the slot and the element.
+fn tell_fault(answer: &mut Answer, files: &[File<'_>], core: &Core, fault: &CheckFault) {
     let Some((kind, demand)) = parts(fault) else {
-        return Err(Memory);
+        return answer.fail();
     };
-    let Place { file, line, column } = demand.place;
-    let file = name_of(files, file);
-    let slot = demand.slot.as_str();
-    let element = element_name(core, demand.class, demand.element);
-    Ok(format!(in alloc; "{file}:{line}:{column}: {kind} {slot} {element}")?)
+    answer.pair(name_of(files, demand.place.file), ":");
+    answer.place(demand.place);
+    answer.pair(": ", kind);
+    answer.pair(" ", demand.slot.as_str());
+    answer.pair(" ", element_name(core, demand.class, demand.element));
 }
 
 // The name of the file of this number.

@@ -36,10 +36,10 @@ fn text_of<R: Files + AllocGlobal>(
         add_file_here(&mut text, rt, name)?;
     }
     if !given.files.is_empty() {
-        text.line()?;
-        text.pair(">>> ", given.files)?;
+        text.line();
+        text.pair(">>> ", given.files);
     }
-    Ok(text.into_text())
+    Ok(text.into_text()?)
 }
 
 // Adds the file of this name that lies here.
@@ -51,9 +51,9 @@ fn add_file_here<R: Files + AllocGlobal>(
     let Ok(file) = fs::read_to_string(rt, name) else {
         return Err(Unanswered::Form);
     };
-    text.line()?;
-    text.pair(">>> ", name)?;
-    text.pair("\n", file.as_str())?;
+    text.line();
+    text.pair(">>> ", name);
+    text.pair("\n", file.as_str());
     Ok(())
 }
 

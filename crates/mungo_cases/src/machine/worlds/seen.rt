@@ -1,62 +1,74 @@
-//! What is seen of a role of a world.
+//! What is seen of the roles of a world.
 
-ghost use Rattle.std.specs.Prelude.{◌<◌, length};
+ghost use Rattle.std.specs.Prelude.{◌≡◌, ◌<◌, length};
 
 use cases::Answer;
 use mg_text::Memory;
-use std::alloc::{AllocError, Global};
+use std::alloc::Global;
 use vm_world::World;
 
-/// What is seen of a role: how many of its instructions were counted, how it stands, and its events,
-/// each in a line.
+/// What is seen of the roles of a world.
 #[derive(PartialEq, Eq, Drop)]
 pub struct Seen {
-    steps: u64,
-    stand: String,
-    count: u64,
+    /// A line for each role: how many of its instructions were counted, how it stands, and how many
+    /// events it has.
+    pub lines: String,
+    /// The events of each role, role by role, each in a line.
     events: String,
 }
 
-/// What is seen of the role of a number.
-pub fn seen_of(alloc: Global, world: &World, role: u32) -> Result<Seen, Memory>
-    requires { role < length world.now.world.roles }
+/// What is seen of the two roles C and S.
+pub fn seen_of(alloc: Global, world: &World) -> Result<Seen, Memory>
+    requires { length world.now.world.roles ≡ 2 }
 {
-    let mut seen = Seen {
-        steps: world.steps(role),
-        stand: stand_of(alloc, world, role)?,
-        count: 0,
-        events: String::new(alloc),
-    };
-    for event in world.events().as_slice() {
-        if event.role == role {
-            seen.count = seen.count.saturating_add(1);
-            writeln!(seen.events, "{:?}", event.event)?;
-        }
-    }
-    Ok(seen)
+    let mut lines = Answer::new(alloc);
+    let mut events = Answer::new(alloc);
+    see(&mut lines, &mut events, world, 0, "C");
+    see(&mut lines, &mut events, world, 1, "S");
+    Ok(Seen {
+        lines: lines.into_text()?,
+        events: events.into_text()?,
+    })
 }
 
-// How the role of a number ended, or for which role it waits.
-fn stand_of(alloc: Global, world: &World, role: u32) -> Result<String, AllocError>
+// Adds what is seen of the role of this number and name.
+fn see(lines: &mut Answer, events: &mut Answer, world: &World, role: u32, name: &str)
+    requires { role < length world.now.world.roles }
+{
+    lines.pair(name, ": ");
+    lines.show(&world.steps(role));
+    lines.add(" instructions, ");
+    add_stand(lines, world, role);
+    lines.add(", ");
+    lines.show(&add_events(events, world, role));
+    lines.add(" events\n");
+}
+
+// Adds how the role of a number ended, or for which role it waits.
+fn add_stand(lines: &mut Answer, world: &World, role: u32)
     requires { role < length world.now.world.roles }
 {
     if let Some(ending) = world.ending(role) {
-        return format!(in alloc; "{ending:?}");
+        return lines.tell(ending);
     }
     match world.waits(role) {
-        Some(peer) => format!(in alloc; "waits for the role {peer}"),
-        None => String::from_str(alloc, "goes on"),
+        Some(peer) => {
+            lines.add("waits for the role ");
+            lines.show(&peer);
+        }
+        None => lines.add("goes on"),
     }
 }
 
-impl Seen {
-    /// Adds a line that tells of the role of this name.
-    pub fn tell(&self, answer: &mut Answer, role: &str) -> Result<(), Memory> {
-        answer.pair(role, ": ")?;
-        answer.show(&self.steps)?;
-        answer.pair(" instructions, ", self.stand.as_str())?;
-        answer.add(", ")?;
-        answer.show(&self.count)?;
-        answer.add(" events\n")
+// Adds the events of a role, and answers how many there are.
+fn add_events(events: &mut Answer, world: &World, role: u32) -> u64 {
+    let mut count: u64 = 0;
+    for event in world.events().as_slice() {
+        if event.role == role {
+            count = count.saturating_add(1);
+            events.tell(&event.event);
+            events.add("\n");
+        }
     }
+    count
 }

@@ -15,25 +15,17 @@ use vm_model::Linked;
 use vm_step::has_main;
 use vm_world::{RoleMain, World};
 
-/// What is seen of both roles.
-#[derive(PartialEq, Eq, Drop)]
-struct BothSeen {
-    client: Seen,
-    server: Seen,
-}
-
-/// What the roles of a case come to in the plain order, and whether they do under each of its lists.
-pub fn told(alloc: Global, classes: &[Class], given: &Given<'_>) -> Result<String, Unanswered> {
+/// Tells what the roles of a case come to in the plain order, and whether they do under each of its
+/// lists.
+pub fn tell(
+    alloc: Global,
+    answer: &mut Answer,
+    classes: &[Class],
+    given: &Given<'_>,
+) -> Result<(), Unanswered> {
     let plain = played(alloc, classes, given, Turns::Plain)?;
-    let mut answer = Answer::new(alloc);
-    tell_both(&mut answer, &plain)?;
-    tell_lists(alloc, &mut answer, classes, given, &plain)?;
-    Ok(answer.into_text())
-}
-
-fn tell_both(answer: &mut Answer, seen: &BothSeen) -> Result<(), Memory> {
-    seen.client.tell(answer, "C")?;
-    seen.server.tell(answer, "S")
+    answer.add(plain.lines.as_str());
+    tell_lists(alloc, answer, classes, given, &plain)
 }
 
 // Tells how many lists come to what the plain order comes to, or the first that doesn't.
@@ -42,21 +34,21 @@ fn tell_lists(
     answer: &mut Answer,
     classes: &[Class],
     given: &Given<'_>,
-    plain: &BothSeen,
+    plain: &Seen,
 ) -> Result<(), Unanswered> {
     let (first, last) = given.seeds;
     let mut lists = 0u64;
     for seed in first..=last {
         if !comes_to(alloc, classes, given, seed, plain)? {
-            answer.add("the list of ")?;
-            answer.show(&seed)?;
-            answer.add(" comes to something else")?;
+            answer.add("the list of ");
+            answer.show(&seed);
+            answer.add(" comes to something else");
             return Ok(());
         }
         lists = lists.saturating_add(1);
     }
-    answer.show(&lists)?;
-    answer.add(" lists of turns come to the same")?;
+    answer.show(&lists);
+    answer.add(" lists of turns come to the same");
     Ok(())
 }
 
@@ -66,7 +58,7 @@ fn comes_to(
     classes: &[Class],
     given: &Given<'_>,
     seed: u64,
-    wanted: &BothSeen,
+    wanted: &Seen,
 ) -> Result<bool, Unanswered> {
     let seen = played(alloc, classes, given, Turns::drawn(seed))?;
     Ok(seen == *wanted)
@@ -78,27 +70,19 @@ fn played(
     classes: &[Class],
     given: &Given<'_>,
     turns: Turns,
-) -> Result<BothSeen, Unanswered> {
+) -> Result<Seen, Unanswered> {
     let mut world = begun(alloc, classes, given)?;
     play(alloc, &mut world, turns)
 }
 
-fn play(alloc: Global, world: &mut World, turns: Turns) -> Result<BothSeen, Unanswered>
+fn play(alloc: Global, world: &mut World, turns: Turns) -> Result<Seen, Unanswered>
     requires { length world.old.world.roles ≡ 2 }
 {
     if rests(alloc, world, turns)? {
-        Ok(both_seen(alloc, world)?)
+        Ok(seen_of(alloc, world)?)
     } else {
         Err(Unanswered::Restless)
     }
-}
-
-fn both_seen(alloc: Global, world: &World) -> Result<BothSeen, Memory>
-    requires { length world.now.world.roles ≡ 2 }
-{
-    let client = seen_of(alloc, world, 0)?;
-    let server = seen_of(alloc, world, 1)?;
-    Ok(BothSeen { client, server })
 }
 
 // The world before the first turn.

@@ -1,20 +1,15 @@
 //! The line of a fault.
 
-use cases::{Answer, fault_text};
+use cases::Answer;
 use jv_read::JavaFault;
-use mg_text::Memory;
-use std::alloc::Global;
 
-/// A fault as a line: its file and place, what it is, and what it names. Want of memory has none.
-pub(crate) fn line(alloc: Global, fault: &JavaFault) -> Result<String, Memory> {
-    let Some(file) = file_of(fault) else {
-        return Err(Memory);
-    };
-    let rest = fault_text(alloc, fault)?;
-    let mut answer = Answer::new(alloc);
-    answer.show(&file)?;
-    answer.pair(":", rest.as_str())?;
-    Ok(answer.into_text())
+/// Adds a fault as a line: its file and place, what it is, and what it names. Want of memory has none.
+pub(crate) fn add_line(answer: &mut Answer, fault: &JavaFault) {
+    if let Some(file) = file_of(fault) {
+        answer.show(&file);
+        answer.add(":");
+    }
+    answer.fault(fault);
 }
 
 // The number of the file where a fault stands.

@@ -2,28 +2,27 @@
 //! A token stands at the column of its number.
 
 use crate::reading::java::{faults, trees};
-use cases::plain;
+use cases::Answer;
 use jv_parse::parse_file;
 use jv_read::JavaFault;
 use jv_tree::{Sign, Token, TokenKind};
 use mg_text::{List, Memory, Place, Text};
 use std::alloc::Global;
 
-/// The tree of the file that words spell, or the fault.
-pub(crate) fn tree(alloc: Global, words: &[u8]) -> Result<String, Memory> {
+/// What is asked of the tree of the file that words spell, or the fault.
+pub(crate) fn tell(
+    alloc: Global,
+    answer: &mut Answer,
+    asked: &str,
+    words: &[u8],
+) -> Result<(), Memory> {
     let tokens = tokens_of(alloc, words)?;
     match parse_file(alloc, 0, tokens.as_slice()) {
-        Ok(file) => trees::shown(alloc, &file),
-        Err(fault) => faults::line(alloc, &JavaFault::from(fault)),
-    }
-}
-
-/// That words spell a file, or the fault.
-pub(crate) fn verdict(alloc: Global, words: &[u8]) -> Result<String, Memory> {
-    let tokens = tokens_of(alloc, words)?;
-    match parse_file(alloc, 0, tokens.as_slice()) {
-        Ok(_) => plain(alloc, "read"),
-        Err(fault) => faults::line(alloc, &JavaFault::from(fault)),
+        Ok(file) => trees::tell(alloc, answer, asked, &file),
+        Err(fault) => {
+            faults::add_line(answer, &JavaFault::from(fault));
+            Ok(())
+        }
     }
 }
 

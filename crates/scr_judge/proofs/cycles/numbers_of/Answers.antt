@@ -1,3 +1,5 @@
+use Rattle.std.proofs.Common.{arith}
+use Rattle.scr_judge.proofs.Edges.{number_steps}
 use Rattle.std.proofs.Common.{◌≡◌, [], None, get_or, sym, ap, ◌∙◌}
 use Rattle.std.specs.Borrow.{Bor}
 use Rattle.std.specs.Option.{option_map}
@@ -25,3 +27,6 @@ loop-name-preserved c =
           (ap (option_map (λ n. n.0)) (sym w.in-None.is) ∙ c.find.ensures) (ap (λ v. v.items) w.numbers-is ∙
           sym (append-nil c.loop-name.numbers.items))
     ]
+
+pub returns : goal.returns
+returns c = grind (arith, number_steps)

@@ -1,3 +1,4 @@
+use Rattle.std.proofs.lemmas.Grind.{common_steps}
 use Rattle.std.proofs.Common.{◌≡◌, ℕ, ◌++◌, ◌∷◌, [], ◌-◌, List, length, get_or, take, vec_len, refl, sym, ap, subst, ◌∙◌, arith, true≢false}
 use Rattle.std.proofs.lemmas.List.{length-map}
 use Rattle.mg_text.specs.declared.memory.Memory.{Memory}
@@ -58,3 +59,6 @@ returns c =
           (subst (Walked (graph_of c.args.targets.now) c.args.from c.args.to c.nodes.seen.items) empty c.nodes.invariant) c.if-from-to.false
           r),
     )
+
+pub nodes-smaller : goal.nodes-smaller
+nodes-smaller c = grind (arith, common_steps)

@@ -1,4 +1,5 @@
 use Rattle.std.proofs.Common.{◌≡◌, ◌++◌, ◌∷◌, [], map, sym, ◌∙◌, arith}
+use Rattle.std.proofs.lemmas.Grind.{common_steps}
 use Rattle.std.proofs.lemmas.Result.{err_from_is_err_and}
 use Rattle.std.proofs.lemmas.List.{map_push}
 use Rattle.scr_tree.specs.Tok.{toks}
@@ -6,7 +7,7 @@ use Rattle.scr_tree.specs.declared.token.Mark.TheVariants as marks
 use Rattle.mg_read.specs.Reader.{all_of}
 use Rattle.mg_read.proofs.Loop.{Left-init, Left-more, Left-done, with_front}
 use Rattle.mg_read.proofs.Turns.{Left-front}
-use Rattle.scr_parse.specs.inner.Reading.{is_at, not_closed, nested_at, other_with}
+use Rattle.scr_parse.specs.inner.Reading.{is_at, not_closed, nested_at, block_with, other_with, choice_with, rec_with}
 use Rattle.scr_parse.proofs.Steps.{length_toks, not_closed_goes, not_closed_stops}
 use Rattle.scr_parse.proofs.Turns.{Left-refused}
 use Rattle.scr_parse.proofs.nest.+nest.Goals as goal
@@ -97,3 +98,15 @@ more_branches_of-returns g t c =
     Left-done (is_at marks.Or) f (map (λ b. map g.N.Nest.tree_of b.items) c.others.branches.items) (toks c.others.rest.now)
     (with_front (map (λ b. map g.N.Nest.tree_of b.items) c.args.branches.items) (all_of (is_at marks.Or) f (toks c.args.tokens.now)))
     stops c.others.invariant
+
+pub block_of-returns : goal.block_of-returns
+unfolding block_with
+block_of-returns g t c = grind (arith, common_steps)
+
+pub choice_of-returns : goal.choice_of-returns
+unfolding choice_with
+choice_of-returns g t c = grind (arith, common_steps)
+
+pub rec_of-returns : goal.rec_of-returns
+unfolding rec_with
+rec_of-returns g t c = grind (arith, common_steps)

@@ -1,3 +1,4 @@
+use Rattle.std.proofs.lemmas.Grind.{common_steps}
 use Rattle.std.proofs.Common.{◌∙◌, ◌-◌, arith, rules}
 use Rattle.std.specs.HashMap.{get_by_text}
 use Rattle.std.specs.String.{string_bytes}
@@ -14,3 +15,6 @@ loop-i-preserved c = record {
       inserted c.index-others-i.result.name (string_bytes c.in_ok-name.name) q c.loop-i.number (get_by_text c.loop-i.numbers)
       (search rules));
 }
+
+pub loop-i-init : goal.loop-i-init
+loop-i-init c = grind (arith, common_steps)

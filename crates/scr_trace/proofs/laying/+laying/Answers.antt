@@ -1,3 +1,5 @@
+use Rattle.scr_trace.proofs.Steps.{all_steps}
+use Rattle.scr_trace.proofs.Steps.{in_steps}
 use Rattle.std.proofs.Common.{OnOk, ◌≡◌, ◌∙◌, ap, subst, arith, drop, ℕ, ◌∷◌}
 use Rattle.scr_tree.specs.View.{statements}
 use Rattle.scr_trace.specs.inner.Laying.{Gathered, lay_in}
@@ -76,3 +78,15 @@ lay_branch-returns-in_default-statement t c =
     branch_other c.args.me.now (number_by c.args.names.now) (known_of c.args.around.now) (work_of c.args.out.now) c.args.branch.now
     c.in-Some.rest.now c.in-Some.statement.now c.args.at_self (gathered c.args.out.now c.args.arrows.now) c.in-Some.ensures.cases.0
     c.in_default-statement.not-Message
+
+pub lay_all-loop-i-init : goal.lay_all-loop-i-init
+lay_all-loop-i-init t c = grind (arith, all_steps)
+
+pub lay_branch-returns-in_default : goal.lay_branch-returns-in_default
+lay_branch-returns-in_default t c = grind (arith, common_steps)
+
+pub lay_branches-loop-i-init : goal.lay_branches-loop-i-init
+lay_branches-loop-i-init t c = grind (arith, in_steps)
+
+pub lay_branches-loop-i-preserved : goal.lay_branches-loop-i-preserved
+lay_branches-loop-i-preserved t c = grind (arith, in_steps)

@@ -1,4 +1,5 @@
-use Rattle.std.proofs.Common.{◌++◌, map}
+use Rattle.std.proofs.Common.{arith, ◌++◌, map}
+use Rattle.stm_api.proofs.Made.{enum_steps}
 use Rattle.stm_api.specs.Api.{enum_files}
 use Rattle.stm_api.specs.View.{written_of}
 use Rattle.stm_api.specs.inner.View.{doing_of}
@@ -13,3 +14,9 @@ loop-doing-preserved c =
     c.args.me.now (map doing_of c.args.doings.now))
     c.loop-doing-test.true c.doing-item.is c.in-Asks.is c.as_slice.ensures.items c.in_ok-file.ensures c.in_ok-push.ensures.ok
     c.loop-doing.invariant
+
+pub loop-doing-preserved-in_default : goal.loop-doing-preserved-in_default
+loop-doing-preserved-in_default c = grind (arith, enum_steps)
+
+pub returns : goal.returns
+returns c = grind (arith, enum_steps)

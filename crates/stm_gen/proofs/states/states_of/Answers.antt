@@ -4,7 +4,7 @@ use Rattle.scr_trace.specs.inner.View.{cell_of, edges_of, graph_of_work, work_of
 use Rattle.ts_tree.specs.declared.parts.State.{State}
 use Rattle.ts_tree.specs.View.{state_of as kept_state}
 use Rattle.stm_gen.specs.inner.States.{states_from}
-use Rattle.stm_gen.proofs.Making.{one_more}
+use Rattle.stm_gen.proofs.Making.{one_more, state_steps}
 use Rattle.stm_gen.proofs.states.states_of.Goals as goal
 
 pub loop-number-preserved : goal.loop-number-preserved
@@ -18,3 +18,6 @@ loop-number-preserved c =
     (cell_of c.in-Some.exits.now) c.loop-number.states.items c.in_ok-state.state
     (states_from (tree_of c.args.local.now).me 0 (graph_of_work (work_of c.args.laid.now)).states) within c.in-Some.ensures
     c.in_ok-state.ensures c.loop-number.invariant
+
+pub returns-clause-made : goal.returns-clause-made
+returns-clause-made c = grind (arith, state_steps)

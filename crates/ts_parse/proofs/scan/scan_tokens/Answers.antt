@@ -1,3 +1,4 @@
+use Rattle.std.proofs.lemmas.Grind.{common_steps}
 use Rattle.std.proofs.Common.{◌<◌, ◌≡◌, length, arith, false-eqb, sym}
 use Rattle.std.proofs.lemmas.Bool.{eqb-true}
 use Rattle.mg_read.proofs.Fronts.{told_front, told_none, front_within, front_long, front_shorter, front_readable}
@@ -36,3 +37,6 @@ pub returns-in-Some-ill_formed : goal.returns-in-Some-ill_formed
 returns-in-Some-ill_formed c =
     let empty : length c.pieces.rest.now ≡ 0 = eqb-true _ 0 (sym c.pieces-test.ensures) in
     SoFar-ill _ _ _ _ _ _ _ _ _ _ c.in-Some-ill_formed.ensures empty c.pieces.invariant.so_far
+
+pub returns-in-None : goal.returns-in-None
+returns-in-None c = grind (arith, common_steps)

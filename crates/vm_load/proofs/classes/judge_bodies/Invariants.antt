@@ -17,6 +17,6 @@ invariant-loop-member l = record {
       ≡ flat_map (λ m. method_of_member (outlines_of l.outlines) l.pool (member_of m)) l.members;
   wrong : lower (best_flaw l.best)
       (least (flat_map (λ m. method_flaws (outlines_of l.outlines) l.pool (member_of m)) (drop l.member-index l.members)))
-      ≡ lower (best_flaw l.fn.first) (least (flat_map (λ m. method_flaws (outlines_of l.outlines) l.pool (member_of m)) l.members));
+      ≡ lower (best_flaw l.fn.best) (least (flat_map (λ m. method_flaws (outlines_of l.outlines) l.pool (member_of m)) l.members));
   known : AreRight (outlines_of l.outlines) l.pool (get use_eq l.known);
 }

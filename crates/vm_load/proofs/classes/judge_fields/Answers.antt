@@ -14,7 +14,7 @@ loop-field-preserved c =
     let within : c.loop-field.field-index < length c.args.fields.now = search rules in
     some_next c.args.fields.now c.loop-field.field-index _ within (λ d. field_flaw (outlines_of c.args.outlines.now) (declared_of d)) _ _ _
     c.loop-field.invariant
-    (c.in_ok-best.ensures _ c.judge_field-judged.ensures)
+    (c.in_ok-note_told.ensures _ c.judge_field.ensures)
 
 pub returns : goal.returns
 returns c =
@@ -24,5 +24,5 @@ returns c =
     (least (some_in (map (λ d. field_flaw (outlines_of c.args.outlines.now) (declared_of d)) l))))
     (sym (drop_whole c.args.fields.now c.loop-field.field-index past))
     ∙ c.loop-field.invariant
-    ∙ ap (λ l. lower (best_flaw c.args.first) (least (some_in l)))
+    ∙ ap (λ l. lower (best_flaw c.args.best.now) (least (some_in l)))
     (sym (map-map (field_flaw (outlines_of c.args.outlines.now)) declared_of c.args.fields.now))

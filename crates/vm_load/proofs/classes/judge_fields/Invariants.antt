@@ -9,4 +9,4 @@ abbrev pub invariant-loop-field : goal.invariant-loop-field
 invariant-loop-field l =
     lower (best_flaw l.best) (least
     (some_in (map (λ d. field_flaw (outlines_of l.outlines) (declared_of d)) (drop l.field-index l.fields))))
-    ≡ lower (best_flaw l.fn.first) (least (some_in (map (λ d. field_flaw (outlines_of l.outlines) (declared_of d)) l.fields)))
+    ≡ lower (best_flaw l.fn.best) (least (some_in (map (λ d. field_flaw (outlines_of l.outlines) (declared_of d)) l.fields)))

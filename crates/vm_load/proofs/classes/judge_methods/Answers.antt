@@ -14,7 +14,7 @@ loop-method-preserved c =
     let within : c.loop-method.method-index < length c.args.methods.now = search rules in
     some_next c.args.methods.now c.loop-method.method-index _ within (λ d. method_flaw (outlines_of c.args.outlines.now) (declared_of d)) _
     _ _ c.loop-method.invariant
-    (c.in_ok-best.ensures _ c.judge_method-judged.ensures)
+    (c.in_ok-note_told.ensures _ c.judge_method.ensures)
 
 pub returns : goal.returns
 returns c =
@@ -24,5 +24,5 @@ returns c =
     (least (some_in (map (λ d. method_flaw (outlines_of c.args.outlines.now) (declared_of d)) l))))
     (sym (drop_whole c.args.methods.now c.loop-method.method-index past))
     ∙ c.loop-method.invariant
-    ∙ ap (λ l. lower (best_flaw c.args.first) (least (some_in l)))
+    ∙ ap (λ l. lower (best_flaw c.args.best.now) (least (some_in l)))
     (sym (map-map (method_flaw (outlines_of c.args.outlines.now)) declared_of c.args.methods.now))

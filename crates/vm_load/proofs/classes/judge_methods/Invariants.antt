@@ -9,4 +9,4 @@ abbrev pub invariant-loop-method : goal.invariant-loop-method
 invariant-loop-method l =
     lower (best_flaw l.best) (least
     (some_in (map (λ d. method_flaw (outlines_of l.outlines) (declared_of d)) (drop l.method-index l.methods))))
-    ≡ lower (best_flaw l.fn.first) (least (some_in (map (λ d. method_flaw (outlines_of l.outlines) (declared_of d)) l.methods)))
+    ≡ lower (best_flaw l.fn.best) (least (some_in (map (λ d. method_flaw (outlines_of l.outlines) (declared_of d)) l.methods)))

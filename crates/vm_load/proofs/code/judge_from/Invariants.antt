@@ -16,7 +16,7 @@ invariant-loop-instr l = record {
       ≡ right_in (judged_from (outlines_of l.outlines) l.pool l.starts 0 (instrs_of l.instrs));
   wrong : lower (best_flaw l.best)
       (least (wrong_in (judged_from (outlines_of l.outlines) l.pool l.starts l.place (instrs_of (drop l.instr-index l.instrs)))))
-      ≡ lower (best_flaw l.fn.first) (least (wrong_in (judged_from (outlines_of l.outlines) l.pool l.starts 0 (instrs_of l.instrs))));
+      ≡ lower (best_flaw l.fn.best) (least (wrong_in (judged_from (outlines_of l.outlines) l.pool l.starts 0 (instrs_of l.instrs))));
   bound : l.place < 2 ^ 42;
   known : AreRight (outlines_of l.outlines) l.pool (get use_eq l.known);
 }

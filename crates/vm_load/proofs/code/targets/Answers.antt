@@ -1,4 +1,5 @@
-use Rattle.std.proofs.Common.{rules, ◌<◌, ◌+ℤ◌, pos, length, get_or, ap, ◌∙◌}
+use Rattle.std.proofs.Common.{arith, rules, ◌<◌, ◌+ℤ◌, pos, length, get_or, ap, ◌∙◌}
+use Rattle.std.proofs.lemmas.Grind.{common_steps}
 use Rattle.std.proofs.lemmas.Int.{to_z-of_z}
 use mir.Syntax.{w32}
 use mir.Val.{SFits}
@@ -14,3 +15,6 @@ loop-offset-preserved c =
     c.loop-offset.invariant
     c.in_ok-push.ensures.ok
     (c.in_ok-one.ensures ∙ ap (λ z. started c.args.starts.now (pos c.args.place +ℤ z)) (to_z-of_z w32 _ f))
+
+pub returns : goal.returns
+returns c = grind (arith, common_steps)

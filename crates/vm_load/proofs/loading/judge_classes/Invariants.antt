@@ -7,10 +7,10 @@ use Rattle.vm_load.specs.Faults.{best_flaw}
 use Rattle.vm_load.specs.Outlines.{outlines_of}
 use Rattle.vm_load.proofs.loading.judge_classes.Given as goal
 
-abbrev pub invariant-loop-class : goal.invariant-loop-class
-invariant-loop-class l = record {
-  right : map model.class_of l.linked.items ≡ map (λ c. linked_class (outlines_of l.outlines) (class_of c)) (take l.class-index l.classes);
+abbrev pub invariant-loop-number : goal.invariant-loop-number
+invariant-loop-number l = record {
+  right : map model.class_of l.linked.items ≡ map (λ c. linked_class (outlines_of l.outlines) (class_of c)) (take l.number l.classes);
   wrong : lower (best_flaw l.best)
-      (least (flat_map (λ c. class_flaws (outlines_of l.outlines) (class_of c)) (drop l.class-index l.classes)))
+      (least (flat_map (λ c. class_flaws (outlines_of l.outlines) (class_of c)) (drop l.number l.classes)))
       ≡ least (flat_map (λ c. class_flaws (outlines_of l.outlines) (class_of c)) l.classes);
 }

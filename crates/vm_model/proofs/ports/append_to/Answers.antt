@@ -1,4 +1,5 @@
-use Rattle.std.proofs.Common.{rules, ◌++◌, ◌∷◌, []}
+use Rattle.std.proofs.Common.{arith, rules, ◌++◌, ◌∷◌, []}
+use Rattle.std.proofs.lemmas.Grind.{common_steps}
 use Rattle.vm_model.proofs.Queues.{changed_by, same_by}
 use Rattle.vm_model.proofs.ports.append_to.Goals as goal
 
@@ -12,3 +13,6 @@ returns-in-Ok-clause-ok c =
     changed_by (λ queue. queue.items) c.args.queues.now.items c.args.to c.index_mut-queue.result.now (λ l. l ++ c.args.message ∷ [])
     c.push_back.new.self
     (search rules) c.index_mut-queue.ensures.value c.in-Ok.ensures.items
+
+pub returns-clause-ok : goal.returns-clause-ok
+returns-clause-ok c = grind (arith, common_steps)

@@ -1,4 +1,5 @@
-use Rattle.std.proofs.Common.{rules, ◌∙◌, ◌<◌, ◌≤◌, ap, sym, drop, slice_get, length}
+use Rattle.std.proofs.Common.{arith, rules, ◌∙◌, ◌<◌, ◌≤◌, ap, sym, drop, slice_get, length}
+use Rattle.std.proofs.lemmas.Grind.{common_steps}
 use Rattle.vm_model.proofs.Queues.{changed_by, list_by, list_past, first_given}
 use Rattle.vm_model.proofs.ports.take_first.Goals as goal
 
@@ -19,3 +20,6 @@ pub returns-else-to-len-clause-first : goal.returns-else-to-len-clause-first
 returns-else-to-len-clause-first c =
     let past : length c.args.queues.now.items ≤ c.args.to = search rules in
     sym (ap (λ l. slice_get l 0) (list_past (λ queue. queue.items) c.args.queues.now.items c.args.to past))
+
+pub returns-else-to-len-clause-list : goal.returns-else-to-len-clause-list
+returns-else-to-len-clause-list c = grind (arith, common_steps)

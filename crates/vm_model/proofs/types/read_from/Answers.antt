@@ -1,4 +1,5 @@
-use Rattle.std.proofs.Common.{rules, ◌+◌, ◌<◌, [], ap, sym, ◌∙◌, get_or, length}
+use Rattle.std.proofs.Common.{arith, rules, ◌+◌, ◌<◌, [], ap, sym, ◌∙◌, get_or, length}
+use Rattle.std.proofs.lemmas.Grind.{common_steps}
 use Rattle.vm_model.specs.Descriptors.{reading_of, after_of, types_view}
 use Rattle.vm_model.proofs.Descriptors.{read_on, wrong_byte}
 use Rattle.vm_model.proofs.types.read_from.Goals as goal
@@ -24,3 +25,9 @@ loop-at-preserved c =
           ∙ ap (λ ps. reading_of c.args.descriptor.now (c.loop-at.at + 1) ps c.in-Some.next.stage) (sym c.in_ok-add.ensures)),
       c.in-Some.ensures.next _,
     )
+
+pub returns : goal.returns
+returns c = grind (arith, common_steps)
+
+pub returns-in-Whole : goal.returns-in-Whole
+returns-in-Whole c = grind (arith, common_steps)

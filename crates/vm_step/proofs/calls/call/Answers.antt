@@ -1,3 +1,4 @@
+use Rattle.std.proofs.lemmas.Grind.{common_steps}
 use Rattle.std.proofs.Common.{◌≡◌, ◌∙◌, length, ap, sym, refl, arith}
 use Rattle.std.proofs.lemmas.List.{length-map}
 use Rattle.vm_model.specs.Program.{method_at}
@@ -49,3 +50,9 @@ call_tested-requires-clause-locals c =
     ap length (sym c.in_ok-takes.ensures) ∙ length-map c.in_ok-takes.takes.items want_of ∙ sym
     (c.len.ensures ∙ c.in_ok-takes.takes.ok.0) in
     omega (arith, right.0, count)
+
+pub call_tested-requires-clause-receiver : goal.call_tested-requires-clause-receiver
+call_tested-requires-clause-receiver c = grind (arith, common_steps)
+
+pub call_tested-requires-clause-within : goal.call_tested-requires-clause-within
+call_tested-requires-clause-within c = grind (arith, common_steps)

@@ -1,3 +1,4 @@
+use Rattle.std.proofs.lemmas.Grind.{common_steps}
 use Rattle.std.proofs.Common.{◌≡◌, ◌∙◌, ◌||◌, ◌≤◌, ℕ, length, ap, sym, arith}
 use Rattle.std.proofs.lemmas.List.{length-map}
 use Rattle.vm_model.specs.Tests as model
@@ -28,3 +29,6 @@ returns c =
     (c.noted-read.ensures.member ∙ ap model.is_member c.misfit_read.ensures)
     ∙ ap (λ (k : ℕ). model.is_member (model.misfit_read reads m.frame.locals) || model.some_of model.is_member
     (model.misfits p m.heap takes (model.on_top k m.frame.operands))) (sym count))
+
+pub returns-then-depth-takes : goal.returns-then-depth-takes
+returns-then-depth-takes c = grind (arith, common_steps)

@@ -1,4 +1,5 @@
-use Rattle.std.proofs.Common.{◌+◌, ◌++◌, ◌∷◌, [], ◌∙◌}
+use Rattle.std.proofs.Common.{arith, ◌+◌, ◌++◌, ◌∷◌, [], ◌∙◌}
+use Rattle.std.proofs.lemmas.Grind.{common_steps}
 use Rattle.vm_model.specs.Machine.{Machine}
 use Rattle.vm_model.specs.Step.{at_place}
 use Rattle.vm_frames.specs.Seen.{value_in}
@@ -15,3 +16,6 @@ returns c =
     (c.push.ensures.machine
     ∙ (λ i. at_place (c.put.ensures.machine i) (c.place-place.ensures i + 1)
     ((c.put.ensures.machine i).frame.operands ++ value_in (c.put.ensures.texts i) c.operand-under.result ∷ [])))
+
+pub push-requires-clause-room : goal.push-requires-clause-room
+push-requires-clause-room c = grind (arith, common_steps)

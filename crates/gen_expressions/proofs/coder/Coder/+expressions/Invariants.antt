@@ -34,29 +34,14 @@ decreases-jump_both l = 10 * max (size-CoreExpr l.left.now) (size-CoreExpr l.rig
 abbrev pub decreases-jump_past : goal.decreases-jump_past
 decreases-jump_past l = 10 * max (size-CoreExpr l.left.now) (size-CoreExpr l.right.now) + 4
 
-abbrev pub decreases-jump_binary : goal.decreases-jump_binary
-decreases-jump_binary l = 10 * max (size-CoreExpr l.left.now) (size-CoreExpr l.right.now) + 5
-
-abbrev pub decreases-truth_of_binary : goal.decreases-truth_of_binary
-decreases-truth_of_binary l = 10 * max (size-CoreExpr l.left.now) (size-CoreExpr l.right.now) + 6
+abbrev pub decreases-jump_test : goal.decreases-jump_test
+decreases-jump_test l = 10 * max (size-CoreExpr l.left.now) (size-CoreExpr l.right.now) + 5
 
 abbrev pub decreases-operation : goal.decreases-operation
 decreases-operation l = 10 * max (size-CoreExpr l.left.now) (size-CoreExpr l.right.now) + 4
 
 abbrev pub decreases-sum : goal.decreases-sum
 decreases-sum l = 10 * max (size-CoreExpr l.left.now) (size-CoreExpr l.right.now) + 5
-
-abbrev pub decreases-value_of_binary : goal.decreases-value_of_binary
-decreases-value_of_binary l = 10 * max (size-CoreExpr l.left.now) (size-CoreExpr l.right.now) + 7
-
-abbrev pub decreases-jump_operator : goal.decreases-jump_operator
-decreases-jump_operator l = 10 * max (size-CoreExpr l.left.now) (size-CoreExpr l.right.now) + 8
-
-abbrev pub decreases-truth_of_not : goal.decreases-truth_of_not
-decreases-truth_of_not l = 10 * goal.size-truth_of_not l + 3
-
-abbrev pub decreases-value_then : goal.decreases-value_then
-decreases-value_then l = 10 * goal.size-value_then l + 1
 
 abbrev pub decreases-call_text : goal.decreases-call_text
 decreases-call_text l = 10 * max (size-CoreExpr l.left.now) (size-CoreExpr l.right.now) + 4
@@ -67,8 +52,8 @@ decreases-arguments l = 10 * goal.size-arguments l + 1
 abbrev pub decreases-call : goal.decreases-call
 decreases-call l = 10 * goal.size-call l + 2
 
-abbrev pub decreases-call_on : goal.decreases-call_on
-decreases-call_on l = 10 * goal.size-call_on l + 2
+abbrev pub decreases-truth_of_test : goal.decreases-truth_of_test
+decreases-truth_of_test l = 10 * max (size-CoreExpr l.left.now) (size-CoreExpr l.right.now) + 6
 
-abbrev pub decreases-call_own : goal.decreases-call_own
-decreases-call_own l = 10 * goal.size-call_own l + 2
+abbrev pub decreases-truth_of_not : goal.decreases-truth_of_not
+decreases-truth_of_not l = 10 * goal.size-truth_of_not l + 3

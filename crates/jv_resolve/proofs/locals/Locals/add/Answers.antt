@@ -1,4 +1,5 @@
-use Rattle.std.proofs.Common.{◌≡◌, ◌++◌, ◌∷◌, [], string_bytes, Some, None, sym, ap, subst, ◌∙◌, refl}
+use Rattle.std.proofs.Common.{arith, ◌≡◌, ◌++◌, ◌∷◌, [], string_bytes, Some, None, sym, ap, subst, ◌∙◌, refl}
+use Rattle.std.proofs.lemmas.Grind.{common_steps}
 use Rattle.std.specs.HashMap.{get_by_text, UpdatesBy}
 use Rattle.std.specs.Str.{bytes_eq}
 use Rattle.std.specs.String.{string_eq}
@@ -22,3 +23,6 @@ invariant_of-self-2 c =
     subst (AreLookedUp (get_by_text c.insert.new.self)) (sym pushed)
     (looked_up_more (row_seen c.self.inside.stack.items) (known c.args.name.now c.args.local) (get_by_text c.self.inside.by_name)
     (get_by_text c.insert.new.self) c.args.local refl c.self.invariant new u)
+
+pub returns : goal.returns
+returns c = grind (arith, common_steps)

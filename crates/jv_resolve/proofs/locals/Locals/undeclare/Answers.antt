@@ -1,4 +1,5 @@
-use Rattle.std.proofs.Common.{◌≡◌, ◌∷◌, None, ap, subst, ◌∙◌}
+use Rattle.std.proofs.Common.{arith, ◌≡◌, ◌∷◌, None, ap, subst, ◌∙◌}
+use Rattle.std.proofs.lemmas.Grind.{common_steps}
 use Rattle.std.specs.HashMap.{get_by_text}
 use Rattle.jv_resolve.specs.inner.Row.{local_seen, row_seen, AreLookedUp}
 use Rattle.jv_resolve.proofs.RowSteps.{row_push, looked_up_less, changed_at}
@@ -12,3 +13,6 @@ invariant_of-self c =
     looked_up_less (row_seen c.pop.new.self.items) (local_seen c.in-Some.last) (get_by_text c.self.inside.by_name)
     (get_by_text c.remove.new.self)
     (subst (AreLookedUp (get_by_text c.self.inside.by_name)) whole c.self.invariant) u
+
+pub returns-in-Some : goal.returns-in-Some
+returns-in-Some c = grind (arith, common_steps)

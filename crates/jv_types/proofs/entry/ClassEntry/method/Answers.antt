@@ -1,4 +1,5 @@
-use Rattle.std.proofs.Common.{refl, sym, ap, ◌∙◌, position}
+use Rattle.jv_types.proofs.Finding.{found}
+use Rattle.std.proofs.Common.{refl, sym, ap, ◌∙◌, position, arith}
 use Rattle.std.specs.Str.{bytes_eq}
 use Rattle.jv_tree.specs.View.{method_of}
 use Rattle.jv_types.proofs.Finding.{found_at, found_none}

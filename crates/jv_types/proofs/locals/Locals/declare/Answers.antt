@@ -1,4 +1,5 @@
-use Rattle.std.proofs.Common.{◌≡◌, ◌++◌, ◌∷◌, [], string_bytes, Some, None, sym, ap, subst, ◌∙◌, refl}
+use Rattle.std.proofs.Common.{◌≡◌, ◌++◌, ◌∷◌, [], string_bytes, Some, None, sym, ap, subst, ◌∙◌, refl, arith}
+use Rattle.std.proofs.lemmas.Grind.{common_steps}
 use Rattle.std.specs.HashMap.{get_by_text, UpdatesBy}
 use Rattle.std.specs.Str.{bytes_eq}
 use Rattle.std.specs.String.{string_eq}
@@ -23,3 +24,6 @@ invariant_of-self-2 c =
     subst (AreLookedUp (get_by_text c.insert.new.self)) (sym pushed)
     (looked_up_more (locals_seen c.self.inside.stack.items) (declared c.args.name.now (type_seen c.args.ty))
     (get_by_text c.self.inside.types) (get_by_text c.insert.new.self) c.args.ty refl c.self.invariant new u)
+
+pub returns : goal.returns
+returns c = grind (arith, common_steps)

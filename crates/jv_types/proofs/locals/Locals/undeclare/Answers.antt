@@ -1,4 +1,5 @@
-use Rattle.std.proofs.Common.{◌≡◌, ◌∷◌, None, ap, subst, ◌∙◌}
+use Rattle.std.proofs.Common.{◌≡◌, ◌∷◌, None, ap, subst, ◌∙◌, arith}
+use Rattle.std.proofs.lemmas.Grind.{common_steps}
 use Rattle.std.specs.HashMap.{get_by_text}
 use Rattle.jv_types.specs.inner.Locals.{declared_seen, locals_seen, AreLookedUp}
 use Rattle.jv_types.proofs.LocalSteps.{seen_push, looked_up_less, changed_at}
@@ -12,3 +13,6 @@ invariant_of-self c =
     looked_up_less (locals_seen c.pop.new.self.items) (declared_seen c.in-Some.last) (get_by_text c.self.inside.types)
     (get_by_text c.remove.new.self)
     (subst (AreLookedUp (get_by_text c.self.inside.types)) whole c.self.invariant) u
+
+pub returns-in-Some : goal.returns-in-Some
+returns-in-Some c = grind (arith, common_steps)

@@ -1,3 +1,5 @@
+use Rattle.std.proofs.Common.{arith}
+use Rattle.jv_types.proofs.Entries.{within}
 use Rattle.jv_types.proofs.Entries.{class_within, class_found, class_missing, entry_at}
 use Rattle.jv_types.proofs.name_table.Table.class_named.Goals as goal
 

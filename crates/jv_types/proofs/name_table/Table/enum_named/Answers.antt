@@ -1,3 +1,5 @@
+use Rattle.std.proofs.Common.{arith}
+use Rattle.jv_types.proofs.Entries.{within}
 use Rattle.jv_types.proofs.Entries.{enum_found, enum_missing}
 use Rattle.jv_types.proofs.name_table.Table.enum_named.Goals as goal
 

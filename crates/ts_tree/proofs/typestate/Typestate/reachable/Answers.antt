@@ -1,3 +1,5 @@
+use Rattle.std.proofs.Common.{arith}
+use Rattle.std.proofs.lemmas.Grind.{common_steps}
 use Rattle.ts_tree.proofs.Turns.{below_by, turn_by, start_by, end_by}
 use Rattle.ts_tree.proofs.typestate.Typestate.reachable.Goals as goal
 
@@ -39,3 +41,6 @@ loop-state-preserved c =
 pub returns : goal.returns
 returns c = end_by c.args.self.now c.loop-state.walk c.next.new.self c.into_marked.result c.loop-state.invariant c.in_default.ensures.marked
     c.in_default.ensures.next c.into_marked.ensures
+
+pub visit-requires : goal.visit-requires
+visit-requires c = grind (arith, common_steps)

@@ -11,10 +11,10 @@ returns-clause-made c =
     IfOk-three c.filled.result _ _ _ _ (λ t reached contexts held.
     tables_made c.args.core.now c.in_ok-reached.reached.items c.in_ok-contexts.contexts.items c.as_slice-4.result.now t
     (c.in_ok-contexts.ensures ∙ ap (contexts_in c.args.core.now) c.as_slice.ensures.value)
-    (c.as_slice-4.ensures.items ∙ c.in_ok-entries.ensures ∙ ap (entries_in c.args.core.now) c.as_slice-3.ensures.items)
+    (c.as_slice-4.ensures.items ∙ c.in_ok-entries.ensures ∙ ap (entries_in c.args.core.now) c.as_slice-2.ensures.items)
     reached held c.in_ok-numbers.numbers.keys
     c.in_ok-reached.ensures.proper c.in_ok-reached.ensures.reached
-    (λ a. c.in_ok-numbers.ensures (subst AreApart (sym c.as_slice-2.ensures.items) a) ∙ c.as_slice-2.ensures.items)
+    (λ a. c.in_ok-numbers.ensures (subst AreApart (sym c.as_slice-3.ensures.items) a) ∙ c.as_slice-3.ensures.items)
     contexts) c.filled.ensures.reached c.filled.ensures.contexts c.filled.ensures.held
 
 pub returns-clause-start : goal.returns-clause-start
@@ -22,5 +22,5 @@ returns-clause-start c =
     IfOk-two c.filled.result _ _ _ (λ t reached held.
     tables_start c.args.core.now c.in_ok-reached.reached.items c.in_ok-contexts.contexts.items c.as_slice-4.result.now t
     (c.in_ok-contexts.ensures ∙ ap (contexts_in c.args.core.now) c.as_slice.ensures.value)
-    (c.as_slice-4.ensures.items ∙ c.in_ok-entries.ensures ∙ ap (entries_in c.args.core.now) c.as_slice-3.ensures.items)
+    (c.as_slice-4.ensures.items ∙ c.in_ok-entries.ensures ∙ ap (entries_in c.args.core.now) c.as_slice-2.ensures.items)
     reached held) c.filled.ensures.reached c.filled.ensures.held

@@ -1,4 +1,5 @@
-use Rattle.std.proofs.Common.{◌≡◌, ◌+◌, ◌*◌, map}
+use Rattle.std.proofs.Common.{◌≡◌, ◌+◌, ◌*◌, map, max}
+use Rattle.jv_core.specs.declared.tree.CoreExpr.{size-CoreExpr}
 use Rattle.jv_core.specs.View.{expr_of, exprs_of}
 use Rattle.use_flow.specs.View.{log_of}
 use Rattle.use_flow.specs.inner.Followed.{seen, eval_all, width_of}
@@ -23,17 +24,8 @@ decreases-eval_past l = 5 * goal.size-eval_past l + 2
 abbrev pub decreases-eval_ways : goal.decreases-eval_ways
 decreases-eval_ways l = 5 * goal.size-eval_ways l + 2
 
-abbrev pub decreases-eval_last : goal.decreases-eval_last
-decreases-eval_last l = 5 * goal.size-eval_last l + 3
-
 abbrev pub decreases-eval_not : goal.decreases-eval_not
 decreases-eval_not l = 5 * goal.size-eval_not l + 3
-
-abbrev pub decreases-eval_and : goal.decreases-eval_and
-decreases-eval_and l = 5 * goal.size-eval_and l + 3
-
-abbrev pub decreases-eval_or : goal.decreases-eval_or
-decreases-eval_or l = 5 * goal.size-eval_or l + 3
 
 abbrev pub decreases-eval_all : goal.decreases-eval_all
 decreases-eval_all l = 5 * goal.size-eval_all l + 2
@@ -41,11 +33,14 @@ decreases-eval_all l = 5 * goal.size-eval_all l + 2
 abbrev pub decreases-eval_session : goal.decreases-eval_session
 decreases-eval_session l = 5 * goal.size-eval_session l + 3
 
-abbrev pub decreases-eval_protocol : goal.decreases-eval_protocol
-decreases-eval_protocol l = 5 * goal.size-eval_protocol l + 4
+abbrev pub decreases-eval_both : goal.decreases-eval_both
+decreases-eval_both l = 5 * max (size-CoreExpr l.left.now) (size-CoreExpr l.right.now) + 3
 
-abbrev pub decreases-eval_helper : goal.decreases-eval_helper
-decreases-eval_helper l = 5 * goal.size-eval_helper l + 4
+abbrev pub decreases-eval_and : goal.decreases-eval_and
+decreases-eval_and l = 5 * max (size-CoreExpr l.left.now) (size-CoreExpr l.right.now) + 3
 
-abbrev pub decreases-eval_static : goal.decreases-eval_static
-decreases-eval_static l = 5 * goal.size-eval_static l + 4
+abbrev pub decreases-eval_or : goal.decreases-eval_or
+decreases-eval_or l = 5 * max (size-CoreExpr l.left.now) (size-CoreExpr l.right.now) + 3
+
+abbrev pub decreases-eval_call : goal.decreases-eval_call
+decreases-eval_call l = 5 * goal.size-eval_call l + 4

@@ -14,7 +14,7 @@ use Rattle.use_flow.specs.inner.Stepping.{step, steps}
 use Rattle.use_flow.specs.inner.Switching.{rest_of, past_of, nows_of}
 use Rattle.use_flow.proofs.Answered.{IfOk-three}
 use Rattle.use_flow.proofs.Forms as forms
-use Rattle.use_flow.proofs.Stepping.{follows_as, none_step, quiet_follows, if_follows, if_else_follows, while_follows, do_follows}
+use Rattle.use_flow.proofs.Stepping.{follows_as, none_step, quiet_follows, if_follows, if_else_follows, turned, while_follows, do_follows}
 use Rattle.use_flow.proofs.Stepping.{list_follows, item_other, item_local, running_start, running_more, running_end}
 use Rattle.use_flow.proofs.Grouping.{group_follows, following_start, following_more, following_end, switch_follows}
 use Rattle.use_flow.proofs.scene.Scene.+statements.Goals as goal
@@ -117,45 +117,41 @@ step_now-returns-in-None t c =
     (none_step (seen c.args.self.now) (reverse c.args.course.now.scope.items) (reverse c.args.outer.now) (stmt_of c.args.statement.now)
     c.args.now (log_of c.args.course.now.log) c.in-None.is) refl refl
 
+pub step_body-returns : goal.step_body-returns
+step_body-returns t c =
+    turned c.args.number (step (seen c.args.self.now) (reverse c.args.course.now.scope.items) (reverse c.args.outer.now)
+    (stmt_of c.args.body.now) c.args.now (log_of c.args.course.now.log)) c.args.course.now.scope.items c.args.course.now.jumps
+    c.set_aside-around.new.self c.set_aside-inside.new.self
+    c.set_aside-around.result c.set_aside-inside.result c.in_ok-now.now c.in_ok-end.end c.step_now.new.course _
+    (record {
+      around-behind = c.set_aside-around.ensures.behind;
+      around-on = c.set_aside-around.ensures.going_on;
+      starts = c.set_aside-around.ensures.left;
+      inside-behind = c.set_aside-inside.ensures.behind;
+      inside-on = c.set_aside-inside.ensures.going_on;
+      cuts = c.set_aside-inside.ensures.left;
+      ends = c.in_ok-put_back.ensures;
+    }) c.in_ok-end.ensures refl refl c.in_ok-now.ensures
+
 pub step_while-returns : goal.step_while-returns
 step_while-returns t c =
-    IfOk-weaker c.meet-2.result _ _ (λ m em.
+    IfOk-weaker c.meet.result _ _ (λ m em.
     while_follows (seen c.args.self.now) (reverse c.args.outer.now) c.args.course.now.scope.items c.args.number
     (expr_of c.args.condition.now) (stmt_of c.args.body.now) c.args.sets c.at_head.new.sets
     (log_of c.args.course.now.log) (log_of c.send_heads.new.log) (log_of c.eval_ways.new.log) c.args.course.now.jumps
-    c.set_aside-around.new.self c.set_aside-inside.new.self
-    c.set_aside-around.result c.set_aside-inside.result c.in_ok-now.now m c.in_ok-end.end c.step_now.new.course _
-    c.in_ok-send_heads.ensures c.in_ok-at_head.ensures refl
-    (record {
-      around-behind = c.set_aside-around.ensures.behind;
-      around-on = c.set_aside-around.ensures.going_on;
-      starts = c.set_aside-around.ensures.left;
-      inside-behind = c.set_aside-inside.ensures.behind;
-      inside-on = c.set_aside-inside.ensures.going_on;
-      cuts = c.set_aside-inside.ensures.left;
-      ends = c.in_ok-put_back.ensures;
-    }) c.in_ok-end.ensures c.in_ok-holds.holds c.in_ok-holds.fails c.in_ok-holds.ensures c.in_ok-now.ensures c.in_ok-send_end.ensures
-    em) c.meet-2.ensures
+    m c.in_ok-end.end c.in_ok-end.behind c.step_body.new.course _
+    c.in_ok-send_heads.ensures c.in_ok-at_head.ensures refl refl
+    c.in_ok-holds.holds c.in_ok-holds.fails c.in_ok-holds.ensures c.in_ok-end.ensures c.in_ok-send_end.ensures em) c.meet.ensures
 
 pub step_do-returns : goal.step_do-returns
 step_do-returns t c =
-    IfOk-weaker c.meet-2.result _ _ (λ m em.
-    do_follows (seen c.args.self.now) (reverse c.args.outer.now) c.args.course.now.scope.items c.args.number (expr_of c.args.condition.now)
-    (stmt_of c.args.body.now) c.args.sets c.at_head.new.sets
+    IfOk-weaker c.meet.result _ _ (λ m em.
+    do_follows (seen c.args.self.now) (reverse c.args.outer.now) c.args.course.now.scope.items c.args.number
+    (expr_of c.args.condition.now) (stmt_of c.args.body.now) c.args.sets c.at_head.new.sets
     (log_of c.args.course.now.log) (log_of c.send_heads.new.log) (log_of c.eval_ways.new.log) c.args.course.now.jumps
-    c.set_aside-around.new.self c.set_aside-inside.new.self
-    c.set_aside-around.result c.set_aside-inside.result c.in_ok-now.now m c.in_ok-end.end c.step.new.course _
-    c.in_ok-send_heads.ensures c.in_ok-at_head.ensures refl
-    (record {
-      around-behind = c.set_aside-around.ensures.behind;
-      around-on = c.set_aside-around.ensures.going_on;
-      starts = c.set_aside-around.ensures.left;
-      inside-behind = c.set_aside-inside.ensures.behind;
-      inside-on = c.set_aside-inside.ensures.going_on;
-      cuts = c.set_aside-inside.ensures.left;
-      ends = c.in_ok-put_back.ensures;
-    }) c.in_ok-end.ensures c.in_ok-again.again c.in_ok-again.fails c.in_ok-now.ensures c.in_ok-again.ensures c.in_ok-send_end.ensures
-    em) c.meet-2.ensures
+    m c.in_ok-end.end c.in_ok-end.behind c.step_body.new.course _
+    c.in_ok-send_heads.ensures c.in_ok-at_head.ensures refl refl
+    c.in_ok-again.again c.in_ok-again.fails c.in_ok-end.ensures c.in_ok-again.ensures c.in_ok-send_end.ensures em) c.meet.ensures
 
 pub step_list-end_scope-requires : goal.step_list-end_scope-requires
 step_list-end_scope-requires t c =
@@ -206,20 +202,20 @@ step_switch-returns t c =
 
 pub step_groups-loop-group-init : goal.step_groups-loop-group-init
 step_groups-loop-group-init t c =
-    following_start (seen c.args.self.now) (rest_of c.args.sprouts) (nows_of c.args.sprouts) (groups_of (map group_of c.args.groups.now))
+    following_start (seen c.args.self.now) (rest_of c.args.sprouts.now) (nows_of c.args.sprouts.now) (groups_of (map group_of c.args.groups.now))
     None c.args.course.now
 
 pub step_groups-loop-group-preserved : goal.step_groups-loop-group-preserved
 step_groups-loop-group-preserved t c =
-    following_more (seen c.args.self.now) c.args.course.now.scope.items (rest_of c.args.sprouts) (nows_of c.args.sprouts) _
+    following_more (seen c.args.self.now) c.args.course.now.scope.items (rest_of c.args.sprouts.now) (nows_of c.args.sprouts.now) _
     c.args.course.now.jumps c.args.groups.now c.loop-group.group-index
     c.loop-group.now c.loop-group.course c.group-item.result c.as_slice-in-loop-group.result.now c.in_ok-now.now c.step_group.new.course
     c.loop-group-test.true c.group-item.is
-    (c.as_slice-in-loop-group.ensures.value ∙ c.in_ok-outer.ensures ∙ c.as_slice.ensures.value) c.in_ok-now.ensures c.loop-group.invariant
+    (c.as_slice-in-loop-group.ensures.value ∙ c.in_ok-outer.ensures.items ∙ c.as_slice.ensures.value) c.in_ok-now.ensures c.loop-group.invariant
 
 pub step_groups-returns : goal.step_groups-returns
 step_groups-returns t c =
-    following_end (seen c.args.self.now) c.args.course.now.scope.items (rest_of c.args.sprouts) (nows_of c.args.sprouts) _
+    following_end (seen c.args.self.now) c.args.course.now.scope.items (rest_of c.args.sprouts.now) (nows_of c.args.sprouts.now) _
     c.args.course.now.jumps c.args.groups.now c.loop-group.group-index
     c.loop-group.now c.loop-group.course c.loop-group-test.false c.loop-group.invariant
 

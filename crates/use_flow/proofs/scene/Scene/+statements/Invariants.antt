@@ -30,11 +30,14 @@ decreases-step l = 8 * goal.size-step l
 abbrev pub decreases-step_now : goal.decreases-step_now
 decreases-step_now l = 8 * goal.size-step_now l + 1
 
+abbrev pub decreases-step_body : goal.decreases-step_body
+decreases-step_body l = 8 * goal.size-step_body l + 2
+
 abbrev pub decreases-step_while : goal.decreases-step_while
-decreases-step_while l = 8 * goal.size-step_while l + 2
+decreases-step_while l = 8 * goal.size-step_while l + 3
 
 abbrev pub decreases-step_do : goal.decreases-step_do
-decreases-step_do l = 8 * goal.size-step_do l + 2
+decreases-step_do l = 8 * goal.size-step_do l + 3
 
 abbrev pub decreases-step_item : goal.decreases-step_item
 decreases-step_item l = 8 * goal.size-step_item l + 2

@@ -1,4 +1,5 @@
-use Rattle.std.proofs.Common.{rules, ◌++◌, ◌∷◌, [], ap, map}
+use Rattle.std.proofs.Common.{arith, rules, ◌++◌, ◌∷◌, [], ap, map}
+use Rattle.std.proofs.lemmas.Grind.{common_steps}
 use Rattle.vm_model.specs.Messages.{Messages}
 use Rattle.vm_model.proofs.Queues.{row_changed, same_by, on_ok, on_err}
 use Rattle.vm_model.proofs.ports.Ports.send.Goals as goal
@@ -21,3 +22,6 @@ returns-then-from-len-clause-err c =
     c.append_to.new.queues
     (search rules) c.index_mut-row.ensures.value h))
     c.append_to.result c.append_to.ensures.err)
+
+pub returns-clause-ok : goal.returns-clause-ok
+returns-clause-ok c = grind (arith, common_steps)

@@ -1,4 +1,5 @@
-use Rattle.std.proofs.Common.{rules, ◌∙◌, ◌<◌, ◌≤◌, ap, sym, drop, slice_get, map, length}
+use Rattle.std.proofs.Common.{arith, rules, ◌∙◌, ◌<◌, ◌≤◌, ap, sym, drop, slice_get, map, length}
+use Rattle.std.proofs.lemmas.Grind.{common_steps}
 use Rattle.vm_model.specs.Messages.{Messages, or_nothing}
 use Rattle.vm_model.proofs.Queues.{row_changed, list_by, list_past}
 use Rattle.vm_model.proofs.ports.Ports.take.Goals as goal
@@ -26,3 +27,6 @@ returns-else-from-len-clause-first c =
     rw (← c.self.view_is)
     (sym (ap (λ l. slice_get (or_nothing (slice_get l c.args.to)) 0) (list_past (λ row. map (λ queue. queue.items) row.items)
     c.self.inside.queues.items c.args.from past)))
+
+pub returns-else-from-len-clause-list : goal.returns-else-from-len-clause-list
+returns-else-from-len-clause-list c = grind (arith, common_steps)

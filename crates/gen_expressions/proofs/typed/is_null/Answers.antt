@@ -1,0 +1,25 @@
+-- By `grind` at once, since a search finds nothing here.
+use Rattle.std.proofs.Common.{arith}
+use Rattle.gen_expressions.proofs.Seen.{seen}
+use Rattle.gen_expressions.proofs.typed.is_null.Goals as goal
+
+pub returns-in-Equals : goal.returns-in-Equals
+returns-in-Equals c = grind (arith, seen)
+
+pub returns-in-Int : goal.returns-in-Int
+returns-in-Int c = grind (arith, seen)
+
+pub returns-in-Neg : goal.returns-in-Neg
+returns-in-Neg c = grind (arith, seen)
+
+pub returns-in-Null : goal.returns-in-Null
+returns-in-Null c = grind (arith, seen)
+
+pub returns-in-Protocol : goal.returns-in-Protocol
+returns-in-Protocol c = grind (arith, seen)
+
+pub returns-in-Static : goal.returns-in-Static
+returns-in-Static c = grind (arith, seen)
+
+pub returns-in-Var : goal.returns-in-Var
+returns-in-Var c = grind (arith, seen)

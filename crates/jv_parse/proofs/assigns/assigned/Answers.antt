@@ -1,0 +1,10 @@
+-- By `grind` at once, which is shorter than a search.
+use Rattle.std.proofs.Common.{arith}
+use Rattle.jv_tree.proofs.ViewLaws.{views}
+use Rattle.jv_parse.proofs.assigns.assigned.Goals as goal
+
+pub returns : goal.returns
+returns c = grind (arith, views)
+
+pub returns-then-target-levels : goal.returns-then-target-levels
+returns-then-target-levels c = grind (arith, views)

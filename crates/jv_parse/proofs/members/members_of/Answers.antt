@@ -1,0 +1,7 @@
+-- By `grind` at once, which is shorter than a search.
+use Rattle.std.proofs.Common.{arith}
+use Rattle.std.proofs.lemmas.Grind.{common_steps}
+use Rattle.jv_parse.proofs.members.members_of.Goals as goal
+
+pub returns : goal.returns
+returns c = grind (arith, common_steps)

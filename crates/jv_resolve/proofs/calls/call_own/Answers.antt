@@ -1,0 +1,7 @@
+-- By `grind` at once, which is shorter than a search.
+use Rattle.std.proofs.Common.{arith}
+use Rattle.std.proofs.lemmas.Grind.{common_steps}
+use Rattle.jv_resolve.proofs.calls.call_own.Goals as goal
+
+pub returns-in_default : goal.returns-in_default
+returns-in_default c = grind (arith, common_steps)

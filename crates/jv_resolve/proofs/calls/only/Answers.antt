@@ -1,0 +1,10 @@
+-- By `grind` at once, which is shorter than a search.
+use Rattle.std.proofs.Common.{arith}
+use Rattle.std.proofs.lemmas.Grind.{common_steps}
+use Rattle.jv_resolve.proofs.calls.only.Goals as goal
+
+pub returns : goal.returns
+returns c = grind (arith, common_steps)
+
+pub returns-then-is_empty : goal.returns-then-is_empty
+returns-then-is_empty c = grind (arith, common_steps)

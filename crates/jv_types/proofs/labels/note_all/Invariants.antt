@@ -1,9 +1,0 @@
-use Rattle.std.proofs.Common.{◌≡◌, drop, map}
-use Rattle.jv_types.specs.Tables.{program_in}
-use Rattle.jv_types.specs.inner.Offering.{mislabelled}
-use Rattle.jv_types.proofs.labels.note_all.Given as goal
-
-abbrev pub invariant-loop-protocol : goal.invariant-loop-protocol
-invariant-loop-protocol l =
-    mislabelled (program_in l.table) l.met (map (λ p. p.of.now) (drop l.protocol-index l.protocols))
-    ≡ mislabelled (program_in l.table) l.initial.met (map (λ p. p.of.now) l.protocols)

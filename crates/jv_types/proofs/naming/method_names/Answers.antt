@@ -1,0 +1,10 @@
+-- By `grind` at once, since a search finds nothing here.
+use Rattle.std.proofs.Common.{arith}
+use Rattle.std.proofs.lemmas.Grind.{common_steps}
+use Rattle.jv_types.proofs.naming.method_names.Goals as goal
+
+pub loop-item-preserved : goal.loop-item-preserved
+loop-item-preserved c = grind (arith, common_steps)
+
+pub returns : goal.returns
+returns c = grind (arith, common_steps)

@@ -1,0 +1,16 @@
+-- By `grind` at once, since a search finds nothing here.
+use Rattle.std.proofs.Common.{arith}
+use Rattle.std.proofs.lemmas.Grind.{common_steps}
+use Rattle.jv_types.proofs.repeats.member_met.Goals as goal
+
+pub loop-member-preserved : goal.loop-member-preserved
+loop-member-preserved c = grind (arith, common_steps)
+
+pub returns : goal.returns
+returns c = grind (arith, common_steps)
+
+pub returns-then-not-fresh : goal.returns-then-not-fresh
+returns-then-not-fresh c = grind (arith, common_steps)
+
+pub returns-then-not-fresh-2 : goal.returns-then-not-fresh-2
+returns-then-not-fresh-2 c = grind (arith, common_steps)

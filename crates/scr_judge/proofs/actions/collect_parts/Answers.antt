@@ -1,0 +1,10 @@
+-- By `grind` at once, since a search finds nothing here.
+use Rattle.std.proofs.Common.{arith}
+use Rattle.scr_judge.proofs.Collecting.{part_steps}
+use Rattle.scr_judge.proofs.actions.collect_parts.Goals as goal
+
+pub loop-part-preserved : goal.loop-part-preserved
+loop-part-preserved c = grind (arith, part_steps)
+
+pub returns : goal.returns
+returns c = grind (arith, part_steps)

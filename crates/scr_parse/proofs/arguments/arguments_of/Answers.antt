@@ -1,0 +1,10 @@
+-- By `grind` at once, since a search finds nothing here.
+use Rattle.std.proofs.Common.{arith}
+use Rattle.std.proofs.lemmas.Grind.{common_steps}
+use Rattle.scr_parse.proofs.arguments.arguments_of.Goals as goal
+
+pub returns : goal.returns
+returns c = grind (arith, common_steps)
+
+pub tokens-preserved : goal.tokens-preserved
+tokens-preserved c = grind (arith, common_steps)

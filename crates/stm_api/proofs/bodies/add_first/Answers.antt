@@ -1,0 +1,10 @@
+-- By `grind` at once, since a search finds nothing here.
+use Rattle.std.proofs.Common.{arith}
+use Rattle.stm_api.proofs.Trees.{views}
+use Rattle.stm_api.proofs.bodies.add_first.Goals as goal
+
+pub returns : goal.returns
+returns c = grind (arith, views)
+
+pub returns-in_default : goal.returns-in_default
+returns-in_default c = grind (arith, views)

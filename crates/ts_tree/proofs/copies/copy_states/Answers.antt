@@ -1,0 +1,10 @@
+-- By `grind` at once, since a search finds nothing here.
+use Rattle.std.proofs.Common.{arith}
+use Rattle.std.proofs.lemmas.Grind.{common_steps}
+use Rattle.ts_tree.proofs.copies.copy_states.Goals as goal
+
+pub loop-state-preserved : goal.loop-state-preserved
+loop-state-preserved c = grind (arith, common_steps)
+
+pub returns : goal.returns
+returns c = grind (arith, common_steps)

@@ -1,0 +1,6 @@
+use Rattle.std.proofs.Common.{arith}
+use Rattle.use_flow.proofs.Scenes.{scenes}
+use Rattle.use_flow.proofs.runs.Runs.start_of.Goals as goal
+
+pub returns : goal.returns
+returns c = grind (arith, scenes)
