@@ -1,5 +1,4 @@
 pub mod Table
 pub mod Views
-pub mod Hello
 pub mod Plain
 pub mod Files

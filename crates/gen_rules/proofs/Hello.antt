@@ -1,20 +1,21 @@
 -- The class file of the program that prints is computed.
-use Rattle.std.proofs.Common.{◌≡◌, [], ◌∷◌, refl, subst, codes}
+use Rattle.std.proofs.Common.{refl}
 use Rattle.std.specs.Str.{chars}
-use Rattle.cls_tree.specs.Emitted.{number_of, class_for}
+use Rattle.cls_tree.specs.Emitted.{number_of}
 use Rattle.cls_tree.specs.Modified.{modified}
 use Rattle.cls_tree.specs.Opcodes.{form_of}
 use Rattle.cls_tree.specs.Jumps.{starts_from}
-use Rattle.gen_rules.specs.Classes.{AreClasses}
-use Rattle.gen_rules.specs.inner.Files.{classes_of}
-use Rattle.gen_rules.specs.examples.Hello.{HelloIsMade, hello}
+use Rattle.gen_rules.specs.Classes.{class_file}
+use Rattle.gen_rules.specs.inner.Files.{generated_class}
+use Rattle.gen_rules.specs.examples.Hello.{HelloIsMade, hello_class, hello}
 use Rattle.gen_rules.proofs.Files.{files_are}
 use Rattle.gen_rules.proofs.Linking.{hello_links}
 
-same_class : classes_of hello ≡ class_for (codes "Hello") (codes "hello" ∷ []) ∷ []
-unfolding number_of class_for starts_from form_of
-same_class = refl
-
 pub hello_is_made : HelloIsMade
-unfolding number_of class_for modified form_of chars
-hello_is_made = record { classes = subst (AreClasses hello) same_class (files_are hello); bytes = refl; links = hello_links }
+unfolding number_of starts_from form_of modified chars
+hello_is_made = record {
+  made = class_file hello hello_class (generated_class hello 0 hello_class);
+  classes = files_are hello;
+  bytes = refl;
+  links = hello_links;
+}

@@ -13,8 +13,8 @@ use Rattle.jv_tree.specs.Depth.{depth}
 use Rattle.jv_tree.specs.Sugar.{is_out, only_argument}
 use Rattle.jv_tree.specs.View.{expr_of, exprs_of}
 use Rattle.jv_tree.proofs.ViewLaws.{views}
-use Rattle.jv_reading.specs.Stmts.{evaluated_by, evaluated}
-use Rattle.jv_reading.proofs.Primaries.{depth_pos}
+use Rattle.jv_grammar.specs.Stmts.{evaluated_by, evaluated}
+use Rattle.jv_grammar.proofs.Primaries.{depth_pos}
 use Rattle.jv_parse.specs.inner.Evaluations.{is_variable, is_none, is_leaf, eval_if}
 
 pub out-Member : (p : Place) (e : Expr) (n : Name) → is_out (Member p e n) ≡ (is_variable (codes "System") e && bytes_eq n (codes "out"))

@@ -11,14 +11,14 @@ use Rattle.jv_tree.specs.Source.{Expr}
 use Rattle.jv_tree.specs.Depth.{depth, depth_of_args}
 use Rattle.jv_tree.specs.Expressions.{IsInner}
 use Rattle.jv_tree.specs.View.{exprs_of}
-use Rattle.jv_reading.specs.Base.{sign_at, is_sign, name_at}
-use Rattle.jv_reading.specs.Exprs.{Reads, next_arg_with, args_with, closed_args_with, arguments_with, closed_with, primary_at, tail_at}
-use Rattle.jv_reading.specs.Exprs.{post_with, post_at, is_op, unary_at, joined_at, binary_with, binary_at, inner_at, expr_at, arguments_at}
-use Rattle.jv_reading.specs.Exprs.{closed_at, new_with}
-use Rattle.jv_reading.proofs.Args.{next_shorter}
-use Rattle.jv_reading.proofs.Posts.{tail_shorter}
-use Rattle.jv_reading.proofs.Chains.{step_shorter, binary_exact}
-use Rattle.jv_reading.proofs.Exprs.{inner_reading}
+use Rattle.jv_grammar.specs.Base.{sign_at, is_sign, name_at}
+use Rattle.jv_grammar.specs.Exprs.{Reads, next_arg_with, args_with, closed_args_with, arguments_with, closed_with, primary_at, tail_at}
+use Rattle.jv_grammar.specs.Exprs.{post_with, post_at, is_op, unary_at, joined_at, binary_with, binary_at, inner_at, expr_at, arguments_at}
+use Rattle.jv_grammar.specs.Exprs.{closed_at, new_with}
+use Rattle.jv_grammar.proofs.Args.{next_shorter}
+use Rattle.jv_grammar.proofs.Posts.{tail_shorter}
+use Rattle.jv_grammar.proofs.Chains.{step_shorter, binary_exact}
+use Rattle.jv_grammar.proofs.Exprs.{inner_reading}
 use Rattle.jv_parse.specs.declared.halt.Halt.{Halt}
 use Rattle.jv_parse.specs.declared.halt.Halt.TheVariants as halts
 use Rattle.jv_parse.specs.inner.Gives.{Fails}

@@ -9,9 +9,9 @@ use Rattle.mg_read.proofs.Loop.{Left, Left-start, Left-init, with_front}
 use Rattle.jv_tree.specs.declared.tree.Param.{Param}
 use Rattle.jv_tree.specs.declared.token.Sign.TheVariants as signs
 use Rattle.jv_tree.specs.declared.token.Token.{Token}
-use Rattle.jv_reading.specs.Base.{sign_at, is_sign, is_word, name_at}
-use Rattle.jv_reading.specs.Files.{param_at, next_param_at, params_at, is_more_names, next_name_at, names_at, is_more_steps, next_step_at}
-use Rattle.jv_reading.specs.Files.{path_at, import_at, is_some_token, decl_at}
+use Rattle.jv_grammar.specs.Base.{sign_at, is_sign, is_word, name_at}
+use Rattle.jv_grammar.specs.Files.{param_at, next_param_at, params_at, is_more_names, next_name_at, names_at, is_more_steps, next_step_at}
+use Rattle.jv_grammar.specs.Files.{path_at, import_at, is_some_token, decl_at}
 use Rattle.jv_parse.specs.declared.halt.Halt.{Halt}
 use Rattle.jv_parse.specs.declared.halt.Halt.TheVariants as halts
 use Rattle.jv_parse.specs.inner.Gives.{Fails}

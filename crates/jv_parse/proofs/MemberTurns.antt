@@ -10,11 +10,11 @@ use Rattle.jv_tree.specs.declared.token.Sign.TheVariants as signs
 use Rattle.jv_tree.specs.declared.token.Token.{Token}
 use Rattle.jv_tree.specs.Source.{Field, Method, Class}
 use Rattle.jv_tree.specs.Files.{Member, FieldMember, MethodMember, fields_among, methods_among}
-use Rattle.jv_reading.specs.Base.{sign_at, is_sign, word_at, name_at}
-use Rattle.jv_reading.specs.Stmts.{ended_at, items_at}
-use Rattle.jv_reading.specs.Files.{after_mods, class_words, annotation_at, is_main, params_of_at, method_at, field_at, not_closed}
-use Rattle.jv_reading.specs.Files.{member_at, members_at, class_at}
-use Rattle.jv_reading.proofs.Members.{member_shorter}
+use Rattle.jv_grammar.specs.Base.{sign_at, is_sign, word_at, name_at}
+use Rattle.jv_grammar.specs.Stmts.{ended_at, items_at}
+use Rattle.jv_grammar.specs.Files.{after_mods, class_words, annotation_at, is_main, params_of_at, method_at, field_at, not_closed}
+use Rattle.jv_grammar.specs.Files.{member_at, members_at, class_at}
+use Rattle.jv_grammar.proofs.Members.{member_shorter}
 use Rattle.jv_parse.specs.declared.halt.Halt.{Halt}
 use Rattle.jv_parse.specs.declared.halt.Halt.TheVariants as halts
 use Rattle.jv_parse.specs.inner.Gives.{Fails}

@@ -8,7 +8,7 @@ use Rattle.mg_read.specs.FirstLaws.{IsSingle}
 use Rattle.mg_read.proofs.Steps.{some_is, none_is_not}
 use Rattle.jv_tree.specs.declared.token.Token.{Token}
 use Rattle.jv_tree.specs.Files.{is_kind_among}
-use Rattle.jv_reading.specs.Files.{after_mods, static_mods}
+use Rattle.jv_grammar.specs.Files.{after_mods, static_mods}
 use Rattle.jv_parse.specs.Unsupported.{unsupported_text, IsUnsupported}
 
 -- what the rest answers, the whole does

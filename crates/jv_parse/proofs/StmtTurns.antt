@@ -9,10 +9,10 @@ use Rattle.jv_tree.specs.declared.token.Sign.TheVariants as signs
 use Rattle.jv_tree.specs.declared.token.Token.{Token}
 use Rattle.jv_tree.specs.Source.{Stmt}
 use Rattle.jv_tree.specs.View.{OneGroup}
-use Rattle.jv_reading.specs.Base.{sign_at, word_at}
-use Rattle.jv_reading.specs.Stmts.{is_case, goes_on, case_at, cases_at, cond_at, stmt_at, item_with, items_with, group_with, groups_with}
-use Rattle.jv_reading.specs.Stmts.{while_with, do_with}
-use Rattle.jv_reading.proofs.Nested.{stmt_exact, item_shorter, group_shorter}
+use Rattle.jv_grammar.specs.Base.{sign_at, word_at}
+use Rattle.jv_grammar.specs.Stmts.{is_case, goes_on, case_at, cases_at, cond_at, stmt_at, item_with, items_with, group_with, groups_with}
+use Rattle.jv_grammar.specs.Stmts.{while_with, do_with}
+use Rattle.jv_grammar.proofs.Nested.{stmt_exact, item_shorter, group_shorter}
 use Rattle.jv_parse.specs.declared.halt.Halt.{Halt}
 use Rattle.jv_parse.specs.declared.halt.Halt.TheVariants as halts
 use Rattle.jv_parse.specs.inner.Gives.{Fails}

@@ -4,7 +4,7 @@ use Rattle.mg_read.specs.Reader.{Reader}
 use Rattle.jv_parse.specs.declared.halt.Halt.{Halt}
 use Rattle.jv_parse.specs.declared.halt.Halt.TheVariants as halts
 use Rattle.jv_parse.specs.inner.Gives.{Fails}
-use Rattle.jv_reading.specs.Grow.{grow, grown}
+use Rattle.jv_grammar.specs.Grow.{grow, grown}
 
 -- what is left to read makes up the whole
 pub record Growing {T A : Type 0} (go : List T → Bool) (step : A → Reader T A) (acc : A) (rest : List T)

@@ -10,7 +10,7 @@ use Rattle.jv_tree.specs.declared.tree.File.{File as KeptFile}
 use Rattle.jv_tree.specs.Source.{File}
 use Rattle.jv_tree.specs.Files.{Spells}
 use Rattle.jv_tree.specs.View.{file_of}
-use Rattle.jv_reading.proofs.Decls.{file_sound, file_complete}
+use Rattle.jv_grammar.proofs.Decls.{file_sound, file_complete}
 use Rattle.jv_parse.specs.Unsupported.{IsUnsupported}
 use Rattle.jv_parse.specs.Answer.{IsReadOrMemory, SaysUnsupported, IsRefusedOrMemory, SaysSyntax}
 use Rattle.jv_parse.specs.inner.Parsed.{Parsed}

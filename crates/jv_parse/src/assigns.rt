@@ -7,9 +7,9 @@ ghost use Rattle.jv_tree.specs.Depth.{depth};
 ghost use Rattle.jv_tree.specs.View.{expr_of, stmt_of};
 ghost use Rattle.jv_parse.specs.inner.Changes.{plain_at, counted_at, compounded_at};
 ghost use Rattle.jv_parse.specs.inner.Gives.{Gives};
-ghost use Rattle.jv_reading.specs.Stmts.{cond_at, ended_at, after_final, type_at, local_at, target_at, compound_at, counter_at};
-ghost use Rattle.jv_reading.specs.Stmts.{is_compound, is_counter, is_change, is_name_change, is_field_change, is_assign, assigned};
-ghost use Rattle.jv_reading.specs.Stmts.{change_at, assign_at};
+ghost use Rattle.jv_grammar.specs.Stmts.{cond_at, ended_at, after_final, type_at, local_at, target_at, compound_at, counter_at};
+ghost use Rattle.jv_grammar.specs.Stmts.{is_compound, is_counter, is_change, is_name_change, is_field_change, is_assign, assigned};
+ghost use Rattle.jv_grammar.specs.Stmts.{change_at, assign_at};
 
 use crate::exprs::{LOOSEST, Read, chain_of, closed_of, leaf};
 use crate::halt::Halt;
@@ -26,7 +26,7 @@ pub(crate) type ReadStmt<'a> = Result<(Stmt, &'a [Token]), Halt>;
 pub(crate) const MOST_OPEN: u16 = 400;
 
 // "(" expr ")"
-#[tactic(auto, unfolding(jv_reading::specs::Stmts::cond_at))]
+#[tactic(auto, unfolding(jv_grammar::specs::Stmts::cond_at))]
 pub(crate) fn cond_of(
     alloc: Global,
     tokens: &[Token],
@@ -40,7 +40,7 @@ pub(crate) fn cond_of(
 }
 
 // expr ";"
-#[tactic(auto, unfolding(jv_reading::specs::Stmts::ended_at, jv_reading::specs::Exprs::expr_at))]
+#[tactic(auto, unfolding(jv_grammar::specs::Stmts::ended_at, jv_grammar::specs::Exprs::expr_at))]
 pub(crate) fn ended_of(alloc: Global, tokens: &[Token], levels: u8) -> Read<'_>
     ensures read { Gives (λ x. (expr_of x.0.value, x.2.now)) result (ended_at levels tokens.now) }
     ensures deep { IfOk result (λ x. x.1 ≡ depth (expr_of x.0.value)) }
@@ -65,7 +65,7 @@ pub(crate) fn after_final(tokens: &[Token]) -> &[Token]
 }
 
 // The type that a word names.
-#[tactic(auto, unfolding(jv_reading::specs::Stmts::type_in))]
+#[tactic(auto, unfolding(jv_grammar::specs::Stmts::type_in))]
 pub(crate) fn type_of(tokens: &[Token]) -> Result<(TypeName, &[Token]), Halt>
     ensures { Gives (λ x. (x.0, x.1.now)) result (type_at tokens.now) }
 {
@@ -91,7 +91,7 @@ pub(crate) fn type_of(tokens: &[Token]) -> Result<(TypeName, &[Token]), Halt>
 }
 
 // [ "final" ] type name "=" expr ";"
-#[tactic(auto, using(jv_tree::proofs::ViewLaws::views), unfolding(jv_reading::specs::Stmts::local_at, jv_reading::specs::Stmts::declared_at))]
+#[tactic(auto, using(jv_tree::proofs::ViewLaws::views), unfolding(jv_grammar::specs::Stmts::local_at, jv_grammar::specs::Stmts::declared_at))]
 pub(crate) fn local_of(alloc: Global, tokens: &[Token], levels: u8) -> ReadStmt<'_>
     ensures { Gives (λ x. (stmt_of x.0, x.1.now)) result (local_at levels tokens.now) }
 {
@@ -210,7 +210,7 @@ pub(crate) fn is_assign(tokens: &[Token]) -> bool
 }
 
 // target = name | "this" "." name
-#[tactic(auto, using(jv_tree::proofs::ViewLaws::views), unfolding(jv_reading::specs::Stmts::target_at))]
+#[tactic(auto, using(jv_tree::proofs::ViewLaws::views), unfolding(jv_grammar::specs::Stmts::target_at))]
 fn target_of(alloc: Global, tokens: &[Token]) -> Read<'_>
     ensures read { Gives (λ x. (expr_of x.0.value, x.2.now)) result (target_at tokens.now) }
     ensures deep { IfOk result (λ x. x.1 ≡ depth (expr_of x.0.value)) }
@@ -334,7 +334,7 @@ fn compounded_of<'a>(
 }
 
 // What stands behind a target, which begins these tokens.
-#[tactic(auto, using(jv_tree::proofs::ViewLaws::views), unfolding(jv_reading::specs::Stmts::change_at))]
+#[tactic(auto, using(jv_tree::proofs::ViewLaws::views), unfolding(jv_grammar::specs::Stmts::change_at))]
 fn change_of<'a>(
     alloc: Global,
     target: (Box<Expr>, u8),
@@ -360,7 +360,7 @@ fn change_of<'a>(
 }
 
 // An assignment. Its target is read twice where an operator changes it.
-#[tactic(auto, unfolding(jv_reading::specs::Stmts::assign_at))]
+#[tactic(auto, unfolding(jv_grammar::specs::Stmts::assign_at))]
 pub(crate) fn assign_of(alloc: Global, tokens: &[Token], levels: u8) -> ReadStmt<'_>
     ensures { Gives (λ x. (stmt_of x.0, x.1.now)) result (assign_at levels tokens.now) }
 {

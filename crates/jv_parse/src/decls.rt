@@ -6,7 +6,7 @@ ghost use Rattle.jv_tree.specs.declared.token.Sign.{Sign};
 ghost use Rattle.jv_tree.specs.View.{class_of, enum_of, decl_of};
 ghost use Rattle.jv_parse.specs.inner.Gives.{Gives};
 ghost use Rattle.jv_parse.specs.inner.Members.{class_read, named_enum_at};
-ghost use Rattle.jv_reading.specs.Files.{text_at, annotation_at, is_more_names, next_name_at, names_at, past, decl_at};
+ghost use Rattle.jv_grammar.specs.Files.{text_at, annotation_at, is_more_names, next_name_at, names_at, past, decl_at};
 
 use crate::halt::Halt;
 use crate::members::{Members, members_of};
@@ -32,7 +32,7 @@ fn text_of(tokens: &[Token]) -> Result<(Text, &[Token]), Halt>
 }
 
 // [ "@" "Typestate" "(" text ")" ]
-#[tactic(auto, unfolding(jv_reading::specs::Files::annotation_at))]
+#[tactic(auto, unfolding(jv_grammar::specs::Files::annotation_at))]
 fn annotation_of(tokens: &[Token]) -> Result<(Option<Text>, &[Token]), Halt>
     ensures { Gives (λ x. (x.0, x.1.now)) result (annotation_at tokens.now) }
 {
@@ -66,7 +66,7 @@ fn class_of(alloc: Global, tokens: &[Token]) -> Result<(Class, &[Token]), Halt>
 }
 
 // The name behind a "," and the tokens after it, where both come next.
-#[tactic(auto, unfolding(jv_reading::specs::Files::next_name_at))]
+#[tactic(auto, unfolding(jv_grammar::specs::Files::next_name_at))]
 fn past_next_name(tokens: &[Token]) -> Option<(&Text, &[Token])>
     ensures it { IfSome result (λ x. next_name_at tokens.now ≡ Some (x.0.now, x.1.now)) }
     ensures comes { is_some result ≡ is_more_names tokens.now }
@@ -119,7 +119,7 @@ fn enum_of(alloc: Global, tokens: &[Token]) -> Result<(Enum, &[Token]), Halt>
 }
 
 // A class, or { "public" } and an enum.
-#[tactic(auto, using(crate::proofs::MemberTurns::class_is), unfolding(jv_reading::specs::Files::decl_at, jv_reading::specs::Files::enum_at))]
+#[tactic(auto, using(crate::proofs::MemberTurns::class_is), unfolding(jv_grammar::specs::Files::decl_at, jv_grammar::specs::Files::enum_at))]
 pub(crate) fn decl_of(alloc: Global, tokens: &[Token]) -> Result<(Decl, &[Token]), Halt>
     ensures { Gives (λ x. (decl_of x.0, x.1.now)) result (decl_at tokens.now) }
 {

@@ -7,7 +7,7 @@ ghost use Rattle.jv_tree.specs.Depth.{depth};
 ghost use Rattle.jv_tree.specs.Source.{MethodCall};
 ghost use Rattle.jv_tree.specs.View.{expr_of, exprs_of, stmt_of};
 ghost use Rattle.jv_parse.specs.inner.Gives.{Gives};
-ghost use Rattle.jv_reading.specs.Stmts.{evaluated, evaluation_at};
+ghost use Rattle.jv_grammar.specs.Stmts.{evaluated, evaluation_at};
 ghost use Rattle.jv_parse.specs.inner.Evaluations.{is_variable, is_leaf, eval_if, print_if};
 
 use crate::assigns::{MOST_OPEN, ReadStmt};
@@ -194,7 +194,7 @@ fn evaluated(place: Place, expr: Box<Expr>, deep: u8, levels: u8) -> Option<Stmt
 }
 
 // expr ";"
-#[tactic(auto, unfolding(jv_reading::specs::Stmts::evaluation_at))]
+#[tactic(auto, unfolding(jv_grammar::specs::Stmts::evaluation_at))]
 pub(crate) fn evaluation_of(alloc: Global, tokens: &[Token], levels: u8) -> ReadStmt<'_>
     requires { levels ≤ 200 }
     ensures { Gives (λ x. (stmt_of x.0, x.1.now)) result (evaluation_at levels tokens.now) }

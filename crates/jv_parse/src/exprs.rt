@@ -9,10 +9,10 @@ ghost use Rattle.jv_tree.specs.Depth.{depth, depth_of_args};
 ghost use Rattle.jv_tree.specs.View.{expr_of, kind_of, exprs_of};
 ghost use Rattle.jv_parse.specs.inner.Found.{found};
 ghost use Rattle.jv_parse.specs.inner.Gives.{Gives};
-ghost use Rattle.jv_reading.specs.Base.{sign_at, fits};
-ghost use Rattle.jv_reading.specs.Exprs.{args_with, arguments_at, closed_at, negative_at, named_at, word_primary_at};
-ghost use Rattle.jv_reading.specs.Exprs.{new_with, literal, primary_at, tail_at, post_at, is_negation, unary_at, operator, op_at, op_found};
-ghost use Rattle.jv_reading.specs.Exprs.{is_op, joined_at, binary_at, expr_at};
+ghost use Rattle.jv_grammar.specs.Base.{sign_at, fits};
+ghost use Rattle.jv_grammar.specs.Exprs.{args_with, arguments_at, closed_at, negative_at, named_at, word_primary_at};
+ghost use Rattle.jv_grammar.specs.Exprs.{new_with, literal, primary_at, tail_at, post_at, is_negation, unary_at, operator, op_at, op_found};
+ghost use Rattle.jv_grammar.specs.Exprs.{is_op, joined_at, binary_at, expr_at};
 
 use crate::halt::Halt;
 use crate::tokens::{is_name, is_sign, name_of, past_sign, sign_of, starts_number};
@@ -153,7 +153,7 @@ fn negative_of(alloc: Global, place: Place, tokens: &[Token]) -> Read<'_>
 }
 
 // What "new" at this place begins.
-#[tactic(auto, using(jv_tree::proofs::ViewLaws::views), unfolding(jv_reading::specs::Exprs::new_with))]
+#[tactic(auto, using(jv_tree::proofs::ViewLaws::views), unfolding(jv_grammar::specs::Exprs::new_with))]
 fn new_of(alloc: Global, place: Place, tokens: &[Token], room: u16) -> Read<'_>
     ensures read { Gives (λ x. (expr_of x.0.value, x.2.now)) result (new_with room place tokens.now) }
     ensures deep { IfOk result (λ x. x.1 ≡ depth (expr_of x.0.value)) }
@@ -168,7 +168,7 @@ fn new_of(alloc: Global, place: Place, tokens: &[Token], room: u16) -> Read<'_>
 }
 
 // A word that is an expression.
-#[tactic(auto, using(jv_tree::proofs::ViewLaws::views), unfolding(jv_reading::specs::Exprs::literal))]
+#[tactic(auto, using(jv_tree::proofs::ViewLaws::views), unfolding(jv_grammar::specs::Exprs::literal))]
 fn literal(place: Place, word: &str) -> Option<Expr>
     ensures read { option_map expr_of result ≡ literal place word.now }
     ensures deep { IfSome result (λ x. 1 ≡ depth (expr_of x)) }
@@ -246,7 +246,7 @@ pub(crate) fn closed_of(alloc: Global, tokens: &[Token], room: u16, levels: u8) 
 
 // What a name in front begins: a variable, or a call.
 #[cycle(nest)]
-#[tactic(auto, using(jv_tree::proofs::ViewLaws::views), unfolding(jv_reading::specs::Exprs::named_at, jv_reading::specs::Exprs::arguments_at, jv_reading::specs::Exprs::named_with))]
+#[tactic(auto, using(jv_tree::proofs::ViewLaws::views), unfolding(jv_grammar::specs::Exprs::named_at, jv_grammar::specs::Exprs::arguments_at, jv_grammar::specs::Exprs::named_with))]
 fn named_of(
     alloc: Global,
     place: Place,
@@ -274,7 +274,7 @@ fn named_of(
 
 // What a word in front begins.
 #[cycle(nest)]
-#[tactic(auto, using(jv_tree::proofs::ViewLaws::views), unfolding(jv_reading::specs::Exprs::word_primary_at, jv_reading::specs::Exprs::named_at, jv_reading::specs::Exprs::word_with))]
+#[tactic(auto, using(jv_tree::proofs::ViewLaws::views), unfolding(jv_grammar::specs::Exprs::word_primary_at, jv_grammar::specs::Exprs::named_at, jv_grammar::specs::Exprs::word_with))]
 fn word_primary_of<'a>(
     alloc: Global,
     place: Place,
@@ -302,7 +302,7 @@ fn word_primary_of<'a>(
 }
 
 #[cycle(nest)]
-#[tactic(auto, using(jv_tree::proofs::ViewLaws::views), unfolding(jv_reading::specs::Exprs::primary_at, jv_reading::specs::Exprs::primary_with, jv_reading::specs::Exprs::signed_with, jv_reading::specs::Exprs::closed_at, jv_reading::specs::Exprs::word_primary_at))]
+#[tactic(auto, using(jv_tree::proofs::ViewLaws::views), unfolding(jv_grammar::specs::Exprs::primary_at, jv_grammar::specs::Exprs::primary_with, jv_grammar::specs::Exprs::signed_with, jv_grammar::specs::Exprs::closed_at, jv_grammar::specs::Exprs::word_primary_at))]
 fn primary_of(alloc: Global, tokens: &[Token], room: u16, levels: u8) -> Read<'_>
     ensures read { Gives (λ x. (expr_of x.0.value, x.2.now)) result (primary_at room levels tokens.now) }
     ensures deep { IfOk result (λ x. x.1 ≡ depth (expr_of x.0.value)) }
@@ -340,7 +340,7 @@ fn primary_of(alloc: Global, tokens: &[Token], room: u16, levels: u8) -> Read<'_
 
 // "." name [ "(" [args] ")" ] behind an expression.
 #[cycle(nest)]
-#[tactic(auto, using(jv_tree::proofs::ViewLaws::views), unfolding(jv_reading::specs::Exprs::tail_at, jv_reading::specs::Exprs::arguments_at, jv_reading::specs::Exprs::tail_with, jv_reading::specs::Exprs::member_with))]
+#[tactic(auto, using(jv_tree::proofs::ViewLaws::views), unfolding(jv_grammar::specs::Exprs::tail_at, jv_grammar::specs::Exprs::arguments_at, jv_grammar::specs::Exprs::tail_with, jv_grammar::specs::Exprs::member_with))]
 fn tail_of(
     alloc: Global,
     left: Box<Expr>,
@@ -387,7 +387,7 @@ pub(crate) fn post_of(alloc: Global, tokens: &[Token], room: u16, levels: u8) ->
 }
 
 #[cycle(nest)]
-#[tactic(auto, using(jv_tree::proofs::ViewLaws::views), unfolding(jv_reading::specs::Exprs::unary_at, jv_reading::specs::Exprs::post_at, jv_reading::specs::Exprs::unary_with))]
+#[tactic(auto, using(jv_tree::proofs::ViewLaws::views), unfolding(jv_grammar::specs::Exprs::unary_at, jv_grammar::specs::Exprs::post_at, jv_grammar::specs::Exprs::unary_with))]
 fn unary_of(alloc: Global, tokens: &[Token], room: u16, levels: u8) -> Read<'_>
     ensures read { Gives (λ x. (expr_of x.0.value, x.2.now)) result (unary_at room levels tokens.now) }
     ensures deep { IfOk result (λ x. x.1 ≡ depth (expr_of x.0.value)) }
@@ -408,7 +408,7 @@ fn unary_of(alloc: Global, tokens: &[Token], room: u16, levels: u8) -> Read<'_>
 
 // An operator and the part after it, behind the part before it.
 #[cycle(nest)]
-#[tactic(auto, using(jv_tree::proofs::ViewLaws::views), unfolding(jv_reading::specs::Exprs::joined_at, jv_reading::specs::Exprs::binary_at, jv_reading::specs::Exprs::joined_with))]
+#[tactic(auto, using(jv_tree::proofs::ViewLaws::views), unfolding(jv_grammar::specs::Exprs::joined_at, jv_grammar::specs::Exprs::binary_at, jv_grammar::specs::Exprs::joined_with))]
 fn joined_of(
     alloc: Global,
     left: Box<Expr>,

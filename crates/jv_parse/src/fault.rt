@@ -7,7 +7,7 @@ use mg_text::{Memory, Place, Text};
 pub enum ParseFault {
     /// A token is a word of Java that isn't supported, or one of `? & | ^ ~`. The first one is
     /// told, with its text.
-    Unsupported { place: Place, text: Text },
+    Unsupported { place: Place, name: Text },
     /// The tokens spell no file. The place is that of the first token such that the tokens up to
     /// it begin no file, or of a statement that stands too deep. Where the tokens end too early
     /// it is that of the last token, and the file's start where there is none.

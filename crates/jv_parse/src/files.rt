@@ -5,7 +5,7 @@ ghost use Rattle.std.specs.Prelude.{◌≡◌, Some, IfSome, is_some, map, codes
 ghost use Rattle.jv_tree.specs.View.{decl_of, file_of};
 ghost use Rattle.jv_parse.specs.inner.Gives.{Gives};
 ghost use Rattle.jv_parse.specs.inner.Rests.{rest_of, imports_at, decls_at};
-ghost use Rattle.jv_reading.specs.Files.{is_more_steps, next_step_at, path_at, package_at, star_at, import_at, file_at};
+ghost use Rattle.jv_grammar.specs.Files.{is_more_steps, next_step_at, path_at, package_at, star_at, import_at, file_at};
 
 use crate::decls::decl_of;
 use crate::halt::Halt;
@@ -15,7 +15,7 @@ use mg_text::List;
 use std::alloc::Global;
 
 // The tokens behind "." and a name, where these come next.
-#[tactic(auto, unfolding(jv_reading::specs::Files::next_step_at))]
+#[tactic(auto, unfolding(jv_grammar::specs::Files::next_step_at))]
 fn past_step(tokens: &[Token]) -> Option<&[Token]>
     ensures it { IfSome result (λ r. rest_of (next_step_at tokens.now) ≡ Some r.now) }
     ensures comes { is_some result ≡ is_more_steps tokens.now }
@@ -37,7 +37,7 @@ fn path_of(tokens: &[Token]) -> Result<&[Token], Halt>
 }
 
 // [ "package" path ";" ]
-#[tactic(auto, unfolding(jv_reading::specs::Files::package_at))]
+#[tactic(auto, unfolding(jv_grammar::specs::Files::package_at))]
 fn package_of(tokens: &[Token]) -> Result<&[Token], Halt>
     ensures { Gives (λ x. x.now) result (package_at tokens.now) }
 {
@@ -50,7 +50,7 @@ fn package_of(tokens: &[Token]) -> Result<&[Token], Halt>
 }
 
 // [ "." "*" ] ";"
-#[tactic(auto, unfolding(jv_reading::specs::Files::star_at))]
+#[tactic(auto, unfolding(jv_grammar::specs::Files::star_at))]
 fn star_of(tokens: &[Token]) -> Result<&[Token], Halt>
     ensures { Gives (λ x. x.now) result (star_at tokens.now) }
 {
@@ -64,7 +64,7 @@ fn star_of(tokens: &[Token]) -> Result<&[Token], Halt>
 }
 
 // "import" path [ "." "*" ] ";"
-#[tactic(auto, unfolding(jv_reading::specs::Files::import_at))]
+#[tactic(auto, unfolding(jv_grammar::specs::Files::import_at))]
 fn import_of(tokens: &[Token]) -> Result<&[Token], Halt>
     ensures { Gives (λ x. x.now) result (rest_of (import_at tokens.now)) }
 {
@@ -100,7 +100,7 @@ fn decls_of(alloc: Global, tokens: &[Token]) -> Result<(List<Decl>, &[Token]), H
 }
 
 // [ package ] { import } { class | enum }
-#[tactic(auto, unfolding(jv_reading::specs::Files::file_at))]
+#[tactic(auto, unfolding(jv_grammar::specs::Files::file_at))]
 pub(crate) fn file_of(alloc: Global, tokens: &[Token]) -> Result<File, Halt>
     ensures { Gives file_of result (file_at tokens.now) }
 {

@@ -46,9 +46,9 @@ fn place_at(file: u32, tokens: &[Token], left: usize) -> Place {
 fn parsed_of(alloc: Global, file: u32, tokens: &[Token]) -> Result<File, ParseFault>
     ensures { Parsed result tokens.now }
 {
-    if let Some((place, text)) = first_unsupported(tokens) {
-        let text = Text::of(alloc, text)?;
-        return Err(ParseFault::Unsupported { place, text });
+    if let Some((place, name)) = first_unsupported(tokens) {
+        let name = Text::of(alloc, name)?;
+        return Err(ParseFault::Unsupported { place, name });
     }
     match file_of(alloc, tokens) {
         Ok(tree) => Ok(tree),

@@ -6,8 +6,8 @@ ghost use Rattle.jv_tree.specs.Files.{fields_among, methods_among};
 ghost use Rattle.jv_tree.specs.View.{expr_of, field_of, method_of};
 ghost use Rattle.jv_parse.specs.inner.Gives.{Gives};
 ghost use Rattle.jv_parse.specs.inner.Members.{behind_of, behind_at, value_at, member_of, sorted_at, sorted_members};
-ghost use Rattle.jv_reading.specs.Files.{result_at, param_at, params_at, is_args, args_at, params_of_at, is_void, is_main};
-ghost use Rattle.jv_reading.specs.Files.{member_at};
+ghost use Rattle.jv_grammar.specs.Files.{result_at, param_at, params_at, is_args, args_at, params_of_at, is_void, is_main};
+ghost use Rattle.jv_grammar.specs.Files.{member_at};
 
 use crate::assigns::{after_final, ended_of, type_of};
 use crate::halt::Halt;
@@ -48,7 +48,7 @@ pub(crate) struct Members {
 }
 
 // "void" | type
-#[tactic(auto, unfolding(jv_reading::specs::Files::result_at))]
+#[tactic(auto, unfolding(jv_grammar::specs::Files::result_at))]
 fn result_of(tokens: &[Token]) -> Result<(TypeName, &[Token]), Halt>
     ensures { Gives (λ x. (x.0, x.1.now)) result (result_at tokens.now) }
 {
@@ -59,7 +59,7 @@ fn result_of(tokens: &[Token]) -> Result<(TypeName, &[Token]), Halt>
 }
 
 // [ "final" ] type name
-#[tactic(auto, unfolding(jv_reading::specs::Files::param_at))]
+#[tactic(auto, unfolding(jv_grammar::specs::Files::param_at))]
 fn param_of(tokens: &[Token]) -> Result<(Param, &[Token]), Halt>
     ensures { Gives (λ x. (x.0, x.1.now)) result (param_at tokens.now) }
 {
@@ -94,7 +94,7 @@ fn is_args(tokens: &[Token]) -> bool
 }
 
 // "String" "[" "]" name
-#[tactic(auto, unfolding(jv_reading::specs::Files::args_at))]
+#[tactic(auto, unfolding(jv_grammar::specs::Files::args_at))]
 fn args_of(tokens: &[Token]) -> Result<&[Token], Halt>
     ensures { Gives (λ x. x.now) result (args_at tokens.now) }
 {
@@ -105,7 +105,7 @@ fn args_of(tokens: &[Token]) -> Result<&[Token], Halt>
 }
 
 // [ params ] of `main`, or of another method; and whether it is that of `main`.
-#[tactic(auto, unfolding(jv_reading::specs::Files::params_of_at))]
+#[tactic(auto, unfolding(jv_grammar::specs::Files::params_of_at))]
 fn params_in(
     alloc: Global,
     tokens: &[Token],
@@ -145,7 +145,7 @@ fn is_main(is_static: bool, ty: &TypeName, name: &Text) -> bool
 }
 
 // "(" [ params ] ")" block, behind the name of a method.
-#[tactic(auto, unfolding(jv_reading::specs::Stmts::items_at, crate::specs::inner::Members::behind_at))]
+#[tactic(auto, unfolding(jv_grammar::specs::Stmts::items_at, crate::specs::inner::Members::behind_at))]
 fn behind_of(alloc: Global, tokens: &[Token], main: bool) -> Result<(Behind, &[Token]), Halt>
     ensures { Gives (λ x. (behind_of x.0, x.1.now)) result (behind_at main tokens.now) }
 {
@@ -178,7 +178,7 @@ fn value_of(alloc: Global, tokens: &[Token]) -> Result<(Option<Expr>, &[Token]),
 }
 
 // A member with its modifiers: a method, or a field.
-#[tactic(auto, using(crate::proofs::MemberTurns::method_is, crate::proofs::MemberTurns::field_is), unfolding(jv_reading::specs::Files::member_at, jv_reading::specs::Files::member_with))]
+#[tactic(auto, using(crate::proofs::MemberTurns::method_is, crate::proofs::MemberTurns::field_is), unfolding(jv_grammar::specs::Files::member_at, jv_grammar::specs::Files::member_with))]
 fn member_of(alloc: Global, tokens: &[Token]) -> Result<(Member, &[Token]), Halt>
     ensures { Gives (λ x. (member_of x.0, x.1.now)) result (member_at tokens.now) }
 {

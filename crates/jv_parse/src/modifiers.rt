@@ -4,7 +4,7 @@
 ghost use Rattle.std.specs.Prelude.{◌≡◌};
 ghost use Rattle.jv_tree.specs.Tokens.{is_among};
 ghost use Rattle.jv_tree.specs.Files.{is_kind_among, modifiers};
-ghost use Rattle.jv_reading.specs.Files.{after_mods, static_mods};
+ghost use Rattle.jv_grammar.specs.Files.{after_mods, static_mods};
 ghost use Rattle.jv_parse.specs.inner.Modifiers.{words_of};
 
 use jv_tree::{Token, TokenKind};

@@ -6,9 +6,9 @@ ghost use Rattle.jv_tree.specs.View.{expr_of, stmt_of, group_of};
 ghost use Rattle.jv_parse.specs.inner.Behind.{break_behind, continue_behind, return_behind};
 ghost use Rattle.jv_parse.specs.inner.Gives.{Gives};
 ghost use Rattle.jv_parse.specs.inner.Loops.{while_at, do_at};
-ghost use Rattle.jv_reading.specs.Stmts.{is_typed, is_decl, is_case, goes_on, case_at, cases_at, jump_at};
-ghost use Rattle.jv_reading.specs.Stmts.{empty_at, is_label, loop_place, loop_label, stmt_at, item_with, items_with, block_with, if_with};
-ghost use Rattle.jv_reading.specs.Stmts.{loop_with, labelled_with, group_with, groups_with, switch_with, simple_with};
+ghost use Rattle.jv_grammar.specs.Stmts.{is_typed, is_decl, is_case, goes_on, case_at, cases_at, jump_at};
+ghost use Rattle.jv_grammar.specs.Stmts.{empty_at, is_label, loop_place, loop_label, stmt_at, item_with, items_with, block_with, if_with};
+ghost use Rattle.jv_grammar.specs.Stmts.{loop_with, labelled_with, group_with, groups_with, switch_with, simple_with};
 
 use crate::assigns::{ReadStmt, assign_of, cond_of, ended_of, is_assign, local_of};
 use crate::evaluations::evaluation_of;
@@ -64,7 +64,7 @@ fn is_label(tokens: &[Token]) -> bool
 }
 
 // "case" name ":" | "default" ":"
-#[tactic(auto, unfolding(jv_reading::specs::Stmts::case_at))]
+#[tactic(auto, unfolding(jv_grammar::specs::Stmts::case_at))]
 fn case_of(tokens: &[Token]) -> Result<(Option<Text>, &[Token]), Halt>
     ensures { Gives (λ x. (x.0, x.1.now)) result (case_at tokens.now) }
 {
@@ -94,7 +94,7 @@ fn cases_of(alloc: Global, tokens: &[Token]) -> Result<(List<Option<Text>>, &[To
 }
 
 // [ name ] ";"
-#[tactic(auto, unfolding(jv_reading::specs::Stmts::jump_at))]
+#[tactic(auto, unfolding(jv_grammar::specs::Stmts::jump_at))]
 fn jump_of(tokens: &[Token]) -> Result<(Option<Text>, &[Token]), Halt>
     ensures { Gives (λ x. (x.0, x.1.now)) result (jump_at tokens.now) }
 {
@@ -141,7 +141,7 @@ fn return_of(alloc: Global, place: Place, tokens: &[Token], levels: u8) -> ReadS
     Ok((Stmt { place, kind }, rest))
 }
 
-#[tactic(auto, using(jv_tree::proofs::ViewLaws::views), unfolding(jv_reading::specs::Stmts::empty_at))]
+#[tactic(auto, using(jv_tree::proofs::ViewLaws::views), unfolding(jv_grammar::specs::Stmts::empty_at))]
 fn empty_of(tokens: &[Token]) -> ReadStmt<'_>
     ensures { Gives (λ x. (stmt_of x.0, x.1.now)) result (empty_at tokens.now) }
 {
@@ -151,7 +151,7 @@ fn empty_of(tokens: &[Token]) -> ReadStmt<'_>
 }
 
 // A statement that holds no other one.
-#[tactic(auto, unfolding(jv_reading::specs::Stmts::simple_with, jv_reading::specs::Stmts::break_at, jv_reading::specs::Stmts::continue_at, jv_reading::specs::Stmts::return_at))]
+#[tactic(auto, unfolding(jv_grammar::specs::Stmts::simple_with, jv_grammar::specs::Stmts::break_at, jv_grammar::specs::Stmts::continue_at, jv_grammar::specs::Stmts::return_at))]
 fn simple_of(alloc: Global, tokens: &[Token], levels: u8) -> ReadStmt<'_>
     requires { levels ≤ 200 }
     ensures { Gives (λ x. (stmt_of x.0, x.1.now)) result (simple_with levels (stmt_at levels) tokens.now) }
@@ -173,7 +173,7 @@ fn simple_of(alloc: Global, tokens: &[Token], levels: u8) -> ReadStmt<'_>
 
 // A declaration or a statement.
 #[cycle(nest_stmts)]
-#[tactic(auto, unfolding(jv_reading::specs::Stmts::item_with))]
+#[tactic(auto, unfolding(jv_grammar::specs::Stmts::item_with))]
 fn item_of(alloc: Global, tokens: &[Token], levels: u8) -> ReadStmt<'_>
     requires { levels ≤ 200 }
     ensures { Gives (λ x. (stmt_of x.0, x.1.now)) result (item_with levels (stmt_at levels) tokens.now) }
@@ -205,7 +205,7 @@ pub(crate) fn items_of(
 }
 
 #[cycle(nest_stmts)]
-#[tactic(auto, using(jv_tree::proofs::ViewLaws::views), unfolding(jv_reading::specs::Stmts::block_with))]
+#[tactic(auto, using(jv_tree::proofs::ViewLaws::views), unfolding(jv_grammar::specs::Stmts::block_with))]
 fn block_of(alloc: Global, tokens: &[Token], levels: u8) -> ReadStmt<'_>
     requires { levels ≤ 200 }
     ensures { Gives (λ x. (stmt_of x.0, x.1.now)) result (block_with levels (stmt_at levels) tokens.now) }
@@ -229,7 +229,7 @@ fn inner_of(alloc: Global, tokens: &[Token], levels: u8) -> Result<(Box<Stmt>, &
 }
 
 #[cycle(nest_stmts)]
-#[tactic(auto, using(jv_tree::proofs::ViewLaws::views), unfolding(jv_reading::specs::Stmts::if_with, jv_reading::specs::Stmts::else_with))]
+#[tactic(auto, using(jv_tree::proofs::ViewLaws::views), unfolding(jv_grammar::specs::Stmts::if_with, jv_grammar::specs::Stmts::else_with))]
 fn if_of(alloc: Global, tokens: &[Token], levels: u8) -> ReadStmt<'_>
     requires { levels ≤ 200 }
     ensures { Gives (λ x. (stmt_of x.0, x.1.now)) result (if_with levels (stmt_at levels) tokens.now) }
@@ -289,7 +289,7 @@ fn do_of(alloc: Global, tokens: &[Token], levels: u8) -> ReadLoop<'_>
 
 // A loop behind its label, where it has one: the place of the label, and its name.
 #[cycle(nest_stmts)]
-#[tactic(auto, using(jv_tree::proofs::ViewLaws::views, crate::proofs::StmtTurns::while_is, crate::proofs::StmtTurns::do_is), unfolding(jv_reading::specs::Stmts::loop_with))]
+#[tactic(auto, using(jv_tree::proofs::ViewLaws::views, crate::proofs::StmtTurns::while_is, crate::proofs::StmtTurns::do_is), unfolding(jv_grammar::specs::Stmts::loop_with))]
 fn loop_of(
     alloc: Global,
     tokens: &[Token],
@@ -312,7 +312,7 @@ fn loop_of(
 }
 
 #[cycle(nest_stmts)]
-#[tactic(auto, using(jv_tree::proofs::ViewLaws::views), unfolding(jv_reading::specs::Stmts::group_with))]
+#[tactic(auto, using(jv_tree::proofs::ViewLaws::views), unfolding(jv_grammar::specs::Stmts::group_with))]
 fn group_of(alloc: Global, tokens: &[Token], levels: u8) -> Result<(Group, &[Token]), Halt>
     requires { levels ≤ 200 }
     ensures { Gives (λ x. (group_of x.0, x.1.now)) result (group_with levels (stmt_at levels) tokens.now) }
@@ -343,7 +343,7 @@ fn groups_of(alloc: Global, tokens: &[Token], levels: u8) -> Result<(List<Group>
 }
 
 #[cycle(nest_stmts)]
-#[tactic(auto, using(jv_tree::proofs::ViewLaws::views), unfolding(jv_reading::specs::Stmts::switch_with))]
+#[tactic(auto, using(jv_tree::proofs::ViewLaws::views), unfolding(jv_grammar::specs::Stmts::switch_with))]
 fn switch_of(alloc: Global, tokens: &[Token], levels: u8) -> ReadStmt<'_>
     requires { levels ≤ 200 }
     ensures { Gives (λ x. (stmt_of x.0, x.1.now)) result (switch_with levels (stmt_at levels) tokens.now) }
@@ -359,7 +359,7 @@ fn switch_of(alloc: Global, tokens: &[Token], levels: u8) -> ReadStmt<'_>
 
 // A statement that is at most so deep.
 #[cycle(nest_stmts)]
-#[tactic(auto, unfolding(jv_reading::specs::Stmts::stmt_at, jv_reading::specs::Stmts::stmt_with, jv_reading::specs::Stmts::labelled_with))]
+#[tactic(auto, unfolding(jv_grammar::specs::Stmts::stmt_at, jv_grammar::specs::Stmts::stmt_with, jv_grammar::specs::Stmts::labelled_with))]
 fn stmt_of(alloc: Global, tokens: &[Token], levels: u8) -> ReadStmt<'_>
     requires { levels ≤ 200 }
     ensures { Gives (λ x. (stmt_of x.0, x.1.now)) result (stmt_at levels tokens.now) }

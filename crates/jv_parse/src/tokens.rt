@@ -5,8 +5,8 @@ ghost use Rattle.jv_tree.specs.Tokens.{is_name};
 ghost use Rattle.jv_tree.specs.Expressions.{starts_number};
 ghost use Rattle.jv_parse.specs.inner.Gives.{Gives};
 ghost use Rattle.jv_parse.specs.inner.Rests.{rest_of};
-ghost use Rattle.jv_reading.specs.Base.{sign_at, is_sign, word_at, is_word, name_at, is_named};
-ghost use Rattle.jv_reading.specs.Files.{behind};
+ghost use Rattle.jv_grammar.specs.Base.{sign_at, is_sign, word_at, is_word, name_at, is_named};
+ghost use Rattle.jv_grammar.specs.Files.{behind};
 
 use crate::halt::Halt;
 use jv_tree::{Sign, Token, TokenKind};

@@ -16,7 +16,7 @@ use Rattle.jv_lex.specs.declared.LexFault.{LexFault}
 use Rattle.jv_lex.specs.declared.LexFault.TheVariants as lexes
 use Rattle.jv_lex.proofs.Cuts as cuts
 use Rattle.jv_lex.proofs.Cuts.{same_tokens}
-use Rattle.jv_reading.proofs.Decls.{file_unique}
+use Rattle.jv_grammar.proofs.Decls.{file_unique}
 use Rattle.jv_parse.specs.Unsupported.{IsUnsupported}
 use Rattle.jv_parse.proofs.Sought.{single}
 use Rattle.jv_read.specs.declared.fault.JavaFault.{JavaFault}

@@ -58,7 +58,7 @@ impl From<ParseFault> for JavaFault {
 
     fn from(fault: ParseFault) -> JavaFault {
         match fault {
-            ParseFault::Unsupported { place, text } => JavaFault::Unsupported { place, name: text },
+            ParseFault::Unsupported { place, name } => JavaFault::Unsupported { place, name },
             ParseFault::Syntax { place } => JavaFault::Syntax { place },
             ParseFault::Memory => JavaFault::Memory,
         }

@@ -20,10 +20,10 @@ use Rattle.scr_trace.specs.declared.standing.Standing.TheVariants as standings
 use Rattle.scr_trace.specs.declared.walk.Walk.{Walk}
 use Rattle.scr_trace.specs.Positions.{ComesTo, at_state, at_end, silently}
 use Rattle.scr_trace.specs.Onward.{Onward, steps_at, Ahead, settled, behind}
-use Rattle.scr_trace.specs.Walking.{graph_of, Stands, Offered, calls_in, answered, calls_offered}
+use Rattle.scr_trace.specs.Walking.{graph_of, Stands, Offered, calls_in, answered, calls_offered, methods_of}
 use Rattle.scr_trace.specs.inner.Goes.{Among}
 use Rattle.scr_trace.specs.inner.Laying.{Work, Cell, Draft}
-use Rattle.scr_trace.specs.inner.Offering.{edge_calls, labels_in, methods_of, messages_in, AreApart, SamePeer}
+use Rattle.scr_trace.specs.inner.Offering.{edge_calls, labels_in, messages_in, AreApart, SamePeer}
 use Rattle.scr_trace.specs.inner.View.{draft_of, drafts_of, cell_of, work_of, act_of, edge_of, edges_of}
 use Rattle.scr_trace.proofs.Following.{AllSettled, step_listed, listed_step, settled_at, edges_there, position_there, step_of_edge}
 use Rattle.scr_trace.proofs.Following.{steps_from, steps_to}

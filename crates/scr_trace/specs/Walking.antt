@@ -67,6 +67,9 @@ abbrev pub calls_in : Name → List Name → List Call
 calls_in method [] = record { method = method; answer = None } ∷ []
 calls_in method (label ∷ labels) = answered method (label ∷ labels)
 
+abbrev pub methods_of : List Offer → List Name
+methods_of offers = map (λ o. o.method) offers
+
 abbrev pub calls_offered : List Offer → List Call
 calls_offered [] = []
 calls_offered (offer ∷ offers) = calls_in offer.method offer.answers.items ++ calls_offered offers

@@ -2,8 +2,8 @@
 
 ghost use Rattle.std.specs.Prelude.{◌≡◌, ◌≤◌, ℕ, IfOk, Some, None, length, map};
 ghost use Rattle.scr_tree.specs.Local.{tree_of};
-ghost use Rattle.scr_trace.specs.Walking.{calls_offered};
-ghost use Rattle.scr_trace.specs.inner.Offering.{AreApart, SamePeer, edge_calls, labels_in, messages_in, methods_of};
+ghost use Rattle.scr_trace.specs.Walking.{calls_offered, methods_of};
+ghost use Rattle.scr_trace.specs.inner.Offering.{AreApart, SamePeer, edge_calls, labels_in, messages_in};
 ghost use Rattle.scr_trace.specs.inner.View.{cell_of, drafts_of, edge_of, edges_of, work_of};
 
 use crate::arrow::{Arrow, Exits};

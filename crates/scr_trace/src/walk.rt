@@ -57,10 +57,9 @@ impl From<Memory> for StepFault {
 
 impl<'a> Walk<'a> {
     ghost use Rattle.scr_trace.specs.declared.walk.StepFault.TheVariants as faults;
-    ghost use Rattle.scr_trace.specs.Walking.{Stands, StepsOn, HasTaken, Offered, Calls, call_said, calls_offered};
+    ghost use Rattle.scr_trace.specs.Walking.{Stands, StepsOn, HasTaken, Offered, Calls, call_said, calls_offered, methods_of};
     ghost use Rattle.scr_tree.specs.Valid.{AreDistinct};
     ghost use Rattle.scr_trace.specs.inner.Goes.{Goes};
-    ghost use Rattle.scr_trace.specs.inner.Offering.{methods_of};
 
     /// A walk that stands at the start of a protocol, and has taken no calls.
     /// The only error is `Memory`, where there is too little of it.

@@ -3,7 +3,7 @@ use Rattle.std.specs.Prelude.{◌≡◌, ℕ, List, [], ◌∷◌, None, codes}
 use Rattle.mg_text.specs.Places.{start_of}
 use Rattle.mg_text.specs.declared.place.Place.{Place}
 use Rattle.cls_tree.specs.Layout.{class_bytes}
-use Rattle.cls_tree.specs.Emitted.{class_for}
+use Rattle.cls_tree.specs.Tree as file
 use Rattle.jv_core.specs.declared.program.CoreType.TheVariants as types
 use Rattle.jv_core.specs.declared.program.MethodKind.TheVariants as kinds
 use Rattle.jv_core.specs.Tree.{Text, Print, NoStmt, Then, Class, Method, Program}
@@ -56,9 +56,9 @@ hello_bytes =
     1 ∷ 0 ∷ 7 ∷ 0 ∷ 0 ∷ 0 ∷ 21 ∷ 0 ∷ 2 ∷ 0 ∷ 1 ∷ 0 ∷ 0 ∷ 0 ∷ 9 ∷ 178 ∷ 0 ∷ 13 ∷ 18 ∷ 15 ∷ 182 ∷ 0 ∷ 21 ∷ 177 ∷ 0 ∷ 0 ∷ 0 ∷ 0 ∷
     0 ∷ 0 ∷ []
 
--- It has one class file, which is that of a class that prints this text; these are its bytes; and it links to the program that is
--- expected.
+-- It has one class file; these are its bytes; and it links to the program that is expected.
 pub record HelloIsMade : Type 0 where
-  pub classes : AreClasses hello (class_for (codes "Hello") (codes "hello" ∷ []) ∷ [])
-  pub bytes : class_bytes (class_for (codes "Hello") (codes "hello" ∷ [])) ≡ hello_bytes
+  pub made : file.Class
+  pub classes : AreClasses hello (made ∷ [])
+  pub bytes : class_bytes made ≡ hello_bytes
   pub links : AllLink hello

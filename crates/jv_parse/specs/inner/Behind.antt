@@ -5,8 +5,8 @@ use Rattle.mg_read.specs.Reader.{Reader, ◌>>=◌}
 use Rattle.jv_tree.specs.declared.token.Sign.TheVariants as signs
 use Rattle.jv_tree.specs.declared.token.Token.{Token}
 use Rattle.jv_tree.specs.Source.{Stmt, Break, Continue, Return}
-use Rattle.jv_reading.specs.Base.{sign_at, is_sign}
-use Rattle.jv_reading.specs.Stmts.{jump_at, ended_at}
+use Rattle.jv_grammar.specs.Base.{sign_at, is_sign}
+use Rattle.jv_grammar.specs.Stmts.{jump_at, ended_at}
 
 abbrev pub break_behind : Place → Reader Token Stmt
 break_behind p ts = jump_at ts >>= λ l. Some (Break p l.0, l.1)

@@ -7,8 +7,8 @@ use Rattle.jv_tree.specs.declared.token.Sign.TheVariants as signs
 use Rattle.jv_tree.specs.declared.token.Token.{Token}
 use Rattle.jv_tree.specs.Source.{Expr, Stmt, place_of}
 use Rattle.jv_tree.specs.Sugar.{changed, one_at}
-use Rattle.jv_reading.specs.Base.{sign_at}
-use Rattle.jv_reading.specs.Stmts.{ended_at, assigned}
+use Rattle.jv_grammar.specs.Base.{sign_at}
+use Rattle.jv_grammar.specs.Stmts.{ended_at, assigned}
 
 -- expr ";", behind "="
 abbrev pub plain_at : ℕ → Expr → Reader Token Stmt

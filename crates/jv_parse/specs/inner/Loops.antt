@@ -6,8 +6,8 @@ use Rattle.mg_read.specs.Reader.{Reader, ◌>>=◌}
 use Rattle.jv_tree.specs.declared.token.Sign.TheVariants as signs
 use Rattle.jv_tree.specs.declared.token.Token.{Token}
 use Rattle.jv_tree.specs.Source.{Expr, Stmt, While, Do}
-use Rattle.jv_reading.specs.Base.{sign_at, word_at}
-use Rattle.jv_reading.specs.Stmts.{cond_at, loop_place, loop_label}
+use Rattle.jv_grammar.specs.Base.{sign_at, word_at}
+use Rattle.jv_grammar.specs.Stmts.{cond_at, loop_place, loop_label}
 
 -- the place of a loop's first token, its test and its body
 abbrev pub Loop : Type 0

@@ -10,9 +10,9 @@ use Rattle.jv_tree.specs.declared.tree.Param.{Param}
 use Rattle.jv_tree.specs.Source.{Expr, Stmts, Field, Method, Class, Enum}
 use Rattle.jv_tree.specs.Files.{Member, FieldMember, MethodMember, fields_among, methods_among}
 use Rattle.jv_tree.specs.View.{stmt_of, stmts_of, field_of, method_of}
-use Rattle.jv_reading.specs.Base.{sign_at, is_sign, word_at, name_at}
-use Rattle.jv_reading.specs.Stmts.{ended_at, items_at}
-use Rattle.jv_reading.specs.Files.{after_mods, class_words, annotation_at, params_of_at, not_closed, member_at, names_at, past}
+use Rattle.jv_grammar.specs.Base.{sign_at, is_sign, word_at, name_at}
+use Rattle.jv_grammar.specs.Stmts.{ended_at, items_at}
+use Rattle.jv_grammar.specs.Files.{after_mods, class_words, annotation_at, params_of_at, not_closed, member_at, names_at, past}
 use Rattle.jv_parse.specs.declared.members.Behind.{Behind as KeptBehind}
 use Rattle.jv_parse.specs.declared.members.Member.{Member as KeptMember}
 use Rattle.jv_parse.specs.declared.members.Member.TheVariants as kept

@@ -2,7 +2,7 @@
 use Rattle.std.specs.Prelude.{List, [], ◌∷◌, codes}
 use Rattle.mg_text.specs.Call.{Name}
 use Rattle.jv_tree.specs.Files.{modifiers}
-use Rattle.jv_reading.specs.Files.{class_words, enum_words}
+use Rattle.jv_grammar.specs.Files.{class_words, enum_words}
 use Rattle.jv_parse.specs.declared.modifiers.Modifiers.{Modifiers}
 use Rattle.jv_parse.specs.declared.modifiers.Modifiers.TheVariants as kept
 

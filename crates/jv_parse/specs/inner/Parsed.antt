@@ -5,7 +5,7 @@ use Rattle.mg_read.specs.First.{Judged}
 use Rattle.jv_tree.specs.declared.token.Token.{Token}
 use Rattle.jv_tree.specs.declared.tree.File.{File as KeptFile}
 use Rattle.jv_tree.specs.View.{file_of}
-use Rattle.jv_reading.specs.Files.{file_at}
+use Rattle.jv_grammar.specs.Files.{file_at}
 use Rattle.jv_parse.specs.Unsupported.{IsUnsupported}
 use Rattle.jv_parse.specs.declared.fault.ParseFault.{ParseFault}
 use Rattle.jv_parse.specs.declared.fault.ParseFault.TheVariants as faults

@@ -3,8 +3,8 @@ use Rattle.std.specs.Prelude.{List, Option, Some, codes}
 use Rattle.mg_read.specs.Reader.{Reader, ◌>>=◌, all_of}
 use Rattle.jv_tree.specs.declared.token.Token.{Token}
 use Rattle.jv_tree.specs.Source.{Decl}
-use Rattle.jv_reading.specs.Base.{is_word}
-use Rattle.jv_reading.specs.Files.{import_at, is_some_token, decl_at}
+use Rattle.jv_grammar.specs.Base.{is_word}
+use Rattle.jv_grammar.specs.Files.{import_at, is_some_token, decl_at}
 
 -- what comes behind something that is read and not kept
 abbrev pub rest_of : {T A : Type 0} → Option (A × List T) → Option (List T)

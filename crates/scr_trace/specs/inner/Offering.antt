@@ -6,6 +6,7 @@ use Rattle.scr_tree.specs.CallNames.{message_call, call_of}
 use Rattle.scr_trace.specs.declared.arrow.Arrow.{Arrow}
 use Rattle.scr_trace.specs.declared.call.Offer.{Offer}
 use Rattle.scr_trace.specs.Graph.{Edge}
+use Rattle.scr_trace.specs.Walking.{methods_of}
 use Rattle.scr_trace.specs.inner.Goes.{Among}
 use Rattle.scr_trace.specs.inner.Laying.{Draft}
 
@@ -18,9 +19,6 @@ labels_in drafts = map (λ d. d.message.label) drafts
 -- all messages are from one peer
 abbrev pub SamePeer : List Arrow → Type 0
 SamePeer arrows = (a b : Arrow) → Among arrows a → Among arrows b → a.message.now.peer ≡ b.message.now.peer
-
-abbrev pub methods_of : List Offer → List Name
-methods_of offers = map (λ o. o.method) offers
 
 abbrev pub messages_in : List Draft → List Name
 messages_in drafts = map (λ d. message_call (message_of d.message)) drafts

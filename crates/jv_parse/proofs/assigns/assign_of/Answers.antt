@@ -1,7 +1,7 @@
 -- By `grind` at once, which is shorter than a search.
 use Rattle.std.proofs.Common.{arith}
 use Rattle.std.proofs.lemmas.Grind.{common_steps}
-use Rattle.jv_reading.specs.Stmts.{assign_at}
+use Rattle.jv_grammar.specs.Stmts.{assign_at}
 use Rattle.jv_parse.proofs.assigns.assign_of.Goals as goal
 
 pub change_of-requires-clause-read : goal.change_of-requires-clause-read

@@ -1,7 +1,7 @@
 -- By `grind` at once, which is shorter than a search.
 use Rattle.std.proofs.Common.{arith}
 use Rattle.jv_tree.proofs.ViewLaws.{views}
-use Rattle.jv_reading.specs.Stmts.{change_at}
+use Rattle.jv_grammar.specs.Stmts.{change_at}
 use Rattle.jv_parse.proofs.assigns.change_of.Goals as goal
 
 pub returns-in-Some-counter_of : goal.returns-in-Some-counter_of

@@ -1,7 +1,7 @@
 -- By `grind` at once, which is shorter than a search.
 use Rattle.std.proofs.Common.{arith}
 use Rattle.jv_tree.proofs.ViewLaws.{views}
-use Rattle.jv_reading.specs.Stmts.{target_at}
+use Rattle.jv_grammar.specs.Stmts.{target_at}
 use Rattle.jv_parse.proofs.assigns.target_of.Goals as goal
 
 pub leaf-requires : goal.leaf-requires

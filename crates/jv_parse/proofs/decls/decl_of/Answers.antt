@@ -1,6 +1,6 @@
 -- By `grind` at once, which is shorter than a search.
 use Rattle.std.proofs.Common.{arith}
-use Rattle.jv_reading.specs.Files.{decl_at, enum_at}
+use Rattle.jv_grammar.specs.Files.{decl_at, enum_at}
 use Rattle.jv_parse.proofs.MemberTurns.{class_is}
 use Rattle.jv_parse.proofs.decls.decl_of.Goals as goal
 

@@ -1,8 +1,8 @@
 use Rattle.std.proofs.Common.{◌≡◌, ◌∷◌, [], refl, sym}
 use Rattle.std.proofs.lemmas.Result.{err_from_is_err_and}
 use Rattle.mg_read.proofs.Loop.{Left-more, Left-done}
-use Rattle.jv_reading.specs.Files.{is_more_names, next_name_at, names_at}
-use Rattle.jv_reading.proofs.Decls.{next_name_shorter}
+use Rattle.jv_grammar.specs.Files.{is_more_names, next_name_at, names_at}
+use Rattle.jv_grammar.proofs.Decls.{next_name_shorter}
 use Rattle.jv_parse.proofs.FileTurns.{names_start, names_fail}
 use Rattle.jv_parse.proofs.decls.names_of.Goals as goal
 

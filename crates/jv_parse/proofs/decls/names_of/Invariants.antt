@@ -1,6 +1,6 @@
 use Rattle.std.proofs.Common.{length}
 use Rattle.mg_read.proofs.Loop.{Left}
-use Rattle.jv_reading.specs.Files.{is_more_names, next_name_at, names_at}
+use Rattle.jv_grammar.specs.Files.{is_more_names, next_name_at, names_at}
 use Rattle.jv_parse.proofs.decls.names_of.Given as goal
 
 abbrev pub invariant-more : goal.invariant-more

@@ -1,7 +1,7 @@
 -- By `grind` at once, which is shorter than a search.
 use Rattle.std.proofs.Common.{arith}
 use Rattle.std.proofs.lemmas.Grind.{common_steps}
-use Rattle.jv_reading.specs.Stmts.{evaluation_at}
+use Rattle.jv_grammar.specs.Stmts.{evaluation_at}
 use Rattle.jv_parse.proofs.evaluations.evaluation_of.Goals as goal
 
 pub evaluated-requires : goal.evaluated-requires

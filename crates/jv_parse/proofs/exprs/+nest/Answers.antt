@@ -7,10 +7,10 @@ use Rattle.mg_read.proofs.Loop.{Left-more, Left-done}
 use Rattle.jv_tree.proofs.ViewLaws.{views}
 use Rattle.jv_tree.specs.declared.token.Sign.TheVariants as signs
 use Rattle.jv_tree.specs.View.{expr_of}
-use Rattle.jv_reading.specs.Exprs.{word_with, arguments_at, closed_at, joined_with, member_with, named_at, named_with, primary_at}
-use Rattle.jv_reading.specs.Exprs.{primary_with, signed_with, tail_with, unary_at, unary_with, word_primary_at, next_arg_with, args_with}
-use Rattle.jv_reading.specs.Exprs.{tail_at, post_at, is_op, joined_at, binary_at, expr_at}
-use Rattle.jv_reading.specs.Base.{is_sign}
+use Rattle.jv_grammar.specs.Exprs.{word_with, arguments_at, closed_at, joined_with, member_with, named_at, named_with, primary_at}
+use Rattle.jv_grammar.specs.Exprs.{primary_with, signed_with, tail_with, unary_at, unary_with, word_primary_at, next_arg_with, args_with}
+use Rattle.jv_grammar.specs.Exprs.{tail_at, post_at, is_op, joined_at, binary_at, expr_at}
+use Rattle.jv_grammar.specs.Base.{is_sign}
 use Rattle.jv_parse.proofs.Turns.{Growing-more, Growing-done, Growing-fails}
 use Rattle.jv_parse.proofs.ExprTurns.{Left-fails, post_start, post_fails, tail_at_shorter, chain_start, chain_fails, chain_is}
 use Rattle.jv_parse.proofs.ExprTurns.{joined_at_shorter, next_arg_is, arg_shorter, args_start, args_fails, depth_push, arguments_zero}

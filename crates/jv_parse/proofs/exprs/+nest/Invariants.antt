@@ -4,8 +4,8 @@ use Rattle.mg_read.proofs.Loop.{Left}
 use Rattle.jv_tree.specs.declared.token.Sign.TheVariants as signs
 use Rattle.jv_tree.specs.Depth.{depth, depth_of_args}
 use Rattle.jv_tree.specs.View.{expr_of, exprs_of}
-use Rattle.jv_reading.specs.Base.{is_sign}
-use Rattle.jv_reading.specs.Exprs.{next_arg_with, args_with, tail_at, post_at, is_op, joined_at, binary_at, expr_at}
+use Rattle.jv_grammar.specs.Base.{is_sign}
+use Rattle.jv_grammar.specs.Exprs.{next_arg_with, args_with, tail_at, post_at, is_op, joined_at, binary_at, expr_at}
 use Rattle.jv_parse.proofs.Turns.{Growing}
 use Rattle.jv_parse.proofs.exprs.+nest.Given as goal
 

@@ -1,7 +1,7 @@
 use Rattle.std.proofs.Common.{arith, true, false, sym, ap, ◌∙◌}
 use Rattle.jv_tree.proofs.ViewLaws.{views, expr_of-is, kind-Truth, kind-Null, kind-This}
 use Rattle.jv_tree.specs.Depth.{depth}
-use Rattle.jv_reading.specs.Exprs.{literal}
+use Rattle.jv_grammar.specs.Exprs.{literal}
 use Rattle.jv_parse.proofs.exprs.literal.Goals as goal
 
 pub returns-then-eq-clause-deep : goal.returns-then-eq-clause-deep

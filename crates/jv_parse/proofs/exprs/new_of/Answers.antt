@@ -1,7 +1,7 @@
 use Rattle.std.proofs.Common.{arith}
 use Rattle.std.proofs.lemmas.Result.{err_from_is_err_and}
 use Rattle.jv_tree.proofs.ViewLaws.{views}
-use Rattle.jv_reading.specs.Exprs.{new_with}
+use Rattle.jv_grammar.specs.Exprs.{new_with}
 use Rattle.jv_parse.proofs.ExprTurns.{new_unnamed}
 use Rattle.jv_parse.proofs.exprs.new_of.Goals as goal
 

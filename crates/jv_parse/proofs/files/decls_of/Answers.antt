@@ -4,8 +4,8 @@ use Rattle.std.proofs.lemmas.Result.{err_from_is_err_and}
 use Rattle.std.proofs.lemmas.List.{map_push}
 use Rattle.mg_read.proofs.Loop.{Left-more, Left-done}
 use Rattle.jv_tree.specs.View.{decl_of}
-use Rattle.jv_reading.specs.Files.{is_some_token, decl_at}
-use Rattle.jv_reading.proofs.Decls.{decl_shorter}
+use Rattle.jv_grammar.specs.Files.{is_some_token, decl_at}
+use Rattle.jv_grammar.proofs.Decls.{decl_shorter}
 use Rattle.jv_parse.specs.inner.Rests.{decls_at}
 use Rattle.jv_parse.proofs.ExprTurns.{Left-fails}
 use Rattle.jv_parse.proofs.FileTurns.{decls_start, tokens_left, none_left}

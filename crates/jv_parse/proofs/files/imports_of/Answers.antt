@@ -1,9 +1,9 @@
 use Rattle.std.proofs.Common.{sym, ◌∙◌}
 use Rattle.std.specs.Prelude.{codes}
 use Rattle.std.proofs.lemmas.Result.{err_from_is_err_and}
-use Rattle.jv_reading.specs.Base.{is_word}
-use Rattle.jv_reading.specs.Files.{import_at}
-use Rattle.jv_reading.proofs.Decls.{import_shorter}
+use Rattle.jv_grammar.specs.Base.{is_word}
+use Rattle.jv_grammar.specs.Files.{import_at}
+use Rattle.jv_grammar.proofs.Decls.{import_shorter}
 use Rattle.jv_parse.specs.inner.Rests.{imports_at}
 use Rattle.jv_parse.proofs.Walks.{Walking-shorter, Walking-more, Walking-fails, Walking-done}
 use Rattle.jv_parse.proofs.FileTurns.{imports_start}

@@ -1,7 +1,7 @@
 use Rattle.std.proofs.Common.{length}
 use Rattle.std.specs.Prelude.{codes}
-use Rattle.jv_reading.specs.Base.{is_word}
-use Rattle.jv_reading.specs.Files.{import_at}
+use Rattle.jv_grammar.specs.Base.{is_word}
+use Rattle.jv_grammar.specs.Files.{import_at}
 use Rattle.jv_parse.specs.inner.Rests.{imports_at}
 use Rattle.jv_parse.proofs.Walks.{Walking}
 use Rattle.jv_parse.proofs.files.imports_of.Given as goal

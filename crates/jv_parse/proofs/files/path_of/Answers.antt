@@ -1,7 +1,7 @@
 use Rattle.std.proofs.Common.{sym}
 use Rattle.std.proofs.lemmas.Result.{err_from_is_err_and}
-use Rattle.jv_reading.specs.Files.{is_more_steps, next_step_at, path_at}
-use Rattle.jv_reading.proofs.Decls.{next_step_shorter}
+use Rattle.jv_grammar.specs.Files.{is_more_steps, next_step_at, path_at}
+use Rattle.jv_grammar.proofs.Decls.{next_step_shorter}
 use Rattle.jv_parse.proofs.Walks.{Walking-shorter, Walking-more, Walking-done}
 use Rattle.jv_parse.proofs.FileTurns.{path_start, path_fails}
 use Rattle.jv_parse.proofs.files.path_of.Goals as goal

@@ -1,5 +1,5 @@
 use Rattle.std.proofs.Common.{length}
-use Rattle.jv_reading.specs.Files.{is_more_steps, next_step_at, path_at}
+use Rattle.jv_grammar.specs.Files.{is_more_steps, next_step_at, path_at}
 use Rattle.jv_parse.proofs.Walks.{Walking}
 use Rattle.jv_parse.proofs.files.path_of.Given as goal
 

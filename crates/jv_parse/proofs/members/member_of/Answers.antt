@@ -1,6 +1,6 @@
 -- By `grind` at once, which is shorter than a search.
 use Rattle.std.proofs.Common.{arith}
-use Rattle.jv_reading.specs.Files.{member_at, member_with}
+use Rattle.jv_grammar.specs.Files.{member_at, member_with}
 use Rattle.jv_parse.proofs.MemberTurns.{field_is, method_is}
 use Rattle.jv_parse.proofs.members.member_of.Goals as goal
 

@@ -2,9 +2,9 @@ use Rattle.std.proofs.Common.{◌≡◌, ◌∷◌, [], refl, sym, ◌∙◌}
 use Rattle.std.proofs.lemmas.Result.{err_from_is_err_and}
 use Rattle.mg_read.proofs.Loop.{Left-more, Left-done}
 use Rattle.jv_tree.specs.declared.token.Sign.TheVariants as signs
-use Rattle.jv_reading.specs.Base.{is_sign}
-use Rattle.jv_reading.specs.Files.{next_param_at, params_at}
-use Rattle.jv_reading.proofs.Members.{next_param_shorter}
+use Rattle.jv_grammar.specs.Base.{is_sign}
+use Rattle.jv_grammar.specs.Files.{next_param_at, params_at}
+use Rattle.jv_grammar.proofs.Members.{next_param_shorter}
 use Rattle.jv_parse.proofs.ExprTurns.{Left-fails}
 use Rattle.jv_parse.proofs.FileTurns.{params_start, params_fail, next_param_is}
 use Rattle.jv_parse.proofs.members.params_of.Goals as goal

@@ -1,8 +1,8 @@
 use Rattle.std.proofs.Common.{length}
 use Rattle.mg_read.proofs.Loop.{Left}
 use Rattle.jv_tree.specs.declared.token.Sign.TheVariants as signs
-use Rattle.jv_reading.specs.Base.{is_sign}
-use Rattle.jv_reading.specs.Files.{next_param_at, params_at}
+use Rattle.jv_grammar.specs.Base.{is_sign}
+use Rattle.jv_grammar.specs.Files.{next_param_at, params_at}
 use Rattle.jv_parse.proofs.members.params_of.Given as goal
 
 abbrev pub invariant-more : goal.invariant-more

@@ -3,7 +3,7 @@ use Rattle.std.specs.Prelude.{map, not}
 use Rattle.std.proofs.lemmas.Result.{err_from_is_err_and}
 use Rattle.mg_read.specs.Reader.{all_of}
 use Rattle.jv_tree.specs.View.{field_of, method_of}
-use Rattle.jv_reading.specs.Files.{not_closed, member_at}
+use Rattle.jv_grammar.specs.Files.{not_closed, member_at}
 use Rattle.jv_parse.specs.inner.Members.{member_of}
 use Rattle.jv_parse.proofs.MemberTurns.{sorting_start, sorting_more, sorting_fails, sorting_done, member_at_shorter}
 use Rattle.jv_parse.proofs.members.sorted_of.Goals as goal

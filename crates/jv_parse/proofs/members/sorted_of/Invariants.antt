@@ -2,7 +2,7 @@ use Rattle.std.proofs.Common.{length}
 use Rattle.std.specs.Prelude.{map}
 use Rattle.mg_read.specs.Reader.{all_of}
 use Rattle.jv_tree.specs.View.{field_of, method_of}
-use Rattle.jv_reading.specs.Files.{not_closed, member_at}
+use Rattle.jv_grammar.specs.Files.{not_closed, member_at}
 use Rattle.jv_parse.proofs.MemberTurns.{Sorting}
 use Rattle.jv_parse.proofs.members.sorted_of.Given as goal
 

@@ -1,5 +1,5 @@
 use Rattle.std.proofs.Common.{sym, ◌∙◌}
-use Rattle.jv_reading.specs.Files.{after_mods}
+use Rattle.jv_grammar.specs.Files.{after_mods}
 use Rattle.jv_parse.specs.inner.Modifiers.{words_of}
 use Rattle.jv_parse.proofs.Sought.{mods_later, mods_here, mods_end}
 use Rattle.jv_parse.proofs.modifiers.after_mods.Goals as goal

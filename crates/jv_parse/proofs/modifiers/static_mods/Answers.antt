@@ -1,6 +1,6 @@
 use Rattle.std.proofs.Common.{sym, ◌∙◌}
 use Rattle.jv_tree.specs.Files.{modifiers}
-use Rattle.jv_reading.specs.Files.{static_mods}
+use Rattle.jv_grammar.specs.Files.{static_mods}
 use Rattle.jv_parse.proofs.Sought.{static_later, static_here, static_stops, static_end}
 use Rattle.jv_parse.proofs.modifiers.static_mods.Goals as goal
 

@@ -1,6 +1,6 @@
 use Rattle.std.proofs.Common.{◌≡◌, length}
 use Rattle.jv_tree.specs.Files.{modifiers}
-use Rattle.jv_reading.specs.Files.{static_mods}
+use Rattle.jv_grammar.specs.Files.{static_mods}
 use Rattle.jv_parse.proofs.modifiers.static_mods.Given as goal
 
 abbrev pub invariant-words : goal.invariant-words

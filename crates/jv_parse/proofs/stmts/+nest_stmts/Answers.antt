@@ -6,8 +6,8 @@ use Rattle.std.proofs.lemmas.List.{map_push}
 use Rattle.mg_read.proofs.Loop.{Left-more, Left-done}
 use Rattle.jv_tree.proofs.ViewLaws.{views}
 use Rattle.jv_tree.specs.View.{stmt_of, group_of}
-use Rattle.jv_reading.specs.Stmts.{block_with, else_with, if_with, labelled_with, loop_with, stmt_with, switch_with, is_case, goes_on}
-use Rattle.jv_reading.specs.Stmts.{stmt_at, item_with, items_with, group_with, groups_with}
+use Rattle.jv_grammar.specs.Stmts.{block_with, else_with, if_with, labelled_with, loop_with, stmt_with, switch_with, is_case, goes_on}
+use Rattle.jv_grammar.specs.Stmts.{stmt_at, item_with, items_with, group_with, groups_with}
 use Rattle.jv_parse.specs.inner.Loops.{do_at, while_at}
 use Rattle.jv_parse.proofs.StmtTurns.{do_is, while_is, items_start, groups_start, item_at_shorter, group_at_shorter}
 use Rattle.jv_parse.proofs.ExprTurns.{Left-fails}

@@ -2,7 +2,7 @@ use Rattle.std.proofs.Common.{◌+◌, ◌*◌, length}
 use Rattle.std.specs.Prelude.{map}
 use Rattle.mg_read.proofs.Loop.{Left}
 use Rattle.jv_tree.specs.View.{stmt_of, group_of}
-use Rattle.jv_reading.specs.Stmts.{is_case, goes_on, stmt_at, item_with, items_with, group_with, groups_with}
+use Rattle.jv_grammar.specs.Stmts.{is_case, goes_on, stmt_at, item_with, items_with, group_with, groups_with}
 use Rattle.jv_parse.proofs.stmts.+nest_stmts.Given as goal
 
 -- Each call goes one level in, or one rank down.

@@ -1,8 +1,8 @@
 use Rattle.std.proofs.Common.{◌≡◌, ◌∷◌, [], refl, sym, ◌∙◌}
 use Rattle.std.proofs.lemmas.Result.{err_from_is_err_and}
 use Rattle.mg_read.proofs.Loop.{Left-more, Left-done}
-use Rattle.jv_reading.specs.Stmts.{is_case, case_at, cases_at}
-use Rattle.jv_reading.proofs.StmtParts.{case_shorter}
+use Rattle.jv_grammar.specs.Stmts.{is_case, case_at, cases_at}
+use Rattle.jv_grammar.proofs.StmtParts.{case_shorter}
 use Rattle.jv_parse.proofs.ExprTurns.{Left-fails}
 use Rattle.jv_parse.proofs.StmtTurns.{cases_start, cases_fail}
 use Rattle.jv_parse.proofs.stmts.cases_of.Goals as goal

@@ -1,6 +1,6 @@
 use Rattle.std.proofs.Common.{length}
 use Rattle.mg_read.proofs.Loop.{Left}
-use Rattle.jv_reading.specs.Stmts.{is_case, case_at, cases_at}
+use Rattle.jv_grammar.specs.Stmts.{is_case, case_at, cases_at}
 use Rattle.jv_parse.proofs.stmts.cases_of.Given as goal
 
 abbrev pub invariant-more : goal.invariant-more

@@ -1,7 +1,7 @@
 -- By `grind` at once, which is shorter than a search.
 use Rattle.std.proofs.Common.{arith}
 use Rattle.jv_tree.proofs.ViewLaws.{views}
-use Rattle.jv_reading.specs.Stmts.{empty_at}
+use Rattle.jv_grammar.specs.Stmts.{empty_at}
 use Rattle.jv_parse.proofs.stmts.empty_of.Goals as goal
 
 pub returns : goal.returns

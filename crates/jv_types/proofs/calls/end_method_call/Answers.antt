@@ -40,7 +40,7 @@ returns-in-Named c =
     let args = exprs_of (map expr_of c.args.args.now) in
     let x = c.in-Named.x.now in
     let named : (variable_name of ≡ Some x) × (is_receiver s x ≡ true) =
-        subst (λ (r : Receiver). ReceiverIs s of r) c.in-Named.is c.requires.receiver
+    subst (λ (r : Receiver). ReceiverIs s of r) c.in-Named.is c.requires.receiver
     in
     let site : Site = record {
       place = c.args.place;
@@ -60,7 +60,7 @@ field_of-requires c =
     let s = scope_seen c.args.scope.now c.args.locals.now in
     let of = expr_of c.args.of.now in
     let other : (is_this of ≡ false) × ((variable_name of ≡ None) × IsChecked s of c.in-Value.inner) =
-        subst (λ (r : Receiver). ReceiverIs s of r) c.in-Value.is c.requires.receiver
+    subst (λ (r : Receiver). ReceiverIs s of r) c.in-Value.is c.requires.receiver
     in
     other.1.0
 
@@ -71,7 +71,7 @@ returns-in-Value c =
     let args = exprs_of (map expr_of c.args.args.now) in
     let inner = c.in-Value.inner in
     let other : (is_this of ≡ false) × ((variable_name of ≡ None) × IsChecked s of inner) =
-        subst (λ (r : Receiver). ReceiverIs s of r) c.in-Value.is c.requires.receiver
+    subst (λ (r : Receiver). ReceiverIs s of r) c.in-Value.is c.requires.receiver
     in
     let site : Site = record {
       place = c.args.place;

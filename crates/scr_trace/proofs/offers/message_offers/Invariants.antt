@@ -1,7 +1,7 @@
 use Rattle.std.proofs.Common.{◌≡◌, ◌≤◌, None, map, drop, length}
 use Rattle.scr_tree.specs.Local.{tree_of}
-use Rattle.scr_trace.specs.Walking.{calls_offered}
-use Rattle.scr_trace.specs.inner.Offering.{edge_calls, methods_of, messages_in}
+use Rattle.scr_trace.specs.Walking.{calls_offered, methods_of}
+use Rattle.scr_trace.specs.inner.Offering.{edge_calls, messages_in}
 use Rattle.scr_trace.specs.inner.View.{edge_of, drafts_of, work_of}
 use Rattle.scr_trace.proofs.offers.message_offers.Given as goal
 

@@ -3,7 +3,7 @@ use Rattle.std.proofs.Common.{◌≡◌, ℕ, zero, suc, ◌<◌, List, [], ◌+
 use Rattle.std.proofs.Common.{append_assoc, append-nil, arith, inl, inr}
 use Rattle.mg_read.specs.Reader.{Reader, ◌>>=◌}
 use Rattle.mg_read.proofs.Steps.{bind_some, some_is, none_is_not, chosen, Takes}
-use Rattle.jv_reading.specs.Grow.{grow, grown}
+use Rattle.jv_grammar.specs.Grow.{grow, grown}
 
 module _ {T A : Type 0} (go : List T → Bool) (step : A → Reader T A) where
   -- What holds of the start and is kept by a step holds at the end.

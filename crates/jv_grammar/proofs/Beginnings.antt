@@ -14,10 +14,10 @@ use Rattle.jv_tree.specs.declared.token.Token.{Token}
 use Rattle.jv_tree.specs.Source.{Expr, Int, Truth, Text, Null, This, Variable, Member, Neg, Not, Binary, Call, MethodCall, New}
 use Rattle.jv_tree.specs.Tokens.{word, number, quoted, sign, is_name, is_among}
 use Rattle.jv_tree.specs.Expressions.{Language, IsSimple, IsPrimary, IsPost, IsUnary, IsChain, IsBinary, sign_of}
-use Rattle.jv_reading.specs.Base.{same_sign, is_sign_kind, is_sign, is_word_kind, is_word}
-use Rattle.jv_reading.specs.Exprs.{is_negation}
-use Rattle.jv_reading.proofs.Steps.{same_is}
-use Rattle.jv_reading.proofs.Primaries.{no_name_true, no_name_false, no_name_null, no_name_this, no_name_new}
+use Rattle.jv_grammar.specs.Base.{same_sign, is_sign_kind, is_sign, is_word_kind, is_word}
+use Rattle.jv_grammar.specs.Exprs.{is_negation}
+use Rattle.jv_grammar.proofs.Steps.{same_is}
+use Rattle.jv_grammar.proofs.Primaries.{no_name_true, no_name_false, no_name_null, no_name_this, no_name_new}
 
 -- whether an expression may begin so
 abbrev pub begins_sign : Sign → Bool

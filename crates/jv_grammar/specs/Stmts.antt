@@ -18,8 +18,8 @@ use Rattle.jv_tree.specs.Depth.{depth}
 use Rattle.jv_tree.specs.Tokens.{is_name}
 use Rattle.jv_tree.specs.Sugar.{compound, counter, changed, one_at, printed, is_call}
 use Rattle.jv_tree.specs.View.{stmts_of, OneGroup, groups_of}
-use Rattle.jv_reading.specs.Base.{sign_at, is_sign, word_at, is_word, name_at, is_named}
-use Rattle.jv_reading.specs.Exprs.{closed_at, expr_at, post_at}
+use Rattle.jv_grammar.specs.Base.{sign_at, is_sign, word_at, is_word, name_at, is_named}
+use Rattle.jv_grammar.specs.Exprs.{closed_at, expr_at, post_at}
 
 -- "(" expr ")"
 unfoldable pub cond_at : ℕ → Reader Token Expr

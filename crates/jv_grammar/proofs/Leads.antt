@@ -18,17 +18,17 @@ use Rattle.jv_tree.specs.declared.token.Token.{Token}
 use Rattle.jv_tree.specs.Source.{Expr, Int, Truth, Text, Null, This, Variable, Member, Neg, Not, Binary, Call, MethodCall, New}
 use Rattle.jv_tree.specs.Source.{Stmt, Block, Empty, Local, Assign, If, IfElse, While, Do, Switch, Break, Continue, Return, Print, Eval}
 use Rattle.jv_tree.specs.Tokens.{word, number, quoted, sign, is_name, is_among, IsName}
-use Rattle.jv_reading.specs.Base.{same_sign, is_sign, is_sign_kind, is_word, is_word_kind, is_named}
+use Rattle.jv_grammar.specs.Base.{same_sign, is_sign, is_sign_kind, is_word, is_word_kind, is_named}
 use Rattle.jv_tree.specs.Expressions.{Language, AreArguments, IsSimple, IsPrimary, IsPost}
 use Rattle.jv_tree.specs.Sugar.{counter}
 use Rattle.jv_tree.specs.Statements.{IsTarget, IsType, type_word, IsFinal, IsLabel, IsLocal, IsAssign, IsStmt}
-use Rattle.jv_reading.specs.Stmts.{is_decl, is_case, goes_on, is_counter, is_change, is_assign, is_label}
-use Rattle.jv_reading.proofs.Steps.{same_is, name_is_not}
-use Rattle.jv_reading.proofs.Primaries.{no_name_true, no_name_false, no_name_null, no_name_this, no_name_new}
-use Rattle.jv_reading.proofs.Exprs.{expr_begins}
-use Rattle.jv_reading.proofs.Beginnings.{begins_sign, begins_word, begins_kind, Begins}
-use Rattle.jv_reading.proofs.Assigns.{TargetHead, Named, Own, target_head}
-use Rattle.jv_reading.proofs.StmtParts.{no_name_int, no_name_boolean, final_no_name, name_String}
+use Rattle.jv_grammar.specs.Stmts.{is_decl, is_case, goes_on, is_counter, is_change, is_assign, is_label}
+use Rattle.jv_grammar.proofs.Steps.{same_is, name_is_not}
+use Rattle.jv_grammar.proofs.Primaries.{no_name_true, no_name_false, no_name_null, no_name_this, no_name_new}
+use Rattle.jv_grammar.proofs.Exprs.{expr_begins}
+use Rattle.jv_grammar.proofs.Beginnings.{begins_sign, begins_word, begins_kind, Begins}
+use Rattle.jv_grammar.proofs.Assigns.{TargetHead, Named, Own, target_head}
+use Rattle.jv_grammar.proofs.StmtParts.{no_name_int, no_name_boolean, final_no_name, name_String}
 
 -- ---- words that are no names
 

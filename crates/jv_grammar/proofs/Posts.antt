@@ -10,14 +10,14 @@ use Rattle.jv_tree.specs.Depth.{depth}
 use Rattle.jv_tree.specs.Tokens.{word, sign}
 use Rattle.jv_tree.specs.Expressions.{Language, AreArguments, IsPrimary, IsPost}
 use Rattle.jv_tree.specs.View.{exprs_of}
-use Rattle.jv_reading.specs.Base.{sign_at, is_sign, name_at, fits}
-use Rattle.jv_reading.specs.Grow.{grown}
-use Rattle.jv_reading.specs.Exprs.{Reads, arguments_with, primary_with, member_with, tail_with, post_with}
-use Rattle.jv_reading.proofs.Steps.{after, glue, sign_is, name_is, fits_is, fits_again}
-use Rattle.jv_reading.proofs.Args.{Within, Ends, list_of, exprs-list_of, Reading, arguments_sound, arguments_complete}
-use Rattle.jv_reading.proofs.Primaries.{Unopened, primary_exact}
-use Rattle.jv_reading.proofs.Begins as begins
-use Rattle.jv_reading.proofs.Grows.{grow_sound, Reaches-end}
+use Rattle.jv_grammar.specs.Base.{sign_at, is_sign, name_at, fits}
+use Rattle.jv_grammar.specs.Grow.{grown}
+use Rattle.jv_grammar.specs.Exprs.{Reads, arguments_with, primary_with, member_with, tail_with, post_with}
+use Rattle.jv_grammar.proofs.Steps.{after, glue, sign_is, name_is, fits_is, fits_again}
+use Rattle.jv_grammar.proofs.Args.{Within, Ends, list_of, exprs-list_of, Reading, arguments_sound, arguments_complete}
+use Rattle.jv_grammar.proofs.Primaries.{Unopened, primary_exact}
+use Rattle.jv_grammar.proofs.Begins as begins
+use Rattle.jv_grammar.proofs.Grows.{grow_sound, Reaches-end}
 
 module _ (m : ℕ) (inner : ℕ → Reads) (G : Language) (reading : (d : ℕ) → Reading (inner d) (Within G d)) where
   abbrev pub Post : ℕ → Language

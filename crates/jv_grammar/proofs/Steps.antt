@@ -18,7 +18,7 @@ use Rattle.jv_tree.specs.declared.token.Token.{Token}
 use Rattle.jv_tree.specs.Source.{Expr}
 use Rattle.jv_tree.specs.Depth.{depth}
 use Rattle.jv_tree.specs.Tokens.{word, sign, is_name, IsName}
-use Rattle.jv_reading.specs.Base.{same_sign, sign_in, sign_at, word_in, word_at, name_in, name_at, fits}
+use Rattle.jv_grammar.specs.Base.{same_sign, sign_in, sign_at, word_in, word_at, name_in, name_at, fits}
 
 -- one list in front of another
 pub glue : {ts us : List Token} (f g rest : List Token) → ts ≡ f ++ us → us ≡ g ++ rest → ts ≡ (f ++ g) ++ rest

@@ -17,8 +17,8 @@ use Rattle.jv_tree.specs.Source.{Expr, Int, Truth, Text, Null, This, Variable, M
 use Rattle.jv_tree.specs.Tokens.{is_name}
 use Rattle.jv_tree.specs.Expressions.{looseness, starts_number}
 use Rattle.jv_tree.specs.View.{exprs_of}
-use Rattle.jv_reading.specs.Grow.{grown}
-use Rattle.jv_reading.specs.Base.{same_sign, sign_at, is_sign, name_at, fits}
+use Rattle.jv_grammar.specs.Grow.{grown}
+use Rattle.jv_grammar.specs.Base.{same_sign, sign_at, is_sign, name_at, fits}
 
 abbrev pub Reads : Type 0
 Reads = Reader Token Expr

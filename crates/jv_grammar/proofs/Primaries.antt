@@ -20,12 +20,12 @@ use Rattle.jv_tree.specs.Depth.{depth}
 use Rattle.jv_tree.specs.Tokens.{word, number, quoted, sign, is_name, IsName}
 use Rattle.jv_tree.specs.Expressions.{Language, AreArguments, IsSimple, IsPrimary}
 use Rattle.jv_tree.specs.View.{exprs_of}
-use Rattle.jv_reading.specs.Base.{same_sign, sign_at, is_sign, name_at, fits}
-use Rattle.jv_reading.specs.Exprs.{Reads, arguments_with, negative_in, negative_at, new_with, literal, named_with, word_with, signed_with}
-use Rattle.jv_reading.specs.Exprs.{primary_in, first_with, primary_with}
-use Rattle.jv_reading.proofs.Steps.{after, same_is, sign_is, name_is, fits_is, fits_again}
-use Rattle.jv_reading.proofs.Args.{Within, list_of, exprs-list_of, Reading, arguments_sound, arguments_complete, closed_sound}
-use Rattle.jv_reading.proofs.Args.{closed_complete}
+use Rattle.jv_grammar.specs.Base.{same_sign, sign_at, is_sign, name_at, fits}
+use Rattle.jv_grammar.specs.Exprs.{Reads, arguments_with, negative_in, negative_at, new_with, literal, named_with, word_with, signed_with}
+use Rattle.jv_grammar.specs.Exprs.{primary_in, first_with, primary_with}
+use Rattle.jv_grammar.proofs.Steps.{after, same_is, sign_is, name_is, fits_is, fits_again}
+use Rattle.jv_grammar.proofs.Args.{Within, list_of, exprs-list_of, Reading, arguments_sound, arguments_complete, closed_sound}
+use Rattle.jv_grammar.proofs.Args.{closed_complete}
 
 -- what may follow a primary expression
 abbrev pub Unopened : List Token → Type 0

@@ -14,27 +14,27 @@ use Rattle.jv_tree.specs.Source.{Stmt, Block, Empty, Local, Assign, If, IfElse, 
 use Rattle.jv_tree.specs.Source.{Stmts, NoStmt, Then, Groups, NoGroup, Group}
 use Rattle.jv_tree.specs.Depth.{depth, depth_of_stmt, depth_of_stmts, depth_of_groups}
 use Rattle.jv_tree.specs.Tokens.{word, sign, IsName, first_place}
-use Rattle.jv_reading.specs.Base.{sign_at, is_sign, word_at, is_word, name_at}
+use Rattle.jv_grammar.specs.Base.{sign_at, is_sign, word_at, is_word, name_at}
 use Rattle.mg_read.specs.Reader.{many}
 use Rattle.jv_tree.specs.Sugar.{takes_else, is_one_group}
 use Rattle.jv_tree.specs.Statements.{IsCondition, IsLabel, IsLocal, AreCases, IsStmt, AreItems, AreGroups}
 use Rattle.jv_tree.specs.View.{stmts_of, OneGroup, groups_of}
-use Rattle.jv_reading.specs.Stmts.{case_at, cond_at, is_decl, is_case, goes_on, cases_at, place_ahead}
-use Rattle.jv_reading.specs.Stmts.{assign_at, is_assign, is_label, evaluation_at, item_with, items_with}
-use Rattle.jv_reading.specs.Stmts.{block_with, else_with, if_with, loop_place, loop_label, while_with, do_with, loop_with, labelled_with}
-use Rattle.jv_reading.specs.Stmts.{group_with, groups_with, switch_with, simple_with, stmt_with, stmt_at}
-use Rattle.jv_reading.proofs.Steps.{after, glue, sign_is, word_is, name_is, name_is_not}
-use Rattle.jv_reading.proofs.Primaries.{depth_pos}
-use Rattle.jv_reading.proofs.StmtParts.{cond_exact, local_sound, local_complete, cases_exact, cases_go, cases_some}
-use Rattle.jv_reading.proofs.StmtParts.{DeepStmt, break_sound, break_complete, continue_sound}
-use Rattle.jv_reading.proofs.StmtParts.{continue_complete, return_sound, return_complete, empty_sound, empty_complete}
-use Rattle.jv_reading.proofs.Assigns.{assign_sound, assign_complete}
-use Rattle.jv_reading.proofs.Assigns.{free_call, printed_call, evaluation_sound, print_complete, eval_complete}
-use Rattle.jv_reading.proofs.Leads.{Starting, starting_more, starting_some, starting_no_else, starting_goes, starting_no_case, stmt_starts}
-use Rattle.jv_reading.proofs.Leads.{local_starts, local_decl, no_name_if, no_name_while, no_name_do}
-use Rattle.jv_reading.proofs.Leads.{no_name_switch, no_name_break, no_name_continue, no_name_return}
-use Rattle.jv_reading.proofs.Following.{assign_simple, evaluated_led, stmt_undeclared, Simple}
-use Rattle.jv_reading.proofs.Closings as closings
+use Rattle.jv_grammar.specs.Stmts.{case_at, cond_at, is_decl, is_case, goes_on, cases_at, place_ahead}
+use Rattle.jv_grammar.specs.Stmts.{assign_at, is_assign, is_label, evaluation_at, item_with, items_with}
+use Rattle.jv_grammar.specs.Stmts.{block_with, else_with, if_with, loop_place, loop_label, while_with, do_with, loop_with, labelled_with}
+use Rattle.jv_grammar.specs.Stmts.{group_with, groups_with, switch_with, simple_with, stmt_with, stmt_at}
+use Rattle.jv_grammar.proofs.Steps.{after, glue, sign_is, word_is, name_is, name_is_not}
+use Rattle.jv_grammar.proofs.Primaries.{depth_pos}
+use Rattle.jv_grammar.proofs.StmtParts.{cond_exact, local_sound, local_complete, cases_exact, cases_go, cases_some}
+use Rattle.jv_grammar.proofs.StmtParts.{DeepStmt, break_sound, break_complete, continue_sound}
+use Rattle.jv_grammar.proofs.StmtParts.{continue_complete, return_sound, return_complete, empty_sound, empty_complete}
+use Rattle.jv_grammar.proofs.Assigns.{assign_sound, assign_complete}
+use Rattle.jv_grammar.proofs.Assigns.{free_call, printed_call, evaluation_sound, print_complete, eval_complete}
+use Rattle.jv_grammar.proofs.Leads.{Starting, starting_more, starting_some, starting_no_else, starting_goes, starting_no_case, stmt_starts}
+use Rattle.jv_grammar.proofs.Leads.{local_starts, local_decl, no_name_if, no_name_while, no_name_do}
+use Rattle.jv_grammar.proofs.Leads.{no_name_switch, no_name_break, no_name_continue, no_name_return}
+use Rattle.jv_grammar.proofs.Following.{assign_simple, evaluated_led, stmt_undeclared, Simple}
+use Rattle.jv_grammar.proofs.Closings as closings
 
 abbrev pub NotElse : List Token → Type 0
 NotElse ts = is_word (codes "else") ts ≡ false

@@ -18,18 +18,18 @@ use Rattle.jv_tree.specs.Source.{NoExpr, Argument, place_of}
 use Rattle.jv_tree.specs.Source.{Stmt, Assign, Print, Eval}
 use Rattle.jv_tree.specs.Depth.{depth, depth_of_args}
 use Rattle.jv_tree.specs.Tokens.{word, sign, IsName, BeginsAt}
-use Rattle.jv_reading.specs.Base.{same_sign, sign_at, is_sign, word_at, is_word, name_at}
+use Rattle.jv_grammar.specs.Base.{same_sign, sign_at, is_sign, word_at, is_word, name_at}
 use Rattle.std.specs.Prelude.{max}
 use Rattle.jv_tree.specs.Expressions.{IsInner, IsPost}
 use Rattle.jv_tree.specs.Sugar.{compound, counter, changed, one_at, is_out, only_argument, printed, is_call}
 use Rattle.jv_tree.specs.Statements.{IsFree, IsTarget}
-use Rattle.jv_reading.specs.Exprs.{post_at}
-use Rattle.jv_reading.specs.Stmts.{ended_at, target_at, compound_kind, compound_at, counter_kind, counter_at, is_counter, assigned}
-use Rattle.jv_reading.specs.Stmts.{change_at, assign_at, place_ahead, evaluated_by, evaluated, evaluation_at}
-use Rattle.jv_reading.proofs.Steps.{after, glue, sign_is, word_is, name_is, name_is_not}
-use Rattle.jv_reading.proofs.Primaries.{no_name_this, depth_pos}
-use Rattle.jv_reading.proofs.Exprs.{post_at_exact}
-use Rattle.jv_reading.proofs.StmtParts.{ended_exact, DeepStmt}
+use Rattle.jv_grammar.specs.Exprs.{post_at}
+use Rattle.jv_grammar.specs.Stmts.{ended_at, target_at, compound_kind, compound_at, counter_kind, counter_at, is_counter, assigned}
+use Rattle.jv_grammar.specs.Stmts.{change_at, assign_at, place_ahead, evaluated_by, evaluated, evaluation_at}
+use Rattle.jv_grammar.proofs.Steps.{after, glue, sign_is, word_is, name_is, name_is_not}
+use Rattle.jv_grammar.proofs.Primaries.{no_name_this, depth_pos}
+use Rattle.jv_grammar.proofs.Exprs.{post_at_exact}
+use Rattle.jv_grammar.proofs.StmtParts.{ended_exact, DeepStmt}
 
 -- ---- the signs of assignments
 

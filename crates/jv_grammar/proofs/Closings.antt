@@ -9,12 +9,12 @@ use Rattle.jv_tree.specs.declared.token.Token.{Token}
 use Rattle.jv_tree.specs.Source.{Expr, place_of}
 use Rattle.jv_tree.specs.Source.{Stmt, Empty, Assign, Break, Continue, Return, Print, Eval}
 use Rattle.jv_tree.specs.Depth.{depth}
-use Rattle.jv_reading.specs.Base.{sign_at, is_sign, word_at}
+use Rattle.jv_grammar.specs.Base.{sign_at, is_sign, word_at}
 use Rattle.jv_tree.specs.Sugar.{changed, one_at, printed, is_call, takes_else}
-use Rattle.jv_reading.specs.Exprs.{post_at}
-use Rattle.jv_reading.specs.Stmts.{ended_at, place_ahead, jump_at, break_at}
-use Rattle.jv_reading.specs.Stmts.{continue_at, return_at, empty_at, compound_at, counter_at, is_counter, assigned, change_at}
-use Rattle.jv_reading.specs.Stmts.{target_at, assign_at, evaluated_by, evaluated, evaluation_at}
+use Rattle.jv_grammar.specs.Exprs.{post_at}
+use Rattle.jv_grammar.specs.Stmts.{ended_at, place_ahead, jump_at, break_at}
+use Rattle.jv_grammar.specs.Stmts.{continue_at, return_at, empty_at, compound_at, counter_at, is_counter, assigned, change_at}
+use Rattle.jv_grammar.specs.Stmts.{target_at, assign_at, evaluated_by, evaluated, evaluation_at}
 
 module _ (d : ℕ) where
   pub break_closed : (ts : List Token) (x : Stmt × List Token) → break_at ts ≡ Some x → takes_else x.0 ≡ false

@@ -15,8 +15,8 @@ use Rattle.jv_tree.specs.declared.token.Token.{Token}
 use Rattle.jv_tree.specs.Source.{Field, Method, Class, Enum, Decl, ClassDecl, EnumDecl, File}
 use Rattle.jv_tree.specs.Files.{Member, FieldMember, MethodMember, fields_among, methods_among, is_kind_among, modifiers}
 use Rattle.jv_tree.specs.View.{stmts_of}
-use Rattle.jv_reading.specs.Base.{sign_at, is_sign, word_at, is_word, name_at, is_named}
-use Rattle.jv_reading.specs.Stmts.{ended_at, after_final, type_at, items_at}
+use Rattle.jv_grammar.specs.Base.{sign_at, is_sign, word_at, is_word, name_at, is_named}
+use Rattle.jv_grammar.specs.Stmts.{ended_at, after_final, type_at, items_at}
 
 abbrev pub behind : List Token → List Token
 behind [] = []

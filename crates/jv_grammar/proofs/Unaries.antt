@@ -10,13 +10,13 @@ use Rattle.jv_tree.specs.Source.{Expr, Int, Truth, Text, Null, This, Variable, M
 use Rattle.jv_tree.specs.Depth.{depth}
 use Rattle.jv_tree.specs.Tokens.{sign}
 use Rattle.jv_tree.specs.Expressions.{Language, IsPost, IsUnary, starts_number}
-use Rattle.jv_reading.specs.Base.{sign_at, is_sign}
-use Rattle.jv_reading.specs.Exprs.{Reads, is_negation, unary_with}
-use Rattle.jv_reading.proofs.Steps.{after, sign_is, fits_is, fits_again}
-use Rattle.jv_reading.proofs.Args.{Within, Ends, Reading}
-use Rattle.jv_reading.proofs.Primaries.{depth_pos}
-use Rattle.jv_reading.proofs.Beginnings.{Begins, unary_begins, post_plain}
-use Rattle.jv_reading.proofs.Posts.{post_exact}
+use Rattle.jv_grammar.specs.Base.{sign_at, is_sign}
+use Rattle.jv_grammar.specs.Exprs.{Reads, is_negation, unary_with}
+use Rattle.jv_grammar.proofs.Steps.{after, sign_is, fits_is, fits_again}
+use Rattle.jv_grammar.proofs.Args.{Within, Ends, Reading}
+use Rattle.jv_grammar.proofs.Primaries.{depth_pos}
+use Rattle.jv_grammar.proofs.Beginnings.{Begins, unary_begins, post_plain}
+use Rattle.jv_grammar.proofs.Posts.{post_exact}
 
 -- whether a number comes first depends on the first token alone
 starts_front : (us rest : List Token) → Begins us → starts_number (us ++ rest) ≡ starts_number us

@@ -12,9 +12,9 @@ use Rattle.jv_tree.specs.Depth.{depth, depth_of_args}
 use Rattle.jv_tree.specs.Tokens.{sign}
 use Rattle.jv_tree.specs.Expressions.{Language, AreMoreArgs, AreArgs, AreArguments}
 use Rattle.jv_tree.specs.View.{exprs_of}
-use Rattle.jv_reading.specs.Base.{sign_at, is_sign}
-use Rattle.jv_reading.specs.Exprs.{Reads, is_op, next_arg_with, args_with, closed_args_with, arguments_with, closed_with}
-use Rattle.jv_reading.proofs.Steps.{after, glue, sign_is}
+use Rattle.jv_grammar.specs.Base.{sign_at, is_sign}
+use Rattle.jv_grammar.specs.Exprs.{Reads, is_op, next_arg_with, args_with, closed_args_with, arguments_with, closed_with}
+use Rattle.jv_grammar.proofs.Steps.{after, glue, sign_is}
 
 -- spelled so, and at most so deep
 abbrev pub Within : Language → ℕ → Language

@@ -15,18 +15,18 @@ use Rattle.jv_tree.specs.declared.token.TokenKind.{TokenKind}
 use Rattle.jv_tree.specs.declared.token.TokenKind.TheVariants as kinds
 use Rattle.jv_tree.specs.declared.token.Token.{Token}
 use Rattle.jv_tree.specs.Tokens.{word, quoted, sign, is_among, IsName}
-use Rattle.jv_reading.specs.Base.{sign_at, is_sign, is_sign_kind, word_at, is_word, is_word_kind, name_at}
+use Rattle.jv_grammar.specs.Base.{sign_at, is_sign, is_sign_kind, word_at, is_word, is_word_kind, name_at}
 use Rattle.std.specs.List.{list_all}
 use Rattle.jv_tree.specs.Source.{Class, Enum, Decl, ClassDecl, EnumDecl, File}
 use Rattle.jv_tree.specs.Depth.{depth_of_fields, depth_of_methods, depth_of_decl, depth_of_file}
 use Rattle.jv_tree.specs.Files.{fields_among, methods_among, is_kind_among, AreModifiers, IsAnnotation, IsClass, AreMoreNames, AreNames}
 use Rattle.jv_tree.specs.Files.{IsEnumEnd, IsEnum, IsDecl, AreDecls, AreMoreSteps, IsPath, IsPackage, IsStar, IsImport, AreImports, Spells}
-use Rattle.jv_reading.specs.Files.{after_mods, members_at, text_kind, text_at, annotation_at, class_words, enum_words, class_at}
-use Rattle.jv_reading.specs.Files.{is_more_names, next_name_at, names_at, past, enum_at, is_enum, decl_at, is_more_steps, next_step_at}
-use Rattle.jv_reading.specs.Files.{path_at, package_at, star_at, import_at, is_some_token, file_at}
-use Rattle.jv_reading.proofs.Steps.{Anything, after, glue, sign_is, word_is, name_is}
-use Rattle.jv_reading.proofs.Nested.{many_stops}
-use Rattle.jv_reading.proofs.Members.{mods_front, mods_again, mods_words, and_is, members_exact}
+use Rattle.jv_grammar.specs.Files.{after_mods, members_at, text_kind, text_at, annotation_at, class_words, enum_words, class_at}
+use Rattle.jv_grammar.specs.Files.{is_more_names, next_name_at, names_at, past, enum_at, is_enum, decl_at, is_more_steps, next_step_at}
+use Rattle.jv_grammar.specs.Files.{path_at, package_at, star_at, import_at, is_some_token, file_at}
+use Rattle.jv_grammar.proofs.Steps.{Anything, after, glue, sign_is, word_is, name_is}
+use Rattle.jv_grammar.proofs.Nested.{many_stops}
+use Rattle.jv_grammar.proofs.Members.{mods_front, mods_again, mods_words, and_is, members_exact}
 
 -- ---- annotations
 

@@ -5,8 +5,8 @@ use Rattle.jv_tree.specs.declared.token.Token.{Token}
 use Rattle.jv_tree.specs.Source.{Expr}
 use Rattle.jv_tree.specs.Depth.{depth}
 use Rattle.jv_tree.specs.Expressions.{Language}
-use Rattle.jv_reading.specs.Exprs.{Reads}
-use Rattle.jv_reading.proofs.Grows.{Reaches, Reaches-here, Reaches-step}
+use Rattle.jv_grammar.specs.Exprs.{Reads}
+use Rattle.jv_grammar.proofs.Grows.{Reaches, Reaches-here, Reaches-step}
 
 -- `P` says how what it begins with is spelled, `Fine` what may follow that.
 module _ (go : List Token → Bool) (step : Expr → Reads) (P : Language) (Fine : List Token → Type 0) (d : ℕ) where

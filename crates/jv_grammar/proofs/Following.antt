@@ -12,22 +12,22 @@ use Rattle.jv_tree.specs.declared.token.Token.{Token}
 use Rattle.jv_tree.specs.Source.{Expr}
 use Rattle.jv_tree.specs.Source.{Stmt, Block, Empty, Local, Assign, If, IfElse, While, Do, Switch, Break, Continue, Return, Print, Eval}
 use Rattle.jv_tree.specs.Tokens.{word, sign}
-use Rattle.jv_reading.specs.Base.{same_sign, is_sign, is_word}
+use Rattle.jv_grammar.specs.Base.{same_sign, is_sign, is_word}
 use Rattle.jv_tree.specs.Expressions.{IsPost, IsInner}
 use Rattle.jv_tree.specs.Sugar.{compound, counter}
 use Rattle.jv_tree.specs.Statements.{IsTarget, IsLabel, IsAssign, IsStmt}
-use Rattle.jv_reading.specs.Stmts.{is_decl}
-use Rattle.jv_reading.specs.Stmts.{is_change}
-use Rattle.jv_reading.specs.Stmts.{is_assign, is_label}
-use Rattle.jv_reading.proofs.Steps.{name_is_not}
-use Rattle.jv_reading.proofs.Primaries.{no_name_this}
-use Rattle.jv_reading.proofs.Beginnings.{Begins, begins_more, begins_no_sign, begins_no_word, post_begins}
-use Rattle.jv_reading.proofs.StmtParts.{final_no_name}
-use Rattle.jv_reading.proofs.StmtParts.{no_name_int, no_name_boolean}
-use Rattle.jv_reading.proofs.Assigns.{TargetHead, Named, Own, target_head, compound_alone, counter_alone}
-use Rattle.jv_reading.proofs.Assigns.{free_call, printed_call}
-use Rattle.jv_reading.proofs.Leads.{post_quiet, after_semicolon, no_name_if, no_name_while, no_name_do}
-use Rattle.jv_reading.proofs.Leads.{no_name_switch, no_name_break, no_name_continue, no_name_return}
+use Rattle.jv_grammar.specs.Stmts.{is_decl}
+use Rattle.jv_grammar.specs.Stmts.{is_change}
+use Rattle.jv_grammar.specs.Stmts.{is_assign, is_label}
+use Rattle.jv_grammar.proofs.Steps.{name_is_not}
+use Rattle.jv_grammar.proofs.Primaries.{no_name_this}
+use Rattle.jv_grammar.proofs.Beginnings.{Begins, begins_more, begins_no_sign, begins_no_word, post_begins}
+use Rattle.jv_grammar.proofs.StmtParts.{final_no_name}
+use Rattle.jv_grammar.proofs.StmtParts.{no_name_int, no_name_boolean}
+use Rattle.jv_grammar.proofs.Assigns.{TargetHead, Named, Own, target_head, compound_alone, counter_alone}
+use Rattle.jv_grammar.proofs.Assigns.{free_call, printed_call}
+use Rattle.jv_grammar.proofs.Leads.{post_quiet, after_semicolon, no_name_if, no_name_while, no_name_do}
+use Rattle.jv_grammar.proofs.Leads.{no_name_switch, no_name_break, no_name_continue, no_name_return}
 
 -- ---- which statement comes next
 

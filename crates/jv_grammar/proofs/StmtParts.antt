@@ -19,17 +19,17 @@ use Rattle.jv_tree.specs.Source.{Expr}
 use Rattle.jv_tree.specs.Source.{Stmt, Block, Empty, Local, Assign, If, IfElse, While, Do, Switch, Break, Continue, Return, Print, Eval}
 use Rattle.jv_tree.specs.Depth.{depth, depth_of_stmt}
 use Rattle.jv_tree.specs.Tokens.{word, sign, is_name, IsName}
-use Rattle.jv_reading.specs.Base.{sign_at, is_sign, word_at, is_word, is_word_kind, name_at, is_named}
+use Rattle.jv_grammar.specs.Base.{sign_at, is_sign, word_at, is_word, is_word_kind, name_at, is_named}
 use Rattle.jv_tree.specs.Expressions.{IsInner}
 use Rattle.jv_tree.specs.Statements.{IsFree, IsCondition, type_word, IsType, IsFinal, IsOptionalName, IsLocal, IsCase, AreMoreCases}
 use Rattle.jv_tree.specs.Statements.{AreCases, IsStmt}
-use Rattle.jv_reading.specs.Exprs.{expr_at, inner_at, closed_at}
-use Rattle.jv_reading.specs.Stmts.{cond_at, ended_at, after_final, type_in, type_kind, type_at, declared_at, local_at, is_case, case_at}
-use Rattle.jv_reading.specs.Stmts.{cases_at, jump_at, break_at, continue_at, return_at, empty_at}
-use Rattle.jv_reading.proofs.Steps.{Anything, after, glue, sign_is, word_is, name_is, name_is_not}
-use Rattle.jv_reading.proofs.Args.{before_semicolon, closed_sound, closed_complete}
-use Rattle.jv_reading.proofs.Exprs.{inner_reading, expr_exact, expr_begins}
-use Rattle.jv_reading.proofs.Beginnings.{begins_more, begins_no_sign}
+use Rattle.jv_grammar.specs.Exprs.{expr_at, inner_at, closed_at}
+use Rattle.jv_grammar.specs.Stmts.{cond_at, ended_at, after_final, type_in, type_kind, type_at, declared_at, local_at, is_case, case_at}
+use Rattle.jv_grammar.specs.Stmts.{cases_at, jump_at, break_at, continue_at, return_at, empty_at}
+use Rattle.jv_grammar.proofs.Steps.{Anything, after, glue, sign_is, word_is, name_is, name_is_not}
+use Rattle.jv_grammar.proofs.Args.{before_semicolon, closed_sound, closed_complete}
+use Rattle.jv_grammar.proofs.Exprs.{inner_reading, expr_exact, expr_begins}
+use Rattle.jv_grammar.proofs.Beginnings.{begins_more, begins_no_sign}
 
 abbrev pub Condition : ℕ → Expr → List Token → Type 0
 Condition d e us = IsCondition e us × (depth e ≤ d)

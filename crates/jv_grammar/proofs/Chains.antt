@@ -17,14 +17,14 @@ use Rattle.jv_tree.specs.Depth.{depth}
 use Rattle.jv_tree.specs.Tokens.{sign}
 use Rattle.std.proofs.lemmas.Bool.{eqb-true, eq-eqb}
 use Rattle.jv_tree.specs.Expressions.{Language, IsChain, IsBinary, sign_of, looseness}
-use Rattle.jv_reading.specs.Base.{fits}
-use Rattle.jv_reading.specs.Grow.{grown}
-use Rattle.jv_reading.specs.Exprs.{Reads, operator, op_if, op_in, op_at, is_op, joined_with, binary_with}
-use Rattle.jv_reading.proofs.Steps.{after, glue, fits_is, fits_again}
-use Rattle.jv_reading.proofs.Args.{Within, Ends, Reading}
-use Rattle.jv_reading.proofs.Grows.{grow_sound, Reaches-end}
-use Rattle.jv_reading.proofs.Begins as begins
-use Rattle.jv_reading.proofs.Unaries.{unary_exact}
+use Rattle.jv_grammar.specs.Base.{fits}
+use Rattle.jv_grammar.specs.Grow.{grown}
+use Rattle.jv_grammar.specs.Exprs.{Reads, operator, op_if, op_in, op_at, is_op, joined_with, binary_with}
+use Rattle.jv_grammar.proofs.Steps.{after, glue, fits_is, fits_again}
+use Rattle.jv_grammar.proofs.Args.{Within, Ends, Reading}
+use Rattle.jv_grammar.proofs.Grows.{grow_sound, Reaches-end}
+use Rattle.jv_grammar.proofs.Begins as begins
+use Rattle.jv_grammar.proofs.Unaries.{unary_exact}
 
 operator_is : (s : Sign) (o : Op) → operator s ≡ Some o → s ≡ sign_of o
 operator_is signs.OpenBrace o e = absurd (none_is_not o e)

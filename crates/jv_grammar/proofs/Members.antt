@@ -20,7 +20,7 @@ use Rattle.jv_tree.specs.Source.{Expr}
 use Rattle.jv_tree.specs.Source.{Stmts}
 use Rattle.jv_tree.specs.Depth.{depth_of_stmts}
 use Rattle.jv_tree.specs.Tokens.{word, sign, is_name, is_among, IsName}
-use Rattle.jv_reading.specs.Base.{sign_at, is_sign, is_sign_kind, word_at, is_word, name_at}
+use Rattle.jv_grammar.specs.Base.{sign_at, is_sign, is_sign_kind, word_at, is_word, name_at}
 use Rattle.std.specs.List.{list_all}
 use Rattle.jv_tree.specs.declared.tree.Param.{Param}
 use Rattle.jv_tree.specs.Source.{Field, Method}
@@ -30,12 +30,12 @@ use Rattle.jv_tree.specs.Files.{Member, FieldMember, MethodMember, fields_among,
 use Rattle.jv_tree.specs.Files.{modifiers, IsInitialiser, IsParam, AreMoreParams, AreParams, IsArgs, IsMain, AreParamsOf, IsResult}
 use Rattle.jv_tree.specs.Files.{IsMember, AreMembers}
 use Rattle.jv_tree.specs.View.{stmts_of}
-use Rattle.jv_reading.specs.Stmts.{ended_at, after_final, type_at, items_at}
-use Rattle.jv_reading.specs.Files.{after_mods, static_mods, result_at, param_at, next_param_at, params_at, is_args, args_at, params_of_at}
-use Rattle.jv_reading.specs.Files.{is_void, is_main, method_at, field_at, member_with, member_at, not_closed, members_at}
-use Rattle.jv_reading.proofs.Steps.{Anything, after, glue, sign_is, word_is, name_is, name_is_not}
-use Rattle.jv_reading.proofs.StmtParts.{ended_exact, final_front, type_is, type_again, type_no_final, final_no_name, no_name_void}
-use Rattle.jv_reading.proofs.Nested.{stmt_exact, items_sound, items_complete, stmts-list_of}
+use Rattle.jv_grammar.specs.Stmts.{ended_at, after_final, type_at, items_at}
+use Rattle.jv_grammar.specs.Files.{after_mods, static_mods, result_at, param_at, next_param_at, params_at, is_args, args_at, params_of_at}
+use Rattle.jv_grammar.specs.Files.{is_void, is_main, method_at, field_at, member_with, member_at, not_closed, members_at}
+use Rattle.jv_grammar.proofs.Steps.{Anything, after, glue, sign_is, word_is, name_is, name_is_not}
+use Rattle.jv_grammar.proofs.StmtParts.{ended_exact, final_front, type_is, type_again, type_no_final, final_no_name, no_name_void}
+use Rattle.jv_grammar.proofs.Nested.{stmt_exact, items_sound, items_complete, stmts-list_of}
 
 pub no_name_public : is_name (codes "public") ≡ false
 unfolding is_name

@@ -7,11 +7,11 @@ use Rattle.jv_tree.specs.declared.token.Token.{Token}
 use Rattle.jv_tree.specs.Source.{Expr}
 use Rattle.jv_tree.specs.Depth.{depth}
 use Rattle.jv_tree.specs.Expressions.{IsPost, IsInner, IsExpr}
-use Rattle.jv_reading.specs.Exprs.{inner_at, post_at, binary_at, expr_at}
-use Rattle.jv_reading.proofs.Args.{Within, Ends, Reading}
-use Rattle.jv_reading.proofs.Beginnings.{Begins, begins_more, begins_some, begins_no_sign, binary_begins}
-use Rattle.jv_reading.proofs.Posts.{post_exact}
-use Rattle.jv_reading.proofs.Chains.{binary_exact}
+use Rattle.jv_grammar.specs.Exprs.{inner_at, post_at, binary_at, expr_at}
+use Rattle.jv_grammar.proofs.Args.{Within, Ends, Reading}
+use Rattle.jv_grammar.proofs.Beginnings.{Begins, begins_more, begins_some, begins_no_sign, binary_begins}
+use Rattle.jv_grammar.proofs.Posts.{post_exact}
+use Rattle.jv_grammar.proofs.Chains.{binary_exact}
 
 pub inner_reading : (m d : ℕ) → Reading (inner_at m d) (Within (IsInner m) d)
 unfolding inner_at

@@ -1,5 +1,0 @@
-use Rattle.jv_reading.proofs.Exprs.{expr_unique}
-use Rattle.jv_reading.proofs.one_expression.Goals as goal
-
-pub returns : goal.returns
-returns c = expr_unique
