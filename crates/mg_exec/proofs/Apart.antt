@@ -28,7 +28,7 @@ use Rattle.mg_exec.specs.View.{Shows, IsOfRun}
 use Rattle.mg_exec.proofs.FilesRead.{none_refused}
 
 -- files are one list of classes
-one_files : (files : List Source) (cs bs : List File) → AreFiles files cs → AreFiles files bs → cs ≡ bs
+pub one_files : (files : List Source) (cs bs : List File) → AreFiles files cs → AreFiles files bs → cs ≡ bs
 one_files [] [] [] h g = refl
 one_files [] [] (b ∷ bs) h g = absurd g
 one_files [] (c ∷ cs) bs h g = absurd h

@@ -2,3 +2,4 @@ pub mod Told
 pub mod FilesRead
 pub mod Shown
 pub mod Apart
+pub mod Alike

@@ -14,7 +14,7 @@ use Rattle.mg_calls.proofs.Laws.{one_list}
 use Rattle.jv_core.specs.Tree as Core
 use Rattle.use_check.specs.Report.{IsReport}
 use Rattle.use_check.proofs.Reporting.{one_report}
-use Rattle.mg_words.specs.Words.{Word, Asked, limit_of, order_of, Command, Exec, Verify}
+use Rattle.mg_words.specs.Words.{Word, Asked, limit_of, order_of, Command}
 use Rattle.mg_refusal.specs.Refusals.{Refusal, refusal_at, in_file, AreAlike}
 use Rattle.mg_refusal.proofs.Orders.{then_alike}
 use Rattle.mg_sources.specs.Files.{Source, source_of, sources}
@@ -33,7 +33,9 @@ use Rattle.mg_runs.proofs.Apart.{one_of_run}
 use Rattle.mg_runs.proofs.Alike as runs_alike
 use Rattle.mg_exec.specs.Runs as executing
 use Rattle.mg_exec.proofs.Apart.{one_course}
+use Rattle.mg_exec.proofs.Alike as exec_alike
 use Rattle.mg_verified.proofs.Apart.{one_line}
+use Rattle.mg_verified.proofs.Alike as verified_alike
 use Rattle.mg_refined.proofs.Apart.{one_telling}
 use Rattle.mg_projected.proofs.Telling.{written_once}
 use Rattle.mg_projected.proofs.Alike as projected_alike
@@ -226,27 +228,28 @@ given_once {contents = contents} (verified {files = files} {line = x} h) (verifi
 -- ---- what is refused
 
 refused_alike : {command : Command} {contents : List (List ℕ)} {r q : Refusal} → IsRefused command contents r → IsRefused command contents q
-    →
-    ((asked : Asked) (files : List Word) → command ≢ Exec asked files) → ((files : List Word) → command ≢ Verify files) → AreAlike r q
-refused_alike {contents = contents} {r = r} {q = q} (commands.translate {files = files} h) (commands.translate k) ne nv =
+    → AreAlike r q
+refused_alike {contents = contents} {r = r} {q = q} (commands.translate {files = files} h) (commands.translate k) =
     sources_alike.same_refusal (sources files contents) r q h k
 refused_alike {r = r} {q = q} (commands.conform {protocol = protocol} {calls = calls} {bytes = bytes} {listed = listed} h)
-    (commands.conform k) ne nv =
+    (commands.conform k) =
     conform_alike (source_of 0 protocol bytes) (source_of 1 calls listed) r q h k
-refused_alike {contents = contents} {r = r} {q = q} (commands.check {files = files} h) (commands.check k) ne nv =
+refused_alike {contents = contents} {r = r} {q = q} (commands.check {files = files} h) (commands.check k) =
     accepted_alike.same_refusal (sources files contents) r q h k
-refused_alike {contents = contents} {r = r} {q = q} (commands.compile {files = files} h) (commands.compile k) ne nv =
+refused_alike {contents = contents} {r = r} {q = q} (commands.compile {files = files} h) (commands.compile k) =
     compiled_alike.same_refusal (sources files contents) r q h k
-refused_alike {contents = contents} {r = r} {q = q} (commands.run {asked = asked} {files = files} h) (commands.run k) ne nv =
+refused_alike {contents = contents} {r = r} {q = q} (commands.run {asked = asked} {files = files} h) (commands.run k) =
     runs_alike.same_refusal (sources files contents) (role_mains_of asked) r q h k
-refused_alike (commands.exec {asked = asked} {files = files} h) k ne nv = absurd (ne asked files refl)
-refused_alike {contents = contents} {r = r} {q = q} (commands.refine {files = files} h) (commands.refine k) ne nv =
+refused_alike {contents = contents} {r = r} {q = q} (commands.exec {asked = asked} {files = files} h) (commands.exec k) =
+    exec_alike.same_refusal (sources files contents) (role_mains_of asked) r q h k
+refused_alike {contents = contents} {r = r} {q = q} (commands.refine {files = files} h) (commands.refine k) =
     sources_alike.first_alike h k refl refl refl
-refused_alike {contents = contents} {r = r} {q = q} (commands.project {files = files} h) (commands.project k) ne nv =
+refused_alike {contents = contents} {r = r} {q = q} (commands.project {files = files} h) (commands.project k) =
     projected_alike.same_refusal (sources files contents) r q h k
-refused_alike {r = r} {q = q} (commands.load {branches = n} {seed = seed} h) (commands.load k) ne nv =
+refused_alike {r = r} {q = q} (commands.load {branches = n} {seed = seed} h) (commands.load k) =
     runs_alike.same_refusal (load_sources n seed) (role_mains_of load_asked) r q h k
-refused_alike (commands.verify {files = files} h) k ne nv = absurd (nv files refl)
+refused_alike {contents = contents} {r = r} {q = q} (commands.verify {files = files} h) (commands.verify k) =
+    verified_alike.same_refusal (sources files contents) r q h k
 
 say : (names : List Word) (r q : Refusal) → AreAlike r q → SameActions (Say (refusal_line names r) ∷ []) (Say (refusal_line names q) ∷ [])
 say names r q (inl e) = inl (ap (λ (z : Refusal). Say (refusal_line names z) ∷ []) e)
@@ -274,12 +277,11 @@ same_actions (gives y) (refused r) e ne = absurd (ne e)
 same_actions (refused r) z e ne = absurd (ne refl)
 
 yields_alike : {command : Command} {contents : List (List ℕ)} {a b : List Action} {m n : Status} → Yields command contents a m →
-    Yields command contents b n → m ≡ n → ((asked : Asked) (files : List Word) → command ≢ Exec asked files) →
-    ((files : List Word) → command ≢ Verify files) → SameActions a b
-yields_alike (gives y) (gives z) e ne nv = inl (given_once y z e)
-yields_alike (gives y) (refused r) e ne nv = absurd (not_both y r)
-yields_alike (refused r) (gives y) e ne nv = absurd (not_both y r)
-yields_alike {command = command} (refused {r = r} h) (refused {r = q} k) e ne nv = say (judged_names command) r q (refused_alike h k ne nv)
+    Yields command contents b n → m ≡ n → SameActions a b
+yields_alike (gives y) (gives z) e = inl (given_once y z e)
+yields_alike (gives y) (refused r) e = absurd (not_both y r)
+yields_alike (refused r) (gives y) e = absurd (not_both y r)
+yields_alike {command = command} (refused {r = r} h) (refused {r = q} k) e = say (judged_names command) r q (refused_alike h k)
 
 pub yields_once : YieldsOnce
 yields_once command contents a b m n y z =

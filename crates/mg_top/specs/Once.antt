@@ -1,6 +1,6 @@
 -- What a command gives is one thing.
 use Rattle.std.specs.Prelude.{◌≡◌, ◌≢◌, ◌⊎◌, ℕ, List, [], ◌∷◌}
-use Rattle.mg_words.specs.Words.{Word, Asked, Command, Exec, Verify}
+use Rattle.mg_words.specs.Words.{Word, Command}
 use Rattle.mg_refusal.specs.Refusals.{Refusal}
 use Rattle.mg_refusal.specs.Refusals as refusals
 use Rattle.mg_delivery.specs.Lines.{refusal_line}
@@ -23,13 +23,12 @@ pub record SaySyntax (line other : List ℕ) : Type 0 where
 abbrev pub SameActions : List Action → List Action → Type 0
 SameActions a b = (a ≡ b) ⊎ ((line other : List ℕ) × (a ≡ Say line ∷ []) × (b ≡ Say other ∷ []) × SaySyntax line other)
 
--- Of the same contents a command gives one status, and the same actions; of class files as they are that is said where they aren't refused.
-pub record OneYield (command : Command) (a b : List Action) (m n : Status) : Type 0 where
+-- Of the same contents a command gives one status, and the same actions.
+pub record OneYield (a b : List Action) (m n : Status) : Type 0 where
   pub status : m ≡ n
-  pub actions : ((asked : Asked) (files : List Word) → command ≢ Exec asked files) → ((files : List Word) → command ≢ Verify files) →
-      SameActions a b
+  pub actions : SameActions a b
   pub done : m ≢ statuses.Refused → a ≡ b
 
 abbrev pub YieldsOnce : Type 0
 YieldsOnce = (command : Command) (contents : List (List ℕ)) (a b : List Action) (m n : Status) →
-    Yields command contents a m → Yields command contents b n → OneYield command a b m n
+    Yields command contents a m → Yields command contents b n → OneYield a b m n

@@ -21,8 +21,7 @@ pub use mg_delivery::lines::refused;
 pub use top::mungo;
 
 /// Of the same contents a command gives one status, and the same actions, but for the place of Syntax
-/// in a line; of class files as they are that is said where they aren't refused. The function carries
-/// a law.
+/// in a line. The function carries a law.
 pub fn one_yield()
     ensures { YieldsOnce }
 {}
