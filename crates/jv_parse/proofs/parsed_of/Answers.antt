@@ -7,5 +7,5 @@ use Rattle.jv_parse.proofs.parsed_of.Goals as goal
 
 pub returns-in-Some : goal.returns-in-Some
 returns-in-Some c =
-    subst (λ (n : Name). Judged IsUnsupported c.args.tokens.now (Some (culprit c.in-Some.place n))) (sym c.in_ok-text.ensures)
+    subst (λ (n : Name). Judged IsUnsupported c.args.tokens.now (Some (culprit c.in-Some.place n))) (sym c.in_ok-name.ensures)
     c.in-Some.ensures
