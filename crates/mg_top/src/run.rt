@@ -103,14 +103,22 @@ fn show(alloc: Global, asked: &Asked<'_>, mains: &[RoleMain], ran: Ran) -> Resul
     let said = said_of(alloc, &trace, mains, roles.as_slice())?;
     let mut actions = List::new(alloc);
     keep(alloc, asked.folder, files.as_slice(), &mut actions)?;
-    if !printed.is_empty() {
-        actions.push(Action::Print(printed))?;
-    }
+    print(printed, &mut actions)?;
     actions.push(Action::Say(said))?;
     Ok(Delivery {
         actions,
         status: status_of(roles.as_slice()),
     })
+}
+
+// Appends that a text is put, unless it is empty.
+fn print(printed: Bytes, actions: &mut List<Action>) -> Result<(), Memory>
+    ensures { OnOk result (actions.new.items ≡ actions.old.items ++ prints printed) }
+{
+    if printed.is_empty() {
+        return Ok(());
+    }
+    actions.push(Action::Print(printed))
 }
 
 // Appends the writes of class files, where a folder is named.
