@@ -30,14 +30,14 @@ module _ (w : World) (r : ℕ) (peer : Name) where
       ap (λ (b : Bool). if b then Some (sent w k r) else messages_of (inputs_from w r (suc k) names) peer) is
 
   -- nobody has this name
-  no_inputs : (k : ℕ) (names : List Name) → list_any (bytes_eq peer) names ≡ false → messages_of (inputs_from w r k names) peer ≡ None
+  pub no_inputs : (k : ℕ) (names : List Name) → list_any (bytes_eq peer) names ≡ false → messages_of (inputs_from w r k names) peer ≡ None
   no_inputs k [] h = refl
   no_inputs k (name ∷ names) h =
       let both = both_false (bytes_eq peer name) (list_any (bytes_eq peer) names) h in
       passed k name names (k == r) both.0 ∙ no_inputs (suc k) names both.1
 
   -- the role of this name is another
-  its_inputs : (k : ℕ) (names : List Name) (i : ℕ) → IsDistinct bytes_eq names → slice_get names i ≡ Some peer → k + i ≢ r →
+  pub its_inputs : (k : ℕ) (names : List Name) (i : ℕ) → IsDistinct bytes_eq names → slice_get names i ≡ Some peer → k + i ≢ r →
       messages_of (inputs_from w r k names) peer ≡ Some (sent w (k + i) r)
   unfolding IsDistinct
   its_inputs k [] i d at apart = absurd (cc at)
@@ -60,7 +60,7 @@ module _ (w : World) (r : ℕ) (peer : Name) where
           absurd (omega (arith, same))
 
   -- the role itself has this name
-  own_inputs : (k : ℕ) (names : List Name) (i : ℕ) → IsDistinct bytes_eq names → slice_get names i ≡ Some peer → k + i ≡ r →
+  pub own_inputs : (k : ℕ) (names : List Name) (i : ℕ) → IsDistinct bytes_eq names → slice_get names i ≡ Some peer → k + i ≡ r →
       messages_of (inputs_from w r k names) peer ≡ None
   unfolding IsDistinct
   own_inputs k [] i d at same = absurd (cc at)

@@ -1,0 +1,948 @@
+-- The law: the system that a world is isn't stuck.
+use Rattle.std.proofs.Common.{◌≡◌, ◌≢◌, ◌⊎◌, inl, inr, ⊎_elim, ℕ, zero, suc, ◌+◌, ◌<◌, ◌≤◌, leb, Bool, true, false, List, [], ◌∷◌, ◌++◌, map, length}
+use Rattle.std.proofs.Common.{Option, Some, None, refl, sym, ap, ◌∙◌, subst, position, arith, append-nil}
+use Rattle.std.specs.Prelude.{◌==◌, if◌then◌else◌, slice_get, Contains, cond}
+use Rattle.std.specs.List.{IsDistinct, filter}
+use Rattle.std.specs.Str.{bytes_eq}
+use Rattle.std.proofs.lemmas.Bool.Decides.{eqb_tells, leb_tells}
+use Rattle.mg_text.specs.Call.{Name}
+use Rattle.mg_text.specs.declared.event.Event.{Event}
+use Rattle.mg_text.specs.declared.event.Event.TheVariants as seen
+use Rattle.mg_text.specs.declared.event.Sent.{Sent}
+use Rattle.mg_text.specs.declared.event.Ending.{Ending}
+use Rattle.mg_text.specs.declared.event.Ending.TheVariants as endings
+use Rattle.scr_tree.specs.declared.syntax.Payload.{Payload}
+use Rattle.scr_tree.specs.Tree.{LocalTree}
+use Rattle.scr_tree.specs.Valid.{IsValid as LocalIsValid}
+use Rattle.scr_tree.specs.Meaning.{first_of, protocol_of}
+use Rattle.scr_tree.specs.Protocol.{Message, Send, Take, Protocol}
+use Rattle.scr_tree.specs.Steps.{Act, Moves, Looks, Position, whole, stays}
+use Rattle.scr_tree.specs.Traces.{Complete}
+use Rattle.scr_global.specs.Alone.{Step, Finished}
+use Rattle.scr_global.specs.Global.{Passing, Global}
+use Rattle.scr_global.specs.Points as conversations
+use Rattle.scr_global.specs.Systems.{Parcel, parcel, System, Moved, Reaches, initial, waits_for}
+use Rattle.scr_global.specs.Systems as systems
+use Rattle.scr_global.specs.Laws as global_law
+use Rattle.scr_global.specs.Laws.{AreProjections}
+use Rattle.scr_global.proofs.Stuck.{messages_are_taken, none_is_stuck}
+use Rattle.fit_next.specs.Next.{Alike, same, both_send, both_look}
+use Rattle.fit_next.proofs.Next.{next_is_alike, finished_stops}
+use Rattle.fit_next.proofs.Inside.{Says, IsPeer, says_projected, peer_at}
+use Rattle.ts_tree.specs.Typestate.{Typestate}
+use Rattle.stm_api.specs.Doings.{Doing, Passes, Asks}
+use Rattle.stm_acts.specs.Acts.{unnumbered, kind_of, acts}
+use Rattle.stm_acts.specs.Played.{role_class, Refuses}
+use Rattle.stm_acts.proofs.Standing.{Of}
+use Rattle.jv_values.specs.Alike.{Prefix}
+use Rattle.jv_values.specs.Values.{Inputs, Ended, Finish, Done, Zero, Null, Mismatch, NoPeer, Wait, More, Wrong}
+use Rattle.jv_values.specs.Messages.{messages_of, takes_from, taken}
+use Rattle.jv_values.specs.Seen.{IsMade, told, open_told}
+use Rattle.jv_meaning.specs.Program.{Sources}
+use Rattle.jv_meaning.specs.Meaning.{mean}
+use Rattle.jv_meaning.specs.Calls.{calls}
+use Rattle.vm_model.specs.Program.{Program}
+use Rattle.vm_model.specs.Messages.{Messages, or_nothing, on_way}
+use Rattle.vm_model.specs.Machine.{Machine, Waits}
+use Rattle.vm_model.specs.Step.{step}
+use Rattle.vm_world_law.specs.declared.role.RoleMain.{RoleMain}
+use Rattle.vm_world_law.specs.declared.stand.Stand.{Stand}
+use Rattle.vm_world_law.specs.declared.stand.Stand.TheVariants as stands
+use Rattle.vm_world_law.specs.Doing.{Answer, Looks as LooksAt, Takes, Refuses as RefusesIt, Doing as Doings, Goes, Ends, Sends, Receives}
+use Rattle.vm_world_law.specs.Doing.{answers, receives, done, IsDoing}
+use Rattle.vm_world_law.specs.Meant.{finish_of, Means}
+use Rattle.vm_world_law.specs.World.{State, Runs, Over, Role, World, turns, IsBegun, IsFresh, events_of, name_of, sent, took, taken_from}
+use Rattle.vm_world_law.specs.World.{waits_by, IsStill, Rests}
+use Rattle.vm_world_law.specs.Turns.{stand_of, waiting_for}
+use Rattle.vm_world_law.specs.Worlds.{inputs_of, Shows, IsMeant}
+use Rattle.vm_world_law.specs.Laws.{Delivers}
+use Rattle.vm_world_law.proofs.Begun.{begun_is_fresh}
+use Rattle.vm_world_law.proofs.Doing.{does_one}
+use Rattle.vm_world_law.proofs.Inputs.{its_inputs}
+use Rattle.vm_world_law.proofs.Alone.{kept_by}
+use Rattle.vm_world_law.proofs.Lists.{some_is, got_within}
+use Rattle.vm_world_law.proofs.Ways.{other_is, named_within}
+use Rattle.stm_acts.specs.Ends.{deeds, peer_in, Wants, IsOther, IsCut, IsBusy, Halts, waits, misses, mismatches, StandsAt, EndsInCall, cut}
+use Rattle.stm_acts.specs.Ends.{halts, refuses, IsDoneByOne, not_yet, by_one}
+use Rattle.scr_faithful.specs.Guarded.{IsGuarded}
+use Rattle.scr_faithful.specs.Faithful.{CanEnd}
+use Rattle.scr_faithful.proofs.Faithful.{complete_is_conversation, each_has_done_its_part}
+use Rattle.scr_faithful.specs.Heard.{NoneIsForgotten}
+use Rattle.scr_faithful.proofs.Heard.{each_has_done_a_part}
+use Rattle.fit_law.specs.Conversed.{TurnsGoOnInConversation, passed, RestIsConversation, TurnsAreInConversation}
+use Rattle.fit_law.specs.Fit.{IsHad, KeepsTo, IsCast, AreMeant, IsWell, IsComplete, NoneGetsStuck}
+use Rattle.fit_law.proofs.Deeds.{deeds-append, Walked, walked, but_look}
+use Rattle.fit_law.proofs.Worlds.{parcel_of, Stands, Good, fresh_is_good, turns_good}
+use Rattle.fit_law.proofs.Objects.{label_known, runs_so, Ahead, ahead, refusal, refused_ahead, completes, at_end}
+
+-- ---- systems
+
+-- a move is a step
+moved_step : {me : Name} {c d : System} {act : Act} → Moved me c act d → (to : Position) × Step (c.at me) act to
+moved_step (systems.sends {to = to} step) = (to, step)
+moved_step (systems.takes {to = to} step e) = (to, step)
+moved_step (systems.looks {to = to} step e) = (to, step)
+
+-- a move that wants a message finds one
+record Found (c : System) (me peer : Name) (act : Act) : Type 0 where
+  label : Name
+  kind : Payload
+  others : List Parcel
+  there : c.lists peer me ≡ parcel label kind ∷ others
+  is : (act ≡ Moves (Take peer label kind)) ⊎ ((n : ℕ) × (act ≡ Looks n peer label))
+
+moved_finds : {me peer : Name} {c d : System} {act : Act} → Moved me c act d → waits_for act ≡ Some peer → Found c me peer act
+moved_finds (systems.sends step) w = absurd (cc w)
+moved_finds {me} {peer} {c} (systems.takes {peer = theirs} {label = label} {kind = kind} {others = others} it e) w =
+    let f : theirs ≡ peer = some_is w in
+    record {
+      label = label;
+      kind = kind;
+      others = others;
+      there = ap (λ q. c.lists q me) (sym f) ∙ e;
+      is = inl (ap (λ q. Moves (Take q label kind)) f);
+    }
+moved_finds {me} {peer} {c} (systems.looks {number = n} {peer = theirs} {label = label} {kind = kind} {others = others} it e) w =
+    let f : theirs ≡ peer = some_is w in
+    record {
+      label = label;
+      kind = kind;
+      others = others;
+      there = ap (λ q. c.lists q me) (sym f) ∙ e;
+      is = inr (n, ap (λ q. Looks n q label) f);
+    }
+
+alike_waits : {a b : Act} {peer : Name} → Alike a b → waits_for a ≡ Some peer → waits_for b ≡ Some peer
+alike_waits same w = w
+alike_waits both_send w = absurd (cc w)
+alike_waits both_look w = w
+
+alike_take : {peer label : Name} {kind : Payload} {a b : Act} → a ≡ Moves (Take peer label kind) → Alike a b →
+    b ≡ Moves (Take peer label kind)
+alike_take e same = e
+alike_take e both_send = absurd (cc e)
+alike_take e both_look = absurd (cc e)
+
+alike_look : {n : ℕ} {peer label : Name} {a b : Act} → a ≡ Looks n peer label → Alike a b → (l : Name) × (b ≡ Looks n peer l)
+alike_look {label = label} e same = (label, e)
+alike_look e both_send = absurd (cc e)
+alike_look {n} {peer} {label} e (both_look {n = m} {p = p} {l = l} {k = k}) =
+    let f : m ≡ n = numbers e in
+    let g : p ≡ peer = peers e in
+    (k, ap (λ x. Looks x p k) f ∙ ap (λ x. Looks n x k) g)
+  where
+    numbers : {m n : ℕ} {p q l k : Name} → Looks m p l ≡ Looks n q k → m ≡ n
+    numbers e = cc
+
+    peers : {m n : ℕ} {p q l k : Name} → Looks m p l ≡ Looks n q k → p ≡ q
+    peers e = cc
+
+-- ---- lists
+
+map_nothing : {A B : Type 0} (f : A → B) (xs : List A) → map f xs ≡ [] → xs ≡ []
+map_nothing f [] e = refl
+map_nothing f (x ∷ xs) e = absurd (cc e)
+
+heads : {A : Type 0} {x y : A} {xs ys : List A} → x ∷ xs ≡ y ∷ ys → x ≡ y
+heads e = cc
+
+labels_are : {l k : Name} {a b : Payload} → parcel l a ≡ parcel k b → (l ≡ k) × (a ≡ b)
+labels_are e = (ap (λ (x : Parcel). x.label) e, ap (λ (x : Parcel). x.kind) e)
+
+-- as many were taken
+taken_long : (q : Name) (es : List Event) → length (taken_from q es) ≡ taken q es
+taken_long q [] = refl
+taken_long q (seen.Print t ∷ es) = taken_long q es
+taken_long q (seen.Made o c ∷ es) = taken_long q es
+taken_long q (seen.Enter o m ∷ es) = taken_long q es
+taken_long q (seen.Leave o a ∷ es) = taken_long q es
+taken_long q (seen.Send p l c ∷ es) = taken_long q es
+taken_long q (seen.Look p l ∷ es) = taken_long q es
+taken_long q (seen.Take p l c ∷ es) = go (bytes_eq q p) refl (taken_long q es)
+  where
+    long : (b : Bool) → length (taken_from q es) ≡ taken q es →
+        length ((if b then record { label = l; payload = c } ∷ [] else []) ++ taken_from q es)
+        ≡ length (cond b (seen.Take p l c ∷ filter (takes_from q) es) (filter (takes_from q) es))
+    long true h = ap suc h
+    long false h = h
+
+    go : (b : Bool) → bytes_eq q p ≡ b → length (taken_from q es) ≡ taken q es →
+        length (taken_from q (seen.Take p l c ∷ es)) ≡ taken q (seen.Take p l c ∷ es)
+    go b e h =
+        ap (λ (x : Bool). length ((if x then record { label = l; payload = c } ∷ [] else []) ++ taken_from q es)) e
+        ∙ long b h
+        ∙ sym (ap (λ (x : Bool). length (cond x (seen.Take p l c ∷ filter (takes_from q) es) (filter (takes_from q) es))) e)
+
+got_behind : {A : Type 0} (xs ys : List A) (x : A) → slice_get (xs ++ ys) (length xs) ≡ Some x → (more : List A) × (ys ≡ x ∷ more)
+got_behind [] [] x e = absurd (cc e)
+got_behind [] (y ∷ ys) x e = let f : y ≡ x = some_is e in (ys, ap (λ z. z ∷ ys) f)
+got_behind (z ∷ xs) ys x e = got_behind xs ys x e
+
+-- ---- a machine that waits
+
+record Emptied (q : Messages) (me from : ℕ) : Type 0 where
+  empty : on_way q from me ≡ []
+  within : from < length q.roles
+
+waits_at : (q : Messages) (me k : ℕ) (d : Doings) → IsDoing q.roles me d → done q me d ≡ Waits k → Emptied q me k
+waits_at q me k (Goes m event) right e = absurd (cc e)
+waits_at q me k (Ends ending) right e = absurd (cc e)
+waits_at q me k (Sends m to peer message) right e = absurd (cc e)
+waits_at q me k (Receives from peer a) right e = go (on_way q from me) refl e
+  where
+    answered : (message : Sent) (more : List Sent) (x : Answer) → answers q me from peer message more x ≡ Waits k → ⊥
+    answered message more (LooksAt m) e = cc
+    answered message more (Takes m) e = cc
+    answered message more RefusesIt e = cc
+
+    go : (list : List Sent) → on_way q from me ≡ list → receives q me from peer a list ≡ Waits k → Emptied q me k
+    go [] is e =
+        let f : from ≡ k = waits_is e in
+        subst (λ x. Emptied q me x) f
+        (record { empty = is; within = named_within q.roles peer from (other_is me (position (bytes_eq peer) q.roles) from right).is })
+      where
+        waits_is : {a b : ℕ} → Waits a ≡ Waits b → a ≡ b
+        waits_is e = cc
+    go (message ∷ more) is e = absurd (answered message more (a message) e)
+
+step_waits : (p : Program) (me : ℕ) (m : Machine) (q : Messages) (k : ℕ) → step p me m q ≡ Waits k → Emptied q me k
+step_waits p me m q k e =
+    let one = does_one q.roles me p m in
+    waits_at q me k one.doing one.right (sym (one.is q refl) ∙ e)
+
+-- ---- choosing where each role stands
+
+abbrev Below : (i n : ℕ) → Type 0
+Below i n = (leb (suc i) n ≡ true) × (suc i ≤ n) ⊎ (leb (suc i) n ≡ false) × (n < suc i)
+
+module _ (n : ℕ) (W : (i : ℕ) → Position → Type 0) where
+  abbrev ends_by : ((i : ℕ) → i < n → (end : Position) × W i end) → (i : ℕ) → Below i n → Position
+  ends_by f i (inl h) = (f i h.1).0
+  ends_by f i (inr h) = []
+
+  record Chosen : Type 0 where
+    ends : ℕ → Position
+    are : (i : ℕ) → i < n → W i (ends i)
+
+  choose : ((i : ℕ) → i < n → (end : Position) × W i end) → Chosen
+  choose f = record { ends = λ i. ends_by f i (leb_tells (suc i) n); are = λ i h. go i h (leb_tells (suc i) n) }
+    where
+      go : (i : ℕ) → i < n → (b : Below i n) → W i (ends_by f i b)
+      go i h (inl k) = (f i k.1).1
+      go i h (inr k) = absurd (let a = k.1 in omega (arith, a, h))
+
+-- ---- names of roles
+
+record MainAt (mains : List RoleMain) (i : ℕ) : Type 0 where
+  main : RoleMain
+  at : slice_get mains i ≡ Some main
+  named : slice_get (map (λ (m : RoleMain). m.role) mains) i ≡ Some main.role
+
+main_at : (mains : List RoleMain) (i : ℕ) → i < length (map (λ (m : RoleMain). m.role) mains) → MainAt mains i
+main_at [] i h = absurd (omega (arith, h))
+main_at (m ∷ mains) zero h = record { main = m; at = refl; named = refl }
+main_at (m ∷ mains) (suc i) h =
+    let r = main_at mains i (omega (arith, h)) in
+    record { main = r.main; at = r.at; named = r.named }
+
+name_at : (mains : List RoleMain) (i : ℕ) (main : RoleMain) → slice_get mains i ≡ Some main →
+    slice_get (map (λ (m : RoleMain). m.role) mains) i ≡ Some main.role
+name_at [] i main e = absurd (cc e)
+name_at (m ∷ mains) zero main e = ap (λ (o : Option RoleMain). Rattle.std.specs.Prelude.option_map (λ (x : RoleMain). x.role) o) e
+name_at (m ∷ mains) (suc i) main e = name_at mains i main e
+
+module _ (j : Sources) (typestates : List Typestate) (roles : List Name) (g : Global) (locals : Name → LocalTree)
+    (mains : List RoleMain) (cast : IsCast j typestates roles g locals mains) (p : Program) (first : World)
+    (begun : IsBegun p mains first) (meant : (taken : List ℕ) → AreMeant j mains p (turns p first taken)) where
+  are : AreProjections roles g locals
+  are = cast.locals_are.projections
+
+  abbrev names : List Name
+  names = map (λ (m : RoleMain). m.role) mains
+
+  abbrev protocols : Name → Protocol
+  protocols me = first_of (locals me)
+
+  abbrev name : ℕ → Name
+  name i = or_nothing (slice_get names i)
+
+  fresh : IsFresh first
+  fresh = (begun_is_fresh p mains first begun).0
+
+  name_is : (i : ℕ) (main : RoleMain) → slice_get mains i ≡ Some main → name i ≡ main.role
+  name_is i main at = ap or_nothing (name_at mains i main at)
+
+  listed : (i : ℕ) → i < length names → Contains roles (name i)
+  listed i h = let m = main_at mains i h in subst (Contains roles) (sym (ap or_nothing m.named)) (cast.known i m.main m.at)
+
+  -- another role of the protocol is a role of the world
+  record Numbered (me : Name) : Type 0 where
+    number : ℕ
+    within : number < length names
+    there : slice_get names number ≡ Some me
+
+  numbered : (me : Name) → Contains roles me → Numbered me
+  numbered me l =
+      let k = cast.played me l in
+      let at : slice_get names k.0 ≡ Some me = name_at mains k.0 k.1 k.2 ∙ ap Some k.3 in
+      record { number = k.0; within = got_within names k.0 me at; there = at }
+
+  module _ (so_far : List ℕ) where
+    abbrev w : World
+    w = turns p first so_far
+
+    good : Good roles protocols names begun.distinct listed w
+    good = turns_good roles protocols names begun.distinct listed p first
+        (fresh_is_good roles protocols names begun.distinct listed first fresh (ap (λ (q : Messages). q.roles) begun.messages)) so_far
+
+    delivers : Delivers w
+    delivers = (kept_by p first fresh so_far).delivers
+
+    abbrev Walk : ℕ → Position → Type 0
+    Walk i end = Walked (protocols (name i)) (deeds (events_of i w.events)) end
+
+    -- ---- one role
+
+    module _ (r : ℕ) (main : RoleMain) (at_main : slice_get mains r ≡ Some main) where
+      abbrev R : Name
+      R = main.role
+
+      abbrev L : LocalTree
+      L = locals main.role
+
+      l : Contains roles R
+      l = cast.known r main at_main
+
+      valid : ∥ LocalIsValid L ∥₁
+      valid = cast.locals_are.valid R l
+
+      had : IsHad j typestates L
+      had = cast.had R l
+
+      abbrev P : Name → Type 0
+      P = IsPeer roles R
+
+      says : Says P (first_of L)
+      says = says_projected roles R (are.projected R l) are.valid.between tt
+
+      within : r < length names
+      within = got_within names r R (name_at mains r main at_main)
+
+      abbrev role : Role
+      role = (meant so_far r main at_main).0
+
+      at_role : slice_get w.roles r ≡ Some role
+      at_role = (meant so_far r main at_main).1
+
+      is_meant : IsMeant p (mean j main.class) w r role
+      is_meant = (meant so_far r main at_main).2
+
+      abbrev es : List Event
+      es = events_of r w.events
+
+      abbrev inputs : Inputs
+      inputs = inputs_of w r
+
+      abbrev run : Ended
+      run = mean j main.class inputs (suc role.count)
+
+      keeps : KeepsTo j typestates run
+      keeps = cast.keeps r main at_main inputs (suc role.count)
+
+      done_so : IsDoneByOne j (roles ++ cast.idle) L.me (protocol_of L) inputs run
+      done_so = cast.by_one r main at_main inputs (suc role.count)
+
+      shown : Prefix es run.events
+      shown = go (stand_of p w r role.state) is_meant.shows
+        where
+          go : (s : Stand) → Shows (mean j main.class inputs) role.count es s → Prefix es run.events
+          go (stands.Ended ending) h = record { later = []; is = ap (λ (x : Ended). x.events) h.2 ∙ sym (append-nil es) }
+          go (stands.Waits peer) h = record { later = []; is = ap (λ (x : Ended). x.events) h ∙ sym (append-nil es) }
+          go stands.Bound h = h
+
+      -- a walk to somewhere
+      somewhere : (end : Position) × Walk r end
+      somewhere = go done_so
+        where
+          as_named : {end : Position} → Walked (first_of L) (deeds es) end → Walk r end
+          as_named {end} x = subst (λ n. Walked (protocols n) (deeds es) end) (sym (name_is r main at_main)) x
+
+          go : IsDoneByOne j (roles ++ cast.idle) L.me (protocol_of L) inputs run → (end : Position) × Walk r end
+          go (not_yet nobody none busy) = (
+            whole (first_of L),
+            as_named (walked [] stays (nothing_first (deeds es) (deeds shown.later)
+                (sym (deeds-append es shown.later) ∙ ap deeds (sym shown.is) ∙ none))),
+          )
+            where
+              nothing_first : {A : Type 0} (xs ys : List A) → xs ++ ys ≡ [] → xs ≡ []
+              nothing_first [] ys e = refl
+              nothing_first (x ∷ xs) ys e = absurd (cc e)
+          go (by_one o made alone acting ends) =
+              let x = runs_so j typestates L valid had P says main.class inputs (suc role.count) keeps o made es shown.later shown.is in
+              (x.0, as_named (subst (λ ds. Walked (first_of L) ds x.0) (sym (acting es shown.later shown.is)) x.1))
+
+    -- the walk of each role of a number
+    anywhere : (i : ℕ) → i < length names → (end : Position) × Walk i end
+    anywhere i h = let m = main_at mains i h in somewhere i m.main m.at
+
+    -- what was said so far
+    started : CanEnd g → (messages : List Passing) × conversations.Complete g messages
+        × ((r : ℕ) (main : RoleMain) → slice_get mains r ≡ Some main → (rest : List Message)
+        × (global_law.named main.role messages ≡ passed (deeds (events_of r w.events)) ++ rest))
+    started can =
+        let chosen = choose (length names) Walk anywhere in
+        let s = good.stands (record { ends = chosen.ends; walks = chosen.are }) in
+        let m = each_has_done_its_part roles g locals are can s.system s.reached in (
+          m.0,
+          m.1,
+          λ r main at.
+              let h : r < length names = got_within names r main.role (name_at mains r main at) in
+              let d = m.2 (name r) (listed r h) in (
+                global_law.messages_of d.acts,
+                ap (λ n. global_law.named n m.0) (sym (name_is r main at)) ∙ d.are
+                    ∙ ap (λ ms. ms ++ global_law.messages_of d.acts) (s.said r h),
+              ),
+        )
+
+    -- the same where a conversation needn't come to an end
+    gone_on : NoneIsForgotten roles g locals → (messages : List Passing) × (point : conversations.Point)
+        × conversations.Goes (conversations.start g) messages point
+        × ((r : ℕ) (main : RoleMain) → slice_get mains r ≡ Some main → (rest : List Message)
+        × (global_law.named main.role messages ≡ passed (deeds (events_of r w.events)) ++ rest))
+    gone_on heard =
+        let chosen = choose (length names) Walk anywhere in
+        let s = good.stands (record { ends = chosen.ends; walks = chosen.are }) in
+        let m = each_has_done_a_part roles g locals are heard s.system s.reached in (
+          m.0,
+          m.1,
+          m.2,
+          λ r main at.
+              let h : r < length names = got_within names r main.role (name_at mains r main at) in
+              let d = m.3 (name r) (listed r h) in (
+                global_law.messages_of d.acts,
+                ap (λ n. global_law.named n m.0) (sym (name_is r main at)) ∙ d.are
+                    ∙ ap (λ ms. ms ++ global_law.messages_of d.acts) (s.said r h),
+              ),
+        )
+
+    -- ---- a role that ended badly
+
+    module _ (r : ℕ) (main : RoleMain) (at_main : slice_get mains r ≡ Some main) where
+      abbrev me : Name
+      me = main.role
+
+      mine : Contains roles me
+      mine = l r main at_main
+
+      -- with this walk of the role the world is a system
+      record World_is (end : Position) : Type 0 where
+        system : System
+        reached : Reaches roles (initial protocols) system
+        at : system.at me ≡ end
+        lists : (i k : ℕ) → i < length names → k < length names → system.lists (name i) (name k) ≡ map parcel_of (on_way w.messages i k)
+
+      abbrev W_of : (end : Position) → (i : ℕ) → Position → Type 0
+      W_of end i e = Walk i e × (i ≡ r → e ≡ end)
+
+      world_is : (end : Position) → Walk r end → World_is end
+      world_is end x =
+          let s = good.stands (record { ends = chosen.ends; walks = λ i h. (chosen.are i h).0 }) in
+          record {
+            system = s.system;
+            reached = s.reached;
+            at = ap (λ n. s.system.at n) (sym (name_is r main at_main)) ∙ s.at r (within r main at_main) ∙
+                (chosen.are r (within r main at_main)).1 refl;
+            lists = s.lists;
+          }
+        where
+          pick : (i : ℕ) → i < length names → ((i == r) ≡ true) × (i ≡ r) ⊎ ((i == r) ≡ false) × (i ≢ r) → (e : Position) × W_of end i e
+          pick i h (inl is) = (end, (subst (λ k. Walk k end) (sym is.1) x, λ f. refl))
+          pick i h (inr is) = let a = anywhere i h in (a.0, (a.1, λ f. absurd (is.1 f)))
+
+          chosen : Chosen (length names) (W_of end)
+          chosen = choose (length names) (W_of end) (λ i h. pick i h (eqb_tells i r))
+
+      abbrev E : List Event
+      E = (run r main at_main).events
+
+      -- where a next act of the role wants a message of a peer whose list begins so, an act that is alike finds it
+      record Finds (at : Position) (act : Act) (peer : Name) (x : Sent) : Type 0 where
+        other_act : Act
+        to : Position
+        step : Step at other_act to
+        alike : Alike act other_act
+        label : Name
+        kind : Payload
+        is_label : x.label ≡ label
+        is_kind : kind_of x.payload ≡ kind
+        is : (other_act ≡ Moves (Take peer label kind)) ⊎ ((n : ℕ) × (other_act ≡ Looks n peer label))
+
+      finds : (at : Position) → Walk r at → (act : Act) (to : Position) → Step at act to → (peer : Name) → waits_for act ≡ Some peer →
+          (from : ℕ) → from < length names → name from ≡ peer → (x : Sent) (more : List Sent) → on_way w.messages from r ≡ x ∷ more →
+          Finds at act peer x
+      finds at walk act to step peer wants from lt named x more way =
+          let s = world_is at walk in
+          let c = s.system in
+          let here : c.lists peer me ≡ parcel_of x ∷ map parcel_of more =
+          ap (λ n. c.lists n me) (sym named) ∙ ap (λ n. c.lists (name from) n) (sym (name_is r main at_main))
+          ∙ s.lists from r lt (within r main at_main) ∙ ap (map parcel_of) way in
+          let st : Step (c.at me) act to = subst (λ q. Step q act to) (sym s.at) step in
+          let t = messages_are_taken roles g locals are c s.reached me peer mine act to st wants
+          (λ e. some_there (parcel_of x) (map parcel_of more) (sym here ∙ e)) in
+          let ms = moved_step t.3 in
+          let f = moved_finds t.3 t.2 in
+          let same_parcel = labels_are (heads (sym here ∙ f.there)) in
+          record {
+            other_act = t.0;
+            to = ms.0;
+            step = subst (λ q. Step q t.0 ms.0) s.at ms.1;
+            alike = next_is_alike roles g locals are c s.reached me mine act t.0 to ms.0 st ms.1;
+            label = f.label;
+            kind = f.kind;
+            is_label = same_parcel.0;
+            is_kind = same_parcel.1;
+            is = f.is;
+          }
+        where
+          some_there : (y : Parcel) (ys : List Parcel) → y ∷ ys ≡ [] → ⊥
+          some_there y ys e = cc
+
+      -- where the role is at the end of what is meant
+      module _ (settled : E ≡ es r main at_main) (o : ℕ) (made : IsMade E o (role_class (L r main at_main).me))
+          (only : (so : List Event) → Prefix so E → deeds so ≡ acts o so) where
+        all_of_it : Prefix E E
+        all_of_it = record { later = []; is = sym (append-nil E) }
+
+        deeds_are : deeds (es r main at_main) ≡ acts o E
+        deeds_are = ap deeds (sym settled) ∙ only E all_of_it
+
+        as_named : {end : Position} → Walked (first_of (L r main at_main)) (acts o E) end → Walk r end
+        as_named {end} x =
+            subst (λ n. Walked (protocols n) (deeds (es r main at_main)) end) (sym (name_is r main at_main))
+            (subst (λ ds. Walked (first_of (L r main at_main)) ds end) (sym deeds_are) x)
+
+        ahead_of : (doing : Doing) → StandsAt j (L r main at_main).me (protocol_of (L r main at_main)) o E doing →
+            Ahead j typestates (L r main at_main) (valid r main at_main) (had r main at_main) (P r main at_main) (says r main at_main)
+            main.class (inputs r main at_main) (suc (role r main at_main).count) (keeps r main at_main) o made doing
+        ahead_of doing st =
+            ahead j typestates (L r main at_main) (valid r main at_main) (had r main at_main) (P r main at_main) (says r main at_main)
+            main.class (inputs r main at_main) (suc (role r main at_main).count) (keeps r main at_main) o made doing st
+
+        -- a peer of the role is another role of the world
+        record Peer (peer : Name) : Type 0 where
+          number : ℕ
+          lower : number < length names
+          named : name number ≡ peer
+          inputs_are : messages_of (inputs r main at_main) peer ≡ Some (sent w number r)
+
+        peer_is : (peer : Name) → P r main at_main peer → Peer peer
+        peer_is peer h = found (numbered peer h.0)
+          where
+            found : Numbered peer → Peer peer
+            found k =
+                let z : 0 + k.number ≡ k.number = omega arith in
+                let at : slice_get w.messages.roles k.number ≡ Some peer = ap (λ (x : List Name). slice_get x k.number) good.named ∙ k.there in
+                record {
+                  number = k.number;
+                  lower = k.within;
+                  named = ap or_nothing k.there;
+                  inputs_are = its_inputs w r peer 0 w.messages.roles k.number (subst (IsDistinct bytes_eq) (sym good.named) begun.distinct)
+                      at
+                      (λ e. h.1 (some_is (sym k.there ∙ ap (slice_get names) (sym z ∙ e) ∙ name_at mains r main at_main)))
+                      ∙ ap (λ n. Some (sent w n r)) z;
+                }
+
+        -- the next message is another than that which is taken
+        no_mismatch : {peer label : Name} {kind : Payload} {messages : List Sent} {message : Sent} →
+            StandsAt j (L r main at_main).me (protocol_of (L r main at_main)) o E (Passes (Take peer label kind)) → messages_of (inputs r main at_main) peer ≡ Some messages →
+            slice_get messages (taken peer E) ≡ Some message → ((message.label ≡ label) × (kind_of message.payload ≡ kind) → ⊥) → ⊥
+        no_mismatch {peer} {label} {kind} {messages} {message} st there next differs =
+            let a = ahead_of (Passes (Take peer label kind)) st in
+            let act_is : a.next.act ≡ Moves (Take peer label kind) = take_act a.next.act a.next.of in
+            let k = peer_is peer (subst (P r main at_main) (ap (peer_at (P r main at_main)) act_is) a.next.peer) in
+            let list : messages ≡ sent w k.number r = some_is (sym there ∙ k.inputs_are) in
+            let split : sent w k.number r ≡ took w r k.number ++ on_way w.messages k.number r =
+            delivers k.number r (subst (λ (x : List Name). k.number < length x) (sym good.named) k.lower)
+            (subst (λ (x : List Name). r < length x) (sym good.named) (within r main at_main)) in
+            let long : taken peer E ≡ length (took w r k.number) =
+            ap (taken peer) settled ∙ sym (taken_long peer (es r main at_main))
+            ∙ ap (λ n. length (taken_from n (es r main at_main)))
+            (sym (ap (λ (x : List Name). or_nothing (slice_get x k.number)) good.named ∙ k.named)) in
+            let front = got_behind (took w r k.number) (on_way w.messages k.number r) message
+            (subst (λ n. slice_get (took w r k.number ++ on_way w.messages k.number r) n ≡ Some message) long
+            (subst (λ xs. slice_get xs (taken peer E) ≡ Some message) (list ∙ split) next)) in
+            let f = finds a.next.at (as_named (walked a.closed a.next.run a.are)) a.next.act a.next.to a.next.step peer
+            (ap waits_for act_is) k.number k.lower k.named message front.0 front.1 in
+            let other_is_it : f.other_act ≡ Moves (Take peer label kind) = alike_take act_is f.alike in
+            differs (found_is f.label f.kind f.is_label f.is_kind f.other_act other_is_it f.is)
+          where
+            take_act : (act : Act) → Of (Passes (Take peer label kind)) act → act ≡ Moves (Take peer label kind)
+            take_act (Moves m) h = ap Moves (sym h)
+            take_act (Looks n q k) h = absurd h
+
+            found_is : (l1 : Name) (k1 : Payload) → message.label ≡ l1 → kind_of message.payload ≡ k1 → (act : Act) →
+                act ≡ Moves (Take peer label kind) → (act ≡ Moves (Take peer l1 k1)) ⊎ ((n : ℕ) × (act ≡ Looks n peer l1)) →
+                (message.label ≡ label) × (kind_of message.payload ≡ kind)
+            found_is l1 k1 e f act is (inl h) = (e ∙ labels (sym h ∙ is), f ∙ kinds (sym h ∙ is))
+              where
+                labels : {p q l k : Name} {a b : Payload} → Moves (Take p l a) ≡ Moves (Take q k b) → l ≡ k
+                labels e = cc
+
+                kinds : {p q l k : Name} {a b : Payload} → Moves (Take p l a) ≡ Moves (Take q k b) → a ≡ b
+                kinds e = cc
+            found_is l1 k1 e f act is (inr h) = absurd (let x = sym h.1 ∙ is in cc)
+
+        -- no label is refused
+        no_refusal : Refuses (L r main at_main).me (protocol_of (L r main at_main)) (calls j (role_class (L r main at_main).me) o E)
+            (open_told (told o E)) (acts o E) E (run r main at_main) → ⊥
+        no_refusal s =
+            let next = refused_ahead j typestates (L r main at_main) (valid r main at_main) (had r main at_main) (P r main at_main)
+            (says r main at_main) main.class (inputs r main at_main) (suc (role r main at_main).count) (keeps r main at_main) o made s in
+            let look = look_act next.act next.of in
+            let hd = good.looked r (within r main at_main) (map unnumbered s.closed) s.peer s.label (deeds_are ∙ s.are) in
+            let f = finds next.at (as_named (but_look s.peer s.label s.closed next.run s.are)) next.act next.to next.step s.peer
+            (ap waits_for look.1) hd.from hd.within hd.named hd.message hd.more hd.is in
+            let other_is_it = alike_look look.1 f.alike in
+            let label_is : other_is_it.0 ≡ s.label = found_is f.label f.other_act other_is_it.0 other_is_it.1 f.is ∙ sym f.is_label ∙ hd.labelled in
+            s.no_branch (label_known j typestates (L r main at_main) (valid r main at_main) (had r main at_main) (P r main at_main)
+            (says r main at_main) s.closed next.run
+            (subst (λ a. Step next.at a f.to) (other_is_it.1 ∙ ap (Looks s.number s.peer) label_is) f.step) s.asked)
+          where
+            look_act : (act : Act) → Of (Asks s.number s.peer s.labels) act → (k : Name) × (act ≡ Looks s.number s.peer k)
+            look_act (Moves m) h = absurd h
+            look_act (Looks n q k) h = (k, ap (λ x. Looks x q k) (sym h.0) ∙ ap (λ x. Looks s.number x k) (sym h.1))
+
+            found_is : {n : ℕ} {q : Name} (l1 : Name) {k1 : Payload} (act : Act) (k : Name) → act ≡ Looks n q k →
+                (act ≡ Moves (Take q l1 k1)) ⊎ ((m : ℕ) × (act ≡ Looks m q l1)) → k ≡ l1
+            found_is l1 act k is (inl h) = absurd (let x = sym h ∙ is in cc)
+            found_is l1 act k is (inr h) = labels (sym is ∙ h.1)
+              where
+                labels : {m n : ℕ} {p q l k : Name} → Looks m p l ≡ Looks n q k → l ≡ k
+                labels e = cc
+
+        -- each peer is there
+        no_miss : (doing : Doing) → StandsAt j (L r main at_main).me (protocol_of (L r main at_main)) o E doing → messages_of (inputs r main at_main) (peer_in doing) ≡ None → ⊥
+        no_miss doing st none =
+            let a = ahead_of doing st in
+            let k = peer_is (peer_in doing) (subst (P r main at_main) (peer_same doing a.next.act a.next.of) a.next.peer) in
+            let e : None ≡ Some (sent w k.number r) = sym none ∙ k.inputs_are in
+            cc
+          where
+            peer_same : (d : Doing) (act : Act) → Of d act → peer_at (P r main at_main) act ≡ peer_in d
+            peer_same (Passes m) (Moves x) h = ap (peer_at (P r main at_main)) (ap Moves (sym h))
+            peer_same (Passes m) (Looks n q k) h = absurd h
+            peer_same (Asks n q ls) (Moves x) h = absurd h
+            peer_same (Asks n q ls) (Looks m p k) h = sym h.1
+
+      -- no role ends at a message, or without a peer
+      not_bad : (finish : Finish) → Means (mean j main.class (inputs r main at_main)) (suc (role r main at_main).count) (es r main at_main)
+          finish → (IsOther finish → ⊥) → ((peer : Name) → finish ≢ Wait peer) → ⊥
+      not_bad finish is bad no_wait = go (done_so r main at_main)
+        where
+          settled : E ≡ es r main at_main
+          settled = ap (λ (x : Ended). x.events) is
+
+          finish_is : (run r main at_main).finish ≡ finish
+          finish_is = ap (λ (x : Ended). x.finish) is
+
+          cut_other : (f : Finish) → IsCut f → IsOther f
+          cut_other More h = tt
+          cut_other Wrong h = tt
+          cut_other Done h = tt
+          cut_other Zero h = tt
+          cut_other Null h = tt
+          cut_other (Mismatch p f) h = h
+          cut_other (NoPeer p) h = h
+          cut_other (Wait p) h = h
+
+          not_busy : (f : Finish) → IsBusy f → IsOther f
+          not_busy Done h = absurd h
+          not_busy Zero h = tt
+          not_busy Null h = tt
+          not_busy (Mismatch p f) h = absurd h
+          not_busy (NoPeer p) h = absurd h
+          not_busy (Wait p) h = absurd h
+          not_busy More h = tt
+          not_busy Wrong h = tt
+
+          halted : (o : ℕ) → IsMade E o (role_class (L r main at_main).me) → ((so : List Event) → Prefix so E → deeds so ≡ acts o so) →
+              {d : Doing} {f : Finish} → StandsAt j (L r main at_main).me (protocol_of (L r main at_main)) o E d →
+              Halts (inputs r main at_main) E d f → f ≡ finish → ⊥
+          halted o made only st (waits {doing = d} wants there none) e = no_wait (peer_in d) (sym e)
+          halted o made only st (misses {doing = d} none) e = no_miss settled o made only d st none
+          halted o made only st (mismatches there next differs) e = no_mismatch settled o made only st there next differs
+
+          ended : (o : ℕ) → IsMade E o (role_class (L r main at_main).me) → ((so : List Event) → Prefix so E → deeds so ≡ acts o so) →
+              {f : Finish} → EndsInCall j (L r main at_main).me (protocol_of (L r main at_main)) o E (inputs r main at_main) f →
+              (run r main at_main).finish ≡ f → f ≡ finish → ⊥
+          ended o made only (cut {finish = f} undone h) s e = bad (subst IsOther e (cut_other f h))
+          ended o made only (halts st h) s e = halted o made only st h e
+          ended o made only (refuses {peer = q} {label = k} x) s e =
+              no_refusal settled o made only (refusal j typestates (L r main at_main) (valid r main at_main) (had r main at_main)
+              (P r main at_main) (says r main at_main) main.class (inputs r main at_main) (suc (role r main at_main).count)
+              (keeps r main at_main) o made q k x s)
+
+          go : IsDoneByOne j (roles ++ cast.idle) (L r main at_main).me (protocol_of (L r main at_main)) (inputs r main at_main)
+              (run r main at_main) → ⊥
+          go (not_yet nobody none busy) = bad (subst IsOther finish_is (not_busy _ busy))
+          go (by_one o made alone acting ends) =
+              ⊎_elim (λ h. bad (subst IsOther finish_is h))
+              (λ x. ended o made (λ so prefix. acting so prefix.later prefix.is) x refl finish_is) ends
+
+      well_by : (ending : Ending) → (role r main at_main).state ≡ Over ending → (finish : Finish) × (finish_of ending ≡ Some finish)
+          × Means (mean j main.class (inputs r main at_main)) (suc (role r main at_main).count) (es r main at_main) finish →
+          IsWell (Over ending)
+      well_by endings.Done e h = tt
+      well_by endings.Zero e h = tt
+      well_by endings.Null e h =
+          absurd ((keeps r main at_main).no_null (ap (λ (x : Ended). x.finish) h.2 ∙ sym (some_is h.1)))
+      well_by (endings.Bad which) e h = absurd ((is_meant r main at_main).well which e)
+      well_by (endings.Mismatch peer found) e h =
+          let f : Mismatch peer found ≡ h.0 = some_is h.1 in
+          absurd (not_bad h.0 h.2 (λ o. subst IsOther (sym f) o) (λ q e. let x : Mismatch peer found ≡ Wait q = f ∙ e in cc))
+      well_by (endings.NoPeer peer) e h =
+          let f : NoPeer peer ≡ h.0 = some_is h.1 in
+          absurd (not_bad h.0 h.2 (λ o. subst IsOther (sym f) o) (λ q e. let x : NoPeer peer ≡ Wait q = f ∙ e in cc))
+
+      well : IsWell (role r main at_main).state
+      well = go (role r main at_main).state refl
+        where
+          go : (s : State) → (role r main at_main).state ≡ s → IsWell s
+          go (Runs m) e = tt
+          go (Over ending) e =
+              well_by ending e (subst (λ s. Shows (mean j main.class (inputs r main at_main)) (role r main at_main).count (es r main at_main)
+              (stand_of p w r s)) e (is_meant r main at_main).shows)
+
+    -- ---- rest
+
+    data AtRest (r : ℕ) (state : State) (end : Position) : Type 0 where
+      returned : state ≡ Over endings.Done → Finished end → AtRest r state end
+      blocked : (act : Act) (to : Position) (peer : Name) (k : ℕ) → Step end act to → waits_for act ≡ Some peer → k < length names →
+          name k ≡ peer → on_way w.messages k r ≡ [] → AtRest r state end
+
+    module _ (r : ℕ) (main : RoleMain) (at_main : slice_get mains r ≡ Some main) where
+      -- a role that waits, and one that has returned
+      waiting : (m : Machine) → (role r main at_main).state ≡ Runs m → (k : ℕ) → step p r m w.messages ≡ Waits k →
+          (end : Position) × (Walk r end × AtRest r (role r main at_main).state end)
+      waiting m runs k is = go (done_so r main at_main)
+        where
+          shows : Shows (mean j main.class (inputs r main at_main)) (role r main at_main).count (es r main at_main)
+              (stands.Waits (name_of w k))
+          shows = subst (λ s. Shows (mean j main.class (inputs r main at_main)) (role r main at_main).count (es r main at_main) s)
+              (ap (stand_of p w r) runs ∙ ap (λ s. waiting_for w (waits_by s)) is) (is_meant r main at_main).shows
+
+          settled : (run r main at_main).events ≡ es r main at_main
+          settled = ap (λ (x : Ended). x.events) shows
+
+          finish_is : (run r main at_main).finish ≡ Wait (name_of w k)
+          finish_is = ap (λ (x : Ended). x.finish) shows
+
+          emptied : Emptied w.messages r k
+          emptied = step_waits p r m w.messages k is
+
+          named_k : name k ≡ name_of w k
+          named_k = ap (λ (x : List Name). or_nothing (slice_get x k)) (sym good.named)
+
+          wait_is : {q s : Name} → Wait q ≡ Wait s → q ≡ s
+          wait_is e = cc
+
+          act_wants : (d : Doing) (act : Act) → Of d act → Wants d → waits_for act ≡ Some (peer_in d)
+          act_wants (Passes (Send p l c)) (Moves m) h u = absurd u
+          act_wants (Passes (Take p l c)) (Moves m) h u = ap waits_for (ap Moves (sym h))
+          act_wants (Passes m) (Looks n q x) h u = absurd h
+          act_wants (Asks n q ls) (Moves m) h u = absurd h
+          act_wants (Asks n q ls) (Looks x p y) h u = ap Some (sym h.1)
+
+          halted : (o : ℕ) → (made : IsMade (run r main at_main).events o (role_class (L r main at_main).me)) →
+              ((so : List Event) → Prefix so (run r main at_main).events → deeds so ≡ acts o so) →
+              {d : Doing} {f : Finish} →
+              StandsAt j (L r main at_main).me (protocol_of (L r main at_main)) o (run r main at_main).events d →
+              Halts (inputs r main at_main) (run r main at_main).events d f → f ≡ Wait (name_of w k) → (end : Position) × (Walk r end × AtRest r (role r main at_main).state end)
+          halted o made only st (waits {doing = d} wants there none) e =
+              let a = ahead_of r main at_main settled o made only d st in
+              let x : peer_in d ≡ name_of w k = wait_is e in (
+                a.next.at,
+                (
+                  as_named r main at_main settled o made only (walked a.closed a.next.run a.are),
+                  blocked a.next.act a.next.to (name_of w k) k a.next.step (act_wants d a.next.act a.next.of wants ∙ ap Some x)
+                      (subst (λ (y : List Name). k < length y) good.named emptied.within) named_k emptied.empty,
+                ),
+              )
+          halted o made only st (misses {doing = d} none) e = absurd (let x : NoPeer (peer_in d) ≡ Wait (name_of w k) = e in cc)
+          halted o made only st (mismatches there next differs) e = absurd (cc e)
+
+          ended : (o : ℕ) → (made : IsMade (run r main at_main).events o (role_class (L r main at_main).me)) →
+              ((so : List Event) → Prefix so (run r main at_main).events → deeds so ≡ acts o so) →
+              {f : Finish} →
+              EndsInCall j (L r main at_main).me (protocol_of (L r main at_main)) o (run r main at_main).events (inputs r main at_main) f →
+              f ≡ Wait (name_of w k) → (end : Position) × (Walk r end × AtRest r (role r main at_main).state end)
+          ended o made only (cut undone h) e = absurd (subst IsCut e h)
+          ended o made only (halts st h) e = halted o made only st h e
+          ended o made only (refuses x) e = absurd (cc e)
+
+          go : IsDoneByOne j (roles ++ cast.idle) (L r main at_main).me (protocol_of (L r main at_main)) (inputs r main at_main)
+              (run r main at_main) → (end : Position) × (Walk r end × AtRest r (role r main at_main).state end)
+          go (not_yet nobody none busy) = absurd (subst IsBusy finish_is busy)
+          go (by_one o made alone acting ends) =
+              ⊎_elim (λ h. absurd (subst IsOther finish_is h))
+              (λ x. ended o made (λ so prefix. acting so prefix.later prefix.is) x finish_is) ends
+
+      module _ (over : (role r main at_main).state ≡ Over endings.Done) where
+        done_shows : (finish : Finish) × (finish_of endings.Done ≡ Some finish)
+            × Means (mean j main.class (inputs r main at_main)) (suc (role r main at_main).count) (es r main at_main) finish
+        done_shows = subst (λ s. Shows (mean j main.class (inputs r main at_main)) (role r main at_main).count (es r main at_main)
+            (stand_of p w r s)) over (is_meant r main at_main).shows
+
+        done_settled : (run r main at_main).events ≡ es r main at_main
+        done_settled = ap (λ (x : Ended). x.events) done_shows.2
+
+        done_finish : (run r main at_main).finish ≡ Done
+        done_finish = ap (λ (x : Ended). x.finish) done_shows.2 ∙ sym (some_is done_shows.1)
+
+        has_returned : (end : Position) × (Walk r end × AtRest r (role r main at_main).state end)
+        has_returned = go (done_so r main at_main)
+          where
+            go : IsDoneByOne j (roles ++ cast.idle) (L r main at_main).me (protocol_of (L r main at_main)) (inputs r main at_main) (run r main at_main) →
+                (end : Position) × (Walk r end × AtRest r (role r main at_main).state end)
+            go (not_yet nobody none busy) = absurd (subst IsBusy done_finish busy)
+            go (by_one o made alone acting ends) =
+                let a = at_end j typestates (L r main at_main) (valid r main at_main) (had r main at_main) (P r main at_main)
+                (says r main at_main) main.class (inputs r main at_main) (suc (role r main at_main).count) (keeps r main at_main) o made
+                done_finish in
+                (a.end, (as_named r main at_main done_settled o made (λ so prefix. acting so prefix.later prefix.is) (walked a.closed a.run a.are), returned over a.finished))
+
+        -- its objects are at the end
+        is_complete : (o : ℕ) → IsMade (es r main at_main) o (role_class (L r main at_main).me) →
+            Complete (L r main at_main).me (protocol_of (L r main at_main)) (calls j (role_class (L r main at_main).me) o (es r main at_main))
+        is_complete o made =
+            subst (λ xs. Complete (L r main at_main).me (protocol_of (L r main at_main)) (calls j (role_class (L r main at_main).me) o xs))
+            done_settled
+            (completes j typestates (L r main at_main) (valid r main at_main) (had r main at_main) (P r main at_main) (says r main at_main)
+            main.class (inputs r main at_main) (suc (role r main at_main).count) (keeps r main at_main) o
+            (subst (λ xs. IsMade xs o (role_class (L r main at_main).me)) (sym done_settled) made) done_finish)
+
+      stands_still : Rests p w → ((role r main at_main).state ≢ Over endings.Zero) →
+          (end : Position) × (Walk r end × AtRest r (role r main at_main).state end)
+      stands_still rests no_zero = go (role r main at_main).state refl (rests r (role r main at_main) (at_role r main at_main)) (well r main at_main)
+        where
+          go : (s : State) → (role r main at_main).state ≡ s → IsStill p w r (role r main at_main).state → IsWell (role r main at_main).state →
+              (end : Position) × (Walk r end × AtRest r (role r main at_main).state end)
+          go (Runs m) e still h = let k = subst (IsStill p w r) e still in waiting m e k.0 k.1
+          go (Over endings.Done) e still h = has_returned e
+          go (Over endings.Zero) e still h = absurd (no_zero e)
+          go (Over endings.Null) e still h = absurd (subst IsWell e h)
+          go (Over (endings.Mismatch q f)) e still h = absurd (subst IsWell e h)
+          go (Over (endings.NoPeer q)) e still h = absurd (subst IsWell e h)
+          go (Over (endings.Bad _)) e still h = absurd (subst IsWell e h)
+
+    module _ (rests : Rests p w) (no_zero : (r : ℕ) (role : Role) → slice_get w.roles r ≡ Some role → role.state ≢ Over endings.Zero) where
+      -- where each stands, whatever its state is
+      abbrev Standing : (i : ℕ) → Position → Type 0
+      Standing i e = Walk i e × ((x : Role) → slice_get w.roles i ≡ Some x → AtRest i x.state e)
+
+      stand : (i : ℕ) → i < length names → (e : Position) × Standing i e
+      stand i h =
+          let m = main_at mains i h in
+          let s = stands_still i m.main m.at rests (no_zero i (role i m.main m.at) (at_role i m.main m.at)) in (
+            s.0,
+            (
+              s.1.0,
+              λ x at. subst (λ (y : Role). AtRest i y.state s.0) (some_is (sym (at_role i m.main m.at) ∙ at)) s.1.1,
+            ),
+          )
+
+      chosen : Chosen (length names) Standing
+      chosen = choose (length names) Standing stand
+
+      now : Stands roles protocols names begun.distinct listed w chosen.ends
+      now = good.stands (record { ends = chosen.ends; walks = λ i h. (chosen.are i h).0 })
+
+      abbrev c : System
+      c = now.system
+
+      rest_at : (i : ℕ) (h : i < length names) → let m = main_at mains i h in AtRest i (role i m.main m.at).state (c.at (name i))
+      rest_at i h =
+          let m = main_at mains i h in
+          subst (AtRest i (role i m.main m.at).state) (sym (now.at i h)) ((chosen.are i h).1 (role i m.main m.at) (at_role i m.main m.at))
+
+      no_step : (me : Name) (act : Act) (d : System) → Contains roles me → Moved me c act d → ⊥
+      no_step me act d l moved =
+          let k = numbered me l in
+          let named : name k.number ≡ me = ap or_nothing k.there in
+          let s = moved_step moved in
+          go k.number k.within named (rest_at k.number k.within) s.0 s.1
+        where
+          go : (i : ℕ) → i < length names → name i ≡ me → {state : State} → AtRest i state (c.at (name i)) → (to : Position) →
+              Step (c.at me) act to → ⊥
+          go i h named (returned e f) to step =
+              finished_stops f (subst (λ q. Step q act to) (ap (λ n. c.at n) (sym named)) step)
+          go i h named (blocked other_act end peer k other_step wants lt is empty) to step =
+              let st : Step (c.at me) other_act end = subst (λ q. Step q other_act end) (ap (λ n. c.at n) named) other_step in
+              let alike = next_is_alike roles g locals are c now.reached me l other_act act end to st step in
+              let f = moved_finds moved (alike_waits alike wants) in
+              let none : c.lists peer me ≡ [] =
+              ap (λ n. c.lists n me) (sym is) ∙ ap (λ n. c.lists (name k) n) (sym named) ∙ now.lists k i lt h ∙ ap (map parcel_of) empty in
+              nothing_there (sym none ∙ f.there)
+            where
+              nothing_there : {x : Parcel} {xs : List Parcel} → [] ≡ x ∷ xs → ⊥
+              nothing_there e = cc
+
+      stuck_none : global_law.IsComplete roles c
+      stuck_none = none_is_stuck roles g locals are c now.reached no_step
+
+      all_returned : (r : ℕ) (x : Role) → slice_get w.roles r ≡ Some x → x.state ≡ Over endings.Done
+      all_returned r x at =
+          let h : r < length names = subst (λ n. r < n) good.as_many (got_within w.roles r x at) in
+          go h (subst (AtRest r x.state) (sym (now.at r h)) ((chosen.are r h).1 x at))
+        where
+          go : r < length names → AtRest r x.state (c.at (name r)) → x.state ≡ Over endings.Done
+          go h (returned e f) = e
+          go h (blocked act to peer k step wants lt is empty) = absurd (finished_stops (stuck_none.finished (name r) (listed r h)) step)
+
+      all_over : IsComplete j locals mains w
+      all_over = record {
+        returned = all_returned;
+        empty = λ from to lf lt.
+            let hf : from < length names = subst (λ (x : List Name). from < length x) good.named lf in
+            let ht : to < length names = subst (λ (x : List Name). to < length x) good.named lt in
+            map_nothing parcel_of (on_way w.messages from to)
+            (sym (now.lists from to hf ht) ∙ stuck_none.empty (name from) (name to) (listed from hf) (listed to ht));
+        ends = λ r main at_main o made.
+            is_complete r main at_main (all_returned r (role r main at_main) (at_role r main at_main)) o made;
+      }
+
+      conversed : IsGuarded g → (messages : List Passing) × conversations.Complete g messages
+          × ((r : ℕ) (main : RoleMain) → slice_get mains r ≡ Some main →
+          passed (deeds (events_of r w.events)) ≡ global_law.named main.role messages)
+      conversed guarded =
+          let m = complete_is_conversation roles g locals are guarded c now.reached stuck_none in (
+            m.0,
+            m.1,
+            λ r main at.
+                let h : r < length names = got_within names r main.role (name_at mains r main at) in
+                sym (now.said r h) ∙ m.2 (name r) (listed r h) ∙ ap (λ n. global_law.named n m.0) (name_is r main at),
+          )
+
+    all_well : (r : ℕ) (x : Role) → slice_get w.roles r ≡ Some x → IsWell x.state
+    all_well r x at =
+        let h : r < length names = subst (λ n. r < n) good.as_many (got_within w.roles r x at) in
+        let m = main_at mains r h in
+        subst (λ (y : Role). IsWell y.state) (some_is (sym (at_role r m.main m.at) ∙ at)) (well r m.main m.at)
+
+pub none_gets_stuck : NoneGetsStuck
+none_gets_stuck j typestates roles g locals mains cast p first begun meant taken = (
+  all_well j typestates roles g locals mains cast p first begun meant taken,
+  λ rests no_zero. all_over j typestates roles g locals mains cast p first begun meant taken rests no_zero,
+)
+
+pub rest_is_conversation : RestIsConversation
+rest_is_conversation j typestates roles g locals mains cast guarded p first begun meant taken rests no_zero =
+    conversed j typestates roles g locals mains cast p first begun meant taken rests no_zero guarded
+
+pub turns_are_in_conversation : TurnsAreInConversation
+turns_are_in_conversation j typestates roles g locals mains cast can p first begun meant taken =
+    started j typestates roles g locals mains cast p first begun meant taken can
+
+pub turns_go_on_in_conversation : TurnsGoOnInConversation
+turns_go_on_in_conversation j typestates roles g locals mains cast heard p first begun meant taken =
+    gone_on j typestates roles g locals mains cast p first begun meant taken heard

@@ -1,0 +1,21 @@
+//! Roles that play a global protocol, each by one object of the class that is generated of its projection, never get stuck.
+//! There is no running code here; the function carries a law.
+#![tactic(auto)]
+
+ghost use Rattle.fit_law.specs.Conversed.{RestIsConversation, TurnsAreInConversation, TurnsGoOnInConversation};
+ghost use Rattle.fit_law.specs.Fit.{NoneGetsStuck};
+
+/// After every list of turns no role has ended but by its return or a zero divisor; and where the world rests, and no role
+/// ended by a zero divisor, every role has returned, no message is left, and each object is at the end of its protocol.
+pub fn none_gets_stuck()
+    ensures { NoneGetsStuck }
+{}
+
+/// Where each conversation of the global protocol can be brought to an end, what the roles have sent and taken is at each moment a part
+/// of a complete one. Where the world rests, and no role ended by a zero divisor, what they have sent and taken are the messages of a complete
+/// conversation of the global protocol.
+pub fn rest_is_conversation()
+    ensures rest { RestIsConversation }
+    ensures turns { TurnsAreInConversation }
+    ensures on { TurnsGoOnInConversation }
+{}

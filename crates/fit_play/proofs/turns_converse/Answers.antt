@@ -1,0 +1,8 @@
+use Rattle.fit_play.proofs.Play as play
+use Rattle.fit_play.proofs.turns_converse.Goals as goal
+
+pub returns-clause-end : goal.returns-clause-end
+returns-clause-end c = play.turns_converse
+
+pub returns-clause-on : goal.returns-clause-on
+returns-clause-on c = play.turns_go_on

@@ -1,0 +1,10 @@
+pub mod Guarding
+pub mod Planned
+pub mod Leaving
+pub mod Counting
+pub mod Walks
+pub mod Doing
+pub mod Faithful
+pub mod Heard
+pub mod Astray
+pub mod Examples

@@ -1,0 +1,5 @@
+use Rattle.stm_acts.proofs.InCalls as laws
+use Rattle.stm_acts.proofs.deeds_are_of_one.Goals as goal
+
+pub returns : goal.returns
+returns c = laws.deeds_are_of_one
