@@ -229,17 +229,17 @@ enum_told e w =
 
 -- ---- files
 
-abbrev DeclPart : Decl → List Token → Type 0
+abbrev pub DeclPart : Decl → List Token → Type 0
 DeclPart d ts = (e : Decl) × (bare_decl e ≡ bare_decl d) × IsDecl e ts
 
 decl_told : (d : Decl) → IsWrittenDecl d → depth_of_decl d ≤ 399 → Told Any (DeclPart d) (decl_lines d)
 decl_told (ClassDecl c) w d = convert (λ ts (f, same, is). (ClassDecl f, ap (λ z. ClassDecl z) same, is)) (class_told c w d)
 decl_told (EnumDecl e) w d = convert (λ ts (f, same, is). (EnumDecl f, ap (λ z. EnumDecl z) same, is)) (enum_told e w)
 
-abbrev DeclsPart : List Decl → List Token → Type 0
+abbrev pub DeclsPart : List Decl → List Token → Type 0
 DeclsPart ds ts = (es : List Decl) × (map bare_decl es ≡ map bare_decl ds) × AreDecls es ts
 
-decls_told : (ds : List Decl) → AllByRecursion IsWrittenDecl ds → depth_of_file ds ≤ 399 → Told Any (DeclsPart ds) (flat_map decl_lines ds)
+pub decls_told : (ds : List Decl) → AllByRecursion IsWrittenDecl ds → depth_of_file ds ≤ 399 → Told Any (DeclsPart ds) (flat_map decl_lines ds)
 decls_told [] w d = convert (λ ts e. ([], refl, e)) nothing
 decls_told (x ∷ xs) w d = convert form (both (decl_told x w.0 (omega (arith, d))) (λ bytes o. tt) (decls_told xs w.1 (omega (arith, d))))
   where
