@@ -40,7 +40,7 @@ use Rattle.mg_sources.specs.Sources.{SharesRole}
 use Rattle.jv_core.specs.Tree as Core
 use Rattle.mg_accepted.specs.Accepted.{AreAccepted}
 use Rattle.use_check.specs.Report.{IsReport}
-use Rattle.mg_top.specs.Translation.{AreTranslated}
+use Rattle.mg_top.specs.Translation.{Target, AreTranslated}
 use Rattle.mg_delivery.specs.Outside.{Outside}
 use Rattle.mg_delivery.specs.Contents.{AreRead, after_read}
 use Rattle.mg_top.specs.Ending.{read_limit, IsUnread, IsDue, unread, yielded, starved, mute}
@@ -251,13 +251,13 @@ unread_of words before command names name front rest contents limit is named mos
 -- ---- the writes of translations
 
 -- the writes of the files' translations
-pub all_written : (folder : Option Word) (names : List Word) (contents : List (List ℕ)) (parts given : List Part) (writes : List Action) →
+pub all_written : (to : Target) (names : List Word) (contents : List (List ℕ)) (parts given : List Part) (writes : List Action) →
     All (IsFileOf (codes ".scr")) names
     → EachSpells (sources names contents) parts → given ≡ parts → Judged SharesRole (with_earlier (sources names contents)) None →
-    EachIsWritten folder (locals_in given) writes
-    → AreTranslated folder (sources names contents) writes
-all_written folder names contents parts given writes scribble each e apart written = record {
-  each = translated folder 0 names contents parts writes scribble each (subst (λ (z : List Part). EachIsWritten folder (locals_in z) writes)
+    EachIsWritten to (locals_in given) writes
+    → AreTranslated to (sources names contents) writes
+all_written to names contents parts given writes scribble each e apart written = record {
+  each = translated to 0 names contents parts writes scribble each (subst (λ (z : List Part). EachIsWritten to (locals_in z) writes)
       e written);
   apart = apart;
 }

@@ -33,7 +33,7 @@ use Rattle.mg_top.proofs.Unbroken.{none_broken}
 use Rattle.mg_runs.specs.Headline.{Course, IsRun}
 use Rattle.mg_exec.proofs.Apart.{not_refused as not_stopped, one_course}
 use Rattle.vm_world_law.specs.declared.role.RoleMain.{RoleMain}
-use Rattle.mg_top.specs.Translation.{AreTranslated}
+use Rattle.mg_top.specs.Translation.{Target, AreTranslated}
 use Rattle.mg_top.specs.Commands.{Gives, translated, conforms, checked, compiled, ran, executed, refined, projected, loaded, verified}
 use Rattle.mg_top.specs.Commands.{refined_status}
 use Rattle.mg_top.specs.Commands.{load_asked, load_sources, role_mains_of, status_of, IsRefused, judged_names, Yields, gives, refused}
@@ -48,9 +48,9 @@ use Rattle.mg_projected.proofs.Telling.{not_refused as not_unprojected}
 use Rattle.mg_verified.proofs.Apart.{not_refused as not_unverified}
 
 -- files that are refused aren't translated
-not_untranslated : (folder : Option Word) (files : List Source) (actions : List Action) (r : Refusal) → AreTranslated folder files actions →
+not_untranslated : (to : Target) (files : List Source) (actions : List Action) (r : Refusal) → AreTranslated to files actions →
     FirstRefusal files r → ⊥
-not_untranslated folder files actions r t =
+not_untranslated to files actions r t =
     then_never (λ r judged. no_both (none_refused_of_translated t.each) judged) (λ parts each r judged. no_both t.apart judged) r
 
 -- the roles of one run stand in one way
@@ -105,8 +105,9 @@ conforms_status local list t u m n c d = go (answered_status c) (answered_status
 
 pub not_both : {command : Command} {contents : List (List ℕ)} {actions : List Action} {status : Status} {r : Refusal} →
     Gives command contents actions status → IsRefused command contents r → ⊥
-not_both {contents = contents} {r = r} (translated {folder = folder} {files = files} {writes = writes} t) (commands.translate h) =
-    not_untranslated folder (sources files contents) writes r t h
+not_both {contents = contents} {r = r} (translated {package_name = package_name} {folder = folder} {files = files} {writes = writes} t)
+    (commands.translate h) =
+    not_untranslated (record { package_name = package_name; folder = folder }) (sources files contents) writes r t h
 not_both {r = r} (conforms {protocol = protocol} {calls = calls} {bytes = bytes} {listed = listed} local list o l c) (commands.conform h) =
     then_never (λ r h. excludes (source_of 0 protocol bytes) (Protocol local) r o h)
     (λ local' o' r h. listed_once (source_of 1 calls listed) list r l h) r h

@@ -45,7 +45,8 @@ use Rattle.mg_delivery.specs.declared.delivery.Action.{Action}
 use Rattle.mg_delivery.specs.declared.delivery.Action.TheVariants.{Write, Print, Say}
 use Rattle.mg_delivery.specs.Files.{Output}
 use Rattle.mg_top.specs.Writing.{classes_written, roles_written}
-use Rattle.mg_top.specs.Translation.{IsTypestateFile, api_written, IsTranslation, Translates, EachTranslates, none, one}
+use Rattle.api_package.specs.Heads.{headed}
+use Rattle.mg_top.specs.Translation.{Target, IsTypestateFile, api_written, IsTranslation, Translates, EachTranslates, none, one}
 use Rattle.mg_delivery.specs.Lines.{refusal_line, not_offered_line}
 use Rattle.mg_top.specs.Conformance.{calls_of, Conforms, complete, unfinished, not_offered, IsNoList, too_large, bad_line, ConformRefusal}
 use Rattle.mg_top.specs.Commands.{loaded, load_asked, load_sources, judged_names, prints, kept_in, role_mains_of, run_said, run_printed}
@@ -69,30 +70,30 @@ one_file folder local a b h k =
     let name : a.name ≡ b.name = h.named ∙ sym k.named in
     λ i. record { name = name i; text = text i }
 
-one_translation : (folder : Option Word) (local : LocalTree) (xs ys : List Action) → IsTranslation folder local xs →
-    IsTranslation folder local ys →
+one_translation : (to : Target) (local : LocalTree) (xs ys : List Action) → IsTranslation to local xs →
+    IsTranslation to local ys →
     xs ≡ ys
-one_translation folder local xs ys h k =
-    let file : h.typestate ≡ k.typestate = one_file folder local h.typestate k.typestate h.is_typestate k.is_typestate in
+one_translation to local xs ys h k =
+    let file : h.typestate ≡ k.typestate = one_file to.folder local h.typestate k.typestate h.is_typestate k.is_typestate in
     let files : h.files ≡ k.files = one_api local h.files k.files h.is_api k.is_api in
-    h.both ∙ (λ i. Write (file i) ∷ map (api_written folder) (files i)) ∙ sym k.both
+    h.both ∙ (λ i. Write (file i) ∷ map (api_written to.folder) (headed to.package_name (files i))) ∙ sym k.both
 
-one_of_source : (folder : Option Word) (source : Source) (xs ys : List Action) → Translates folder source xs → Translates folder source ys →
+one_of_source : (to : Target) (source : Source) (xs ys : List Action) → Translates to source xs → Translates to source ys →
     xs ≡ ys
-one_of_source folder source xs ys h k =
+one_of_source to source xs ys h k =
     let same : h.local ≡ k.local = same_local h.local k.local (one_part source (Protocol h.local) (Protocol k.local) h.spelled k.spelled) in
-    one_translation folder k.local xs ys (subst (λ (l : LocalTree). IsTranslation folder l xs) same h.translation) k.translation
+    one_translation to k.local xs ys (subst (λ (l : LocalTree). IsTranslation to l xs) same h.translation) k.translation
 
-each_once : {folder : Option Word} {files others : List Source} {xs ys : List Action} → EachTranslates folder files xs →
-    EachTranslates folder others ys → files ≡ others → xs ≡ ys
+each_once : {to : Target} {files others : List Source} {xs ys : List Action} → EachTranslates to files xs →
+    EachTranslates to others ys → files ≡ others → xs ≡ ys
 each_once none none e = refl
 each_once none (one u us) e = let no : ⊥ = cc in absurd no
 each_once (one t ts) none e = let no : ⊥ = cc in absurd no
-each_once {folder = folder} (one {source = s} {writes = a} {sources = ss} {actions = later} t ts)
+each_once {to = to} (one {source = s} {writes = a} {sources = ss} {actions = later} t ts)
     (one {source = r} {writes = b} {sources = rs} {actions = rest} u us) e =
     let same : s ≡ r = cc in
     let others : ss ≡ rs = cc in
-    let first : a ≡ b = one_of_source folder r a b (subst (λ (z : Source). Translates folder z a) same t) u in
+    let first : a ≡ b = one_of_source to r a b (subst (λ (z : Source). Translates to z a) same t) u in
     let behind : later ≡ rest = each_once ts us others in
     λ i. first i ++ behind i
 

@@ -41,7 +41,7 @@ use Rattle.mg_sources.specs.Files.{Source, source_of, sources}
 use Rattle.mg_sources.specs.Reading.{Protocol, Reads}
 use Rattle.mg_sources.specs.Sources as reading
 use Rattle.mg_top.specs.Writing.{classes_written, roles_written}
-use Rattle.mg_top.specs.Translation.{AreTranslated}
+use Rattle.mg_top.specs.Translation.{Target, AreTranslated}
 use Rattle.mg_delivery.specs.Lines.{refusal_line}
 use Rattle.mg_top.specs.Conformance.{Lists, Conforms, ConformRefusal}
 
@@ -112,8 +112,9 @@ refined_status false = Refused
 
 -- What a command gives of files that aren't refused: one case a command.
 pub data Gives : Command → List (List ℕ) → List Action → Status → Type 0 where
-  translated : {folder : Option Word} {files : List Word} {contents : List (List ℕ)} {writes : List Action} →
-      AreTranslated folder (sources files contents) writes → Gives (Translate folder files) contents writes Done
+  translated : {package_name folder : Option Word} {files : List Word} {contents : List (List ℕ)} {writes : List Action} →
+      AreTranslated (record { package_name = package_name; folder = folder }) (sources files contents) writes →
+      Gives (Translate package_name folder files) contents writes Done
   -- a file of a protocol, and one of calls
   conforms : {protocol calls : Word} {bytes listed text : List ℕ} {status : Status} (local : LocalTree) (list : List CallAt) →
       Reads (source_of 0 protocol bytes) (Protocol local) → Lists (source_of 1 calls listed) list → Conforms local list text status →
@@ -153,8 +154,8 @@ pub data Gives : Command → List (List ℕ) → List Action → Status → Type
 
 -- The first refusal of a command's files: one case a command.
 pub data IsRefused : Command → List (List ℕ) → Refusal → Type 0 where
-  translate : {folder : Option Word} {files : List Word} {contents : List (List ℕ)} {r : Refusal} →
-      reading.FirstRefusal (sources files contents) r → IsRefused (Translate folder files) contents r
+  translate : {package_name folder : Option Word} {files : List Word} {contents : List (List ℕ)} {r : Refusal} →
+      reading.FirstRefusal (sources files contents) r → IsRefused (Translate package_name folder files) contents r
   -- a file of a protocol, and then one of calls
   conform : {protocol calls : Word} {bytes listed : List ℕ} {r : Refusal} →
       ConformRefusal (source_of 0 protocol bytes) (source_of 1 calls listed) r → IsRefused (Conform (protocol ∷ calls ∷ []))
@@ -178,7 +179,7 @@ pub data IsRefused : Command → List (List ℕ) → Refusal → Type 0 where
 
 -- the names of the files that a command judges
 abbrev pub judged_names : Command → List Word
-judged_names (Translate folder files) = files
+judged_names (Translate package_name folder files) = files
 judged_names (Conform files) = files
 judged_names (Check files) = files
 judged_names (Compile folder files) = files

@@ -15,7 +15,7 @@ use Rattle.mg_top.specs.Commands.{Yields}
 
 -- How many bytes of a file a command reads: one more than such a file may have.
 abbrev pub read_limit : Command → ℕ
-read_limit (Translate folder files) = 1048577
+read_limit (Translate package_name folder files) = 1048577
 read_limit (Conform files) = 1048577
 read_limit (Check files) = 1048577
 read_limit (Compile folder files) = 1048577

@@ -18,7 +18,7 @@ use crate::load::load;
 use crate::project::project;
 use crate::refine::refine;
 use crate::run::run;
-use crate::translate::translate;
+use crate::translate::{Target, translate};
 use crate::verify::verify;
 use mg_delivery::{Delivery, Status, Unread, deliver, lines, read_all, starve};
 use mg_io::{Folder, Sink};
@@ -37,7 +37,7 @@ const CLASS_LIMIT: usize = 16_777_217;
 /// the line of a fault to `err`; the status says how it ended. Files are read first, then all is made,
 /// and only then are files written, and after them `out` and `err`, each in one piece.
 ///
-/// `translate [--out D] F..` reads the local protocols in the files and writes the typestates of
+/// `translate [--package P] [--out D] F..` reads the local protocols in the files and writes the typestates of
 /// their roles and the classes by which programs play them, into the folder D where one is named.
 /// `conform F CALLS` tells whether the calls of the second file follow the protocol of the first.
 /// `project [--out D] F` reads the global protocol in the file and writes the local protocols of its
@@ -163,7 +163,11 @@ fn carried_out(alloc: Global, command: &Command<'_>, contents: &[Bytes]) -> Resu
     ensures { IsCarried (command_of command.now) contents.now result }
 {
     match *command {
-        Command::Translate { folder, files } => translate(alloc, folder, files, contents),
+        Command::Translate {
+            package_name,
+            folder,
+            files,
+        } => translate(alloc, &Target { package_name, folder }, files, contents),
         Command::Conform { .. } => {
             conform(alloc, contents[0].as_slice(), contents[1].as_slice())
         }

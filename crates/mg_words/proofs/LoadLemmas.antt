@@ -29,7 +29,7 @@ begins_load = let b = begins_branches 1 (omega arith) (omega arith) in (decimal 
 
 pub is_load : (command : Command) (rest : List Word) → IsCommand command (load ∷ rest)
     → (n : ℕ) × (seed : ℕ) × (command ≡ Load n seed) × IsBehind (Load n seed) rest
-is_load (Translate folder files) rest (r, e, b) = translate_load (sym (head_is e))
+is_load (Translate package_name folder files) rest (r, e, b) = translate_load (sym (head_is e))
 is_load (Conform files) rest (r, e, b) = conform_load (sym (head_is e))
 is_load (Check files) rest (r, e, b) = check_load (sym (head_is e))
 is_load (Compile folder files) rest (r, e, b) = compile_load (sym (head_is e))

@@ -37,7 +37,7 @@ begins_out = let b = begins_folder (Some some_class) is_name in (some_class ∷ 
 
 pub is_project : (command : Command) (rest : List Word) → IsCommand command (project ∷ rest)
     → (folder : Option Word) × (files : List Word) × (command ≡ Project folder files) × IsBehind (Project folder files) rest
-is_project (Translate folder files) rest (r, e, b) = translate_project (sym (head_is e))
+is_project (Translate package_name folder files) rest (r, e, b) = translate_project (sym (head_is e))
 is_project (Conform files) rest (r, e, b) = conform_project (sym (head_is e))
 is_project (Check files) rest (r, e, b) = check_project (sym (head_is e))
 is_project (Compile folder files) rest (r, e, b) = compile_project (sym (head_is e))

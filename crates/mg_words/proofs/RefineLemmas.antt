@@ -36,7 +36,7 @@ begins_refine = let b = begins_first (codes "P.protocol") named in (codes "P.pro
 
 pub is_refine : (command : Command) (rest : List Word) → IsCommand command (refine ∷ rest)
     → (files : List Word) × (command ≡ Refine files) × IsBehind (Refine files) rest
-is_refine (Translate folder files) rest (r, e, b) = translate_refine (sym (head_is e))
+is_refine (Translate package_name folder files) rest (r, e, b) = translate_refine (sym (head_is e))
 is_refine (Conform files) rest (r, e, b) = conform_refine (sym (head_is e))
 is_refine (Check files) rest (r, e, b) = check_refine (sym (head_is e))
 is_refine (Compile folder files) rest (r, e, b) = compile_refine (sym (head_is e))

@@ -17,7 +17,8 @@ use Rattle.mg_words.specs.inner.Judging.{IsFirstOther, has_name, AreGiven, word_
 use Rattle.mg_words.specs.inner.Judging.{can_follow, are_whole, roles_more, with_more, made, verb_of, IsFor, AreFor, Keeps, is_barred}
 use Rattle.mg_words.proofs.WordsLemmas.{head_is, tail_is, filled, nothing_behind, All-first, All-rest, All-push, All-mid, none_yet}
 use Rattle.mg_words.proofs.WordsLemmas.{some_for, for_named, some_class, classed, pushed_filled, IsRunBehind, is_run, run_is, first_wrong}
-use Rattle.mg_words.proofs.WordsLemmas.{same_translate, same_conform, same_check, same_compile}
+use Rattle.mg_words.proofs.WordsLemmas.{same_conform, same_check, same_compile}
+use Rattle.mg_words.proofs.TranslateLemmas.{same_translate}
 use Rattle.mg_words.proofs.RefineLemmas.{same_refine}
 use Rattle.mg_words.proofs.ProjectLemmas.{same_project}
 use Rattle.mg_words.proofs.LoadLemmas.{same_load}
@@ -442,7 +443,8 @@ module _ (ran : Input) where
 -- ---- words are one command at most
 
 pub same_command : (words : List Word) (a b : Command) → IsCommand a words → IsCommand b words → a ≡ b
-same_command words (Translate folder files) b (rest, e, behind) is = same_translate b folder files rest behind (subst (IsCommand b) e is)
+same_command words (Translate package_name folder files) b (rest, e, behind) is =
+    same_translate b package_name folder files rest behind (subst (IsCommand b) e is)
 same_command words (Conform files) b (rest, e, behind) is = same_conform b files rest behind (subst (IsCommand b) e is)
 same_command words (Check files) b (rest, e, behind) is = same_check b files rest behind (subst (IsCommand b) e is)
 same_command words (Compile folder files) b (rest, e, behind) is = same_compile b folder files rest behind (subst (IsCommand b) e is)

@@ -31,7 +31,7 @@ begins_verify = begins_files [] (none_yet _)
 -- the word tells the command
 pub is_verify : (command : Command) (rest : List Word) → IsCommand command (verify ∷ rest)
     → (files : List Word) × (command ≡ Verify files) × IsBehind (Verify files) rest
-is_verify (Translate folder files) rest (r, e, b) = translate_verify (sym (head_is e))
+is_verify (Translate package_name folder files) rest (r, e, b) = translate_verify (sym (head_is e))
 is_verify (Conform files) rest (r, e, b) = conform_verify (sym (head_is e))
 is_verify (Check files) rest (r, e, b) = check_verify (sym (head_is e))
 is_verify (Compile folder files) rest (r, e, b) = compile_verify (sym (head_is e))

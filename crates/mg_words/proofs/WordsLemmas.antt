@@ -1,4 +1,4 @@
--- Which words are a command, and which can't follow: of each command but `run` and `exec`.
+-- Which words are a command, and which can't follow: of `conform`, `check` and `compile`, and what others need too.
 use Rattle.std.proofs.Common.{◌≡◌, ℕ, ◌<◌, ◌≤◌, ◌⊎◌, inl, inr, List, [], ◌∷◌, ◌++◌, All, length, get_or, take, drop, take-append-drop}
 use Rattle.std.proofs.Common.{drop-cons, ◌-◌, zero, suc, Option, Some, None, Bool, true, false, ◌&&◌, eqb, codes, refl, sym, ap, ◌∙◌, subst}
 use Rattle.std.proofs.Common.{arith, append_assoc, length-append, Bor}
@@ -11,7 +11,9 @@ use Rattle.scr_tree.specs.Words.{reserved, IsName}
 use Rattle.mg_sources.specs.Files.{EndsWith, Kind, Scribble, Typestates, Java, suffix_of, HaveKinds}
 use Rattle.mg_words.specs.Words.{Word, Command, Translate, Conform, Check, Compile, Run, Exec, Refine, Project, Load, Verify, Asked}
 use Rattle.mg_words.specs.Words.{AreOptions}
+use Rattle.api_package.specs.Package.{IsPackage}
 use Rattle.mg_words.specs.Words.{AreProtocolAndCalls, IsFileName, IsFileOf, IsSourceName, AreSourceNames, AreFilesOf, out_words, verb}
+use Rattle.mg_words.specs.Words.{package_words}
 use Rattle.mg_words.specs.Words.{IsBehind, IsCommand, AreCommand, CanBegin, AreWrong}
 use Rattle.mg_words.proofs.Verbs.{translate, conform, check, compile, run, exec, refine, project, load, translate_conform, translate_check}
 use Rattle.mg_words.proofs.Verbs.{translate_compile, translate_run, conform_check, conform_compile, conform_run, check_compile, check_run}
@@ -117,17 +119,19 @@ pushed_filled [] x e = cc
 pushed_filled (y ∷ ys) x e = cc
 
 -- options and files can be followed by a file
-begins_files : (folder : Option Word) (before : List Word) → IfSome folder IsFileName → All (IsFileOf (codes ".scr")) before
-    → CanBegin AreCommand (translate ∷ (out_words folder ++ before))
-begins_files folder before name each = (
+pub begins_files : (package_name folder : Option Word) (before : List Word) → IfSome package_name IsPackage → IfSome folder IsFileName
+    → All (IsFileOf (codes ".scr")) before → CanBegin AreCommand (translate ∷ (package_words package_name ++ (out_words folder ++ before)))
+begins_files package_name folder before packaged name each = (
   some_source ∷ [],
   (
-    Translate folder (before ++ some_source ∷ []),
+    Translate package_name folder (before ++ some_source ∷ []),
     (
-      (out_words folder ++ before) ++ some_source ∷ [],
+      (package_words package_name ++ (out_words folder ++ before)) ++ some_source ∷ [],
       refl,
       (
-        append_assoc (out_words folder) before (some_source ∷ []),
+        append_assoc (package_words package_name) (out_words folder ++ before) (some_source ∷ [])
+            ∙ ap (λ (z : List Word). package_words package_name ++ z) (append_assoc (out_words folder) before (some_source ∷ [])),
+        packaged,
         name,
         (pushed_filled before some_source, All-push (IsFileOf (codes ".scr")) before some_source each named),
       ),
@@ -136,10 +140,7 @@ begins_files folder before name each = (
 )
 
 pub begins_empty : CanBegin AreCommand []
-begins_empty = let b = begins_files None [] tt (none_yet _) in (translate ∷ b.0, b.1)
-
-begins_out : CanBegin AreCommand (translate ∷ out ∷ [])
-begins_out = let b = begins_files (Some some_class) [] is_name (none_yet _) in (some_class ∷ b.0, b.1)
+begins_empty = let b = begins_files None None [] tt tt (none_yet _) in (translate ∷ b.0, b.1)
 
 begins_calls : (protocol calls : Word) → IsFileOf (codes ".scr") protocol → IsFileName calls
     → CanBegin AreCommand (conform ∷ protocol ∷ calls ∷ [])
@@ -202,7 +203,7 @@ first_word : (command : Command)
     → (verb command ≡ translate) ⊎ (verb command ≡ conform) ⊎ (verb command ≡ check) ⊎ (verb command ≡ compile) ⊎ (verb command ≡ run)
     ⊎ (verb command ≡ exec) ⊎ (verb command ≡ refine) ⊎ (verb command ≡ project) ⊎ (verb command ≡ load)
     ⊎ (verb command ≡ verify)
-first_word (Translate folder files) = inl refl
+first_word (Translate package_name folder files) = inl refl
 first_word (Conform files) = inr (inl refl)
 first_word (Check files) = inr (inr (inl refl))
 first_word (Compile folder files) = inr (inr (inr (inl refl)))
@@ -218,8 +219,10 @@ none_is_none command (rest, e, b) = filled e
 
 -- and tells the command
 pub is_translate : (command : Command) (rest : List Word) → IsCommand command (translate ∷ rest)
-    → (folder : Option Word) × (files : List Word) × (command ≡ Translate folder files) × IsBehind (Translate folder files) rest
-is_translate (Translate folder files) rest (r, e, b) = (folder, files, refl, subst (IsBehind (Translate folder files)) (sym (tail_is e)) b)
+    → (package_name folder : Option Word) × (files : List Word) × (command ≡ Translate package_name folder files)
+    × IsBehind (Translate package_name folder files) rest
+is_translate (Translate package_name folder files) rest (r, e, b) =
+    (package_name, folder, files, refl, subst (IsBehind (Translate package_name folder files)) (sym (tail_is e)) b)
 is_translate (Conform files) rest (r, e, b) = translate_conform (head_is e)
 is_translate (Check files) rest (r, e, b) = translate_check (head_is e)
 is_translate (Compile folder files) rest (r, e, b) = translate_compile (head_is e)
@@ -232,7 +235,7 @@ is_translate (Verify files) rest (r, e, b) = translate_verify (head_is e)
 
 pub is_conform : (command : Command) (rest : List Word) → IsCommand command (conform ∷ rest)
     → (files : List Word) × (command ≡ Conform files) × IsBehind (Conform files) rest
-is_conform (Translate folder files) rest (r, e, b) = translate_conform (sym (head_is e))
+is_conform (Translate package_name folder files) rest (r, e, b) = translate_conform (sym (head_is e))
 is_conform (Conform files) rest (r, e, b) = (files, refl, subst (IsBehind (Conform files)) (sym (tail_is e)) b)
 is_conform (Check files) rest (r, e, b) = conform_check (head_is e)
 is_conform (Compile folder files) rest (r, e, b) = conform_compile (head_is e)
@@ -245,7 +248,7 @@ is_conform (Verify files) rest (r, e, b) = conform_verify (head_is e)
 
 pub is_check : (command : Command) (rest : List Word) → IsCommand command (check ∷ rest)
     → (files : List Word) × (command ≡ Check files) × IsBehind (Check files) rest
-is_check (Translate folder files) rest (r, e, b) = translate_check (sym (head_is e))
+is_check (Translate package_name folder files) rest (r, e, b) = translate_check (sym (head_is e))
 is_check (Conform files) rest (r, e, b) = conform_check (sym (head_is e))
 is_check (Check files) rest (r, e, b) = (files, refl, subst (IsBehind (Check files)) (sym (tail_is e)) b)
 is_check (Compile folder files) rest (r, e, b) = check_compile (head_is e)
@@ -258,7 +261,7 @@ is_check (Verify files) rest (r, e, b) = check_verify (head_is e)
 
 pub is_compile : (command : Command) (rest : List Word) → IsCommand command (compile ∷ rest)
     → (folder : Option Word) × (files : List Word) × (command ≡ Compile folder files) × IsBehind (Compile folder files) rest
-is_compile (Translate folder files) rest (r, e, b) = translate_compile (sym (head_is e))
+is_compile (Translate package_name folder files) rest (r, e, b) = translate_compile (sym (head_is e))
 is_compile (Conform files) rest (r, e, b) = conform_compile (sym (head_is e))
 is_compile (Check files) rest (r, e, b) = check_compile (sym (head_is e))
 is_compile (Compile folder files) rest (r, e, b) = (folder, files, refl, subst (IsBehind (Compile folder files)) (sym (tail_is e)) b)
@@ -276,7 +279,7 @@ IsRunBehind k asked files rest = (options : List Word) × (rest ≡ options ++ f
 
 pub is_run : (k : Input) (command : Command) (rest : List Word) → IsCommand command (verb_of k ∷ rest)
     → (asked : Asked) × (files : List Word) × (command ≡ made k asked files) × IsRunBehind k asked files rest
-is_run input.Sources (Translate folder files) rest (r, e, b) = translate_run (sym (head_is e))
+is_run input.Sources (Translate package_name folder files) rest (r, e, b) = translate_run (sym (head_is e))
 is_run input.Sources (Conform files) rest (r, e, b) = conform_run (sym (head_is e))
 is_run input.Sources (Check files) rest (r, e, b) = check_run (sym (head_is e))
 is_run input.Sources (Compile folder files) rest (r, e, b) = compile_run (sym (head_is e))
@@ -286,7 +289,7 @@ is_run input.Sources (Refine files) rest (r, e, b) = run_refine (head_is e)
 is_run input.Sources (Project folder files) rest (r, e, b) = run_project (head_is e)
 is_run input.Sources (Load branches seed) rest (r, e, b) = run_load (head_is e)
 is_run input.Sources (Verify files) rest (r, e, b) = run_verify (head_is e)
-is_run input.Classes (Translate folder files) rest (r, e, b) = translate_exec (sym (head_is e))
+is_run input.Classes (Translate package_name folder files) rest (r, e, b) = translate_exec (sym (head_is e))
 is_run input.Classes (Conform files) rest (r, e, b) = conform_exec (sym (head_is e))
 is_run input.Classes (Check files) rest (r, e, b) = check_exec (sym (head_is e))
 is_run input.Classes (Compile folder files) rest (r, e, b) = compile_exec (sym (head_is e))
@@ -340,22 +343,6 @@ same_folder Q never None (Some d) f g e q q' = absurd (never (d ∷ g) (subst Q 
 same_folder Q never (Some c) None f g e q q' = absurd (never (c ∷ f) (subst Q (sym e) q'))
 same_folder Q never (Some c) (Some d) f g e q q' = (ap Some (head_is (tail_is e)), tail_is (tail_is e))
 
-translate_files : (command : Command) (folder : Option Word) (rest : List Word) → (folder ≡ None → (r : List Word) → rest ≡ out ∷ r → ⊥)
-    → IsCommand command (translate ∷ (out_words folder ++ rest)) → AreFilesOf (codes ".scr") rest
-translate_files command folder rest plain is =
-    let (d, files, same, (e, name, each)) = is_translate command (out_words folder ++ rest) is in
-    files_behind (AreFilesOf (codes ".scr")) no_file d files folder rest plain e each
-
-folder_word : (command : Command) (f : Word) (rest : List Word) → IsCommand command (translate ∷ out ∷ f ∷ rest) → IsFileName f
-folder_word command f rest is =
-    let (d, files, same, (e, name, each)) = is_translate command (out ∷ f ∷ rest) is in folder_behind (AreFilesOf (codes ".scr")) no_file d
-    files f rest e name each
-
-out_is_none : (command : Command) → IsCommand command (translate ∷ out ∷ []) → ⊥
-out_is_none command is =
-    let (d, files, same, (e, name, each)) = is_translate command (out ∷ []) is in folder_lacks (AreFilesOf (codes ".scr")) no_file d files e
-    each
-
 protocol_word : (command : Command) (p : Word) (more : List Word) → IsCommand command (conform ∷ p ∷ more) → IsFileOf (codes ".scr") p
 protocol_word command p more is =
     let (files, same, (e, h)) = is_conform command (p ∷ more) is in subst (IsFileOf (codes ".scr")) (sym (head_is (e ∙ h.two))) h.scribble
@@ -402,20 +389,6 @@ few words rest e can isnt =
 
 pub few_none : (rest : List Word) → length rest ≡ 0 → AreWrong rest None
 few_none rest e = few [] rest e begins_empty none_is_none
-
-no_files : (command : Command) (folder : Option Word) → IsCommand command (translate ∷ (out_words folder ++ [])) → ⊥
-no_files command folder is = (translate_files command folder [] (λ n r. filled) is).0 refl
-
-pub few_out : (rest : List Word) → length rest ≡ 0 → AreWrong (translate ∷ out ∷ rest) None
-few_out rest e = few (translate ∷ out ∷ []) rest e begins_out out_is_none
-
-pub few_files : (folder : Option Word) (files : List Word) → IfSome folder IsFileName → length files ≡ 0
-    → AreWrong (translate ∷ (out_words folder ++ files)) None
-few_files folder files name e =
-    subst (λ (z : List Word). AreWrong (translate ∷ (out_words folder ++ z)) None) (sym (empty_is files e)) (
-      begins_files folder [] name (none_yet _),
-      λ k. no_files k.0 folder k.1,
-    )
 
 pub few_conform : (rest : List Word) → length rest ≡ 0 → AreWrong (conform ∷ rest) None
 few_conform rest e = few (conform ∷ []) rest e begins_conform conform_is_none
@@ -513,37 +486,12 @@ both_files rest protocol calls more more' e e' n h h' =
       named = h';
     }
 
-pub wrong_folder : (rest : List Word) (word : Word) (more : List Word) → rest ≡ word ∷ more → (IsFileName word → ⊥)
-    → AreWrong (translate ∷ out ∷ rest) (Some word)
-wrong_folder rest word more e isnt = wrong_at (translate ∷ out ∷ []) rest word more e begins_out
-    (λ b. isnt (folder_word b.1.0 word b.0 b.1.1))
-
 -- words that don't begin with the option don't with other words at their end
-still_plain : (before : List Word) (word : Word) (after more : List Word) → ((r : List Word) → before ++ word ∷ after ≡ out ∷ r → ⊥)
-    → (r : List Word) → before ++ word ∷ more ≡ out ∷ r → ⊥
-still_plain [] word after more plain r e = plain after (ap (λ (w : Word). w ∷ after) (head_is e))
-still_plain (b ∷ bs) word after more plain r e = plain (bs ++ word ∷ after) (ap (λ (w : Word). w ∷ (bs ++ word ∷ after)) (head_is e))
-
-pub wrong_file : (folder : Option Word) (files : List Word) (word : Word) → IfSome folder IsFileName
-    → (folder ≡ None → (r : List Word) → files ≡ out ∷ r → ⊥)
-    → IsFirstOther (IsFileOf (codes ".scr")) files (Some word) → AreWrong (translate ∷ (out_words folder ++ files)) (Some word)
-wrong_file folder files word name plain (before, after, is, each, isnt) = record {
-  before = translate ∷ (out_words folder ++ before);
-  after = after;
-  stands = ap (λ (z : List Word). translate ∷ z) (ap (λ (z : List Word). out_words folder ++ z) is ∙
-      sym (append_assoc (out_words folder) before (word ∷ after)));
-  begins = begins_files folder before name each;
-  wrong = λ b. isnt (found b);
-} where
-  found : CanBegin AreCommand ((translate ∷ (out_words folder ++ before)) ++ word ∷ []) → IsFileOf (codes ".scr") word
-  found (more, (command, k)) =
-      let split : ((translate ∷ (out_words folder ++ before)) ++ word ∷ []) ++ more
-      ≡ translate ∷ (out_words folder ++ (before ++ word ∷ more)) =
-      append_assoc (translate ∷ (out_words folder ++ before)) (word ∷ []) more ∙ ap (λ (z : List Word). translate ∷ z)
-      (append_assoc (out_words folder) before (word ∷ more)) in
-      let there : IsCommand command (translate ∷ (out_words folder ++ (before ++ word ∷ more))) = subst (IsCommand command) split k in
-      let still = λ (n : folder ≡ None). still_plain before word after more (λ r e. plain n r (is ∙ e)) in
-      All-mid (IsFileOf (codes ".scr")) before word more (translate_files command folder (before ++ word ∷ more) still there).1
+pub still_plain : (option : Word) (before : List Word) (word : Word) (after more : List Word)
+    → ((r : List Word) → before ++ word ∷ after ≡ option ∷ r → ⊥) → (r : List Word) → before ++ word ∷ more ≡ option ∷ r → ⊥
+still_plain option [] word after more plain r e = plain after (ap (λ (w : Word). w ∷ after) (head_is e))
+still_plain option (b ∷ bs) word after more plain r e =
+    plain (bs ++ word ∷ after) (ap (λ (w : Word). w ∷ (bs ++ word ∷ after)) (head_is e))
 
 pub wrong_source : (files : List Word) (word : Word) → IsFirstOther IsSourceName files (Some word) → AreWrong (check ∷ files) (Some word)
 wrong_source files word (before, after, is, each, isnt) = record {
@@ -582,7 +530,7 @@ wrong_class_source folder files word name plain (before, after, is, each, isnt) 
       append_assoc (compile ∷ (out_words folder ++ before)) (word ∷ []) more ∙ ap (λ (z : List Word). compile ∷ z)
       (append_assoc (out_words folder) before (word ∷ more)) in
       let there : IsCommand command (compile ∷ (out_words folder ++ (before ++ word ∷ more))) = subst (IsCommand command) split k in
-      let still = λ (n : folder ≡ None). still_plain before word after more (λ r e. plain n r (is ∙ e)) in
+      let still = λ (n : folder ≡ None). still_plain out before word after more (λ r e. plain n r (is ∙ e)) in
       All-mid IsSourceName before word more (compile_files command folder (before ++ word ∷ more) still there).1
 
 -- the names of files of a program tell of which kinds they are
@@ -599,9 +547,9 @@ kinds_of words files (r, e, (behind, are)) = have_kinds files are
 pub kinds_of_run : (words : List Word) (asked : Asked) (files : List Word) → IsCommand (Run asked files) words → HaveKinds files
 kinds_of_run words asked files (r, e, (options, behind, how, are)) = have_kinds files are
 
-pub protocols_of : (words files : List Word) (folder : Option Word) → IsCommand (Translate folder files) words
+pub protocols_of : (words files : List Word) (package_name folder : Option Word) → IsCommand (Translate package_name folder files) words
     → All (IsFileOf (codes ".scr")) files
-protocols_of words files folder (r, e, (behind, name, are)) = are.1
+protocols_of words files package_name folder (r, e, (behind, packaged, name, are)) = are.1
 
 pub protocol_of_two : (words files : List Word) (first : Word) → IsCommand (Conform files) words → first ≡ get_or files 0 first
     → EndsWith (codes ".scr") first
@@ -615,14 +563,6 @@ wrong_is_none words (Some word) command h is =
     h.wrong (h.after, (command, subst (IsCommand command) (h.stands ∙ sym (append_assoc h.before (word ∷ []) h.after)) is))
 
 -- words are one command at most, where `run` is
-pub same_translate : (command : Command) (folder : Option Word) (files rest : List Word) → IsBehind (Translate folder files) rest
-    → IsCommand command (translate ∷ rest)
-    → Translate folder files ≡ command
-same_translate command folder files rest (e, name, each) is =
-    let (d, g, same, (e', name', each')) = is_translate command rest is in
-    let (one, other) = same_folder (AreFilesOf (codes ".scr")) no_file folder d files g (sym e ∙ e') each each' in
-    (λ i. Translate (one i) (other i)) ∙ sym same
-
 pub same_compile : (command : Command) (folder : Option Word) (files rest : List Word) → IsBehind (Compile folder files) rest
     → IsCommand command (compile ∷ rest)
     → Compile folder files ≡ command

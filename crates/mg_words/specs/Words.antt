@@ -6,6 +6,7 @@ use Rattle.std.specs.List.{IsDistinct, join_with_byte, range_with_len}
 use Rattle.std.specs.Str.{bytes_eq}
 use Rattle.scr_tree.specs.Words.{IsName}
 use Rattle.mg_sources.specs.Files.{EndsWith, Kind, suffix_of}
+use Rattle.api_package.specs.Package.{IsPackage}
 
 abbrev pub Word : Type 0
 Word = List ℕ
@@ -61,8 +62,8 @@ abbrev pub are_named : Asked → Bool
 are_named asked = are_several asked.roles
 
 pub data Command : Type 0 where
-  -- write the typestates of these files' protocols, into a folder where one is named
-  Translate : (folder : Option Word) → (files : List Word) → Command
+  -- write the typestates and the Java files of these files' protocols: the Java files in a package, all into a folder, where one is named
+  Translate : (package_name folder : Option Word) → (files : List Word) → Command
   -- tell whether the calls of the second file follow the protocol of the first
   Conform : (files : List Word) → Command
   -- tell what the least tables of these files' program have
@@ -84,7 +85,7 @@ pub data Command : Type 0 where
 
 -- the files that a command reads, in their order
 abbrev pub files_of : Command → List Word
-files_of (Translate folder files) = files
+files_of (Translate package_name folder files) = files
 files_of (Conform files) = files
 files_of (Check files) = files
 files_of (Compile folder files) = files
@@ -148,6 +149,11 @@ pub record IsWorkload (branches seed : ℕ) : Type 0 where
 abbrev pub out_words : Option Word → List Word
 out_words None = []
 out_words (Some folder) = codes "--out" ∷ folder ∷ []
+
+-- the option that names a package
+abbrev pub package_words : Option Word → List Word
+package_words None = []
+package_words (Some package_name) = codes "--package" ∷ package_name ∷ []
 
 -- The options of a run.
 pub data RunOption : Type 0 where
@@ -227,7 +233,7 @@ pub record AreOptions (asked : Asked) (words : List Word) : Type 0 where
 
 -- the first word of a command
 abbrev pub verb : Command → Word
-verb (Translate folder files) = codes "translate"
+verb (Translate package_name folder files) = codes "translate"
 verb (Conform files) = codes "conform"
 verb (Check files) = codes "check"
 verb (Compile folder files) = codes "compile"
@@ -240,7 +246,9 @@ verb (Verify files) = codes "verify"
 
 -- the words behind the first: options and then files, or numbers
 abbrev pub IsBehind : Command → List Word → Type 0
-IsBehind (Translate folder files) rest = (rest ≡ out_words folder ++ files) × IfSome folder IsFileName × AreFilesOf (codes ".scr") files
+IsBehind (Translate package_name folder files) rest =
+    (rest ≡ package_words package_name ++ (out_words folder ++ files)) × IfSome package_name IsPackage × IfSome folder IsFileName
+    × AreFilesOf (codes ".scr") files
 IsBehind (Conform files) rest = (rest ≡ files) × AreProtocolAndCalls files
 IsBehind (Check files) rest = (rest ≡ files) × AreSourceNames files
 IsBehind (Compile folder files) rest = (rest ≡ out_words folder ++ files) × IfSome folder IsFileName × AreSourceNames files

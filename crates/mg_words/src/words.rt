@@ -1,14 +1,16 @@
 //! The words of the command line.
 //! They are judged from left to right, so that the first that can't follow is known.
 
-ghost use Rattle.std.specs.Prelude.{◌≡◌, ◌∷◌, codes};
-ghost use Rattle.mg_words.specs.Words.{files_of};
-ghost use Rattle.mg_words.specs.inner.Judging.{IsJudged, IsPlaced, command_of};
+ghost use Rattle.std.specs.Prelude.{◌≡◌, ◌∷◌, ◌++◌, codes, List, IfSome, None, option_map};
+ghost use Rattle.api_package.specs.Package.{IsPackage};
+ghost use Rattle.mg_words.specs.Words.{Word, files_of, package_words};
+ghost use Rattle.mg_words.specs.inner.Judging.{IsJudged, IsPlaced, IsPackaged, command_of};
 
 use crate::asked::Asked;
 use crate::names::{is_file, is_file_name, is_word, other_file, other_source};
 use crate::numbers::{number_of, number_up_to};
 use crate::runs::{Input, judge_run};
+use api_package::is_package;
 use mg_text::Text;
 
 // The most branches that a workload may have.
@@ -17,8 +19,10 @@ const MOST_BRANCHES: u32 = 400;
 /// A command, with the words that it is about.
 #[derive(Clone, Copy)]
 pub enum Command<'a> {
-    /// `translate`, a folder where `--out` names one, and the files.
+    /// `translate`, a package where `--package` names one, a folder where `--out` names one, and
+    /// the files.
     Translate {
+        package_name: Option<&'a Text>,
         folder: Option<&'a Text>,
         files: &'a [Text],
     },
@@ -128,7 +132,7 @@ pub fn judge(words: &[Text]) -> Judged<'_>
     }
 }
 
-// A folder that words begin with, if they do, and the words behind it.
+// A package or a folder that words begin with, if they do, and the words behind it.
 enum Placed<'a> {
     In(Option<&'a Text>, &'a [Text]),
     // They can't go on: because of this word, or because words are lacking.
@@ -157,9 +161,43 @@ fn split_folder(words: &[Text]) -> Placed<'_>
     }
 }
 
+// The package that `--package` names, where it stands first.
+fn split_package(words: &[Text]) -> Placed<'_>
+    ensures { IsPackaged words.now result }
+{
+    let Some((option, rest)) = words.split_first() else {
+        return Placed::In(None, words);
+    };
+    if !is_word(option, "--package") {
+        return Placed::In(None, words);
+    }
+    match rest.split_first() {
+        None => Placed::Wrong(None),
+        Some((package_name, behind)) => {
+            if is_package(package_name.as_str()) {
+                Placed::In(Some(package_name), behind)
+            } else {
+                Placed::Wrong(Some(package_name))
+            }
+        }
+    }
+}
+
 // The same of the words behind `translate`.
 fn judge_translate(words: &[Text]) -> Judged<'_>
     ensures { IsJudged (codes "translate" ∷ words.now) result }
+{
+    match split_package(words) {
+        Placed::Wrong(word) => Judged::Wrong(word),
+        Placed::In(package_name, rest) => judge_packaged(package_name, rest),
+    }
+}
+
+// The same of the words behind the package, where one is named.
+fn judge_packaged<'a>(package_name: Option<&'a Text>, words: &'a [Text]) -> Judged<'a>
+    requires named { IfSome package_name (λ p. IsPackage p.now) }
+    requires plain { package_name ≡ None → (more : List Word) → words.now ≡ codes "--package" ∷ more → ⊥ }
+    ensures { IsJudged (codes "translate" ∷ (package_words (option_map (λ p. p.now) package_name) ++ words.now)) result }
 {
     match split_folder(words) {
         Placed::Wrong(word) => Judged::Wrong(word),
@@ -170,7 +208,11 @@ fn judge_translate(words: &[Text]) -> Judged<'_>
             if files.is_empty() {
                 return Judged::Wrong(None);
             }
-            Judged::Known(Command::Translate { folder, files })
+            Judged::Known(Command::Translate {
+                package_name,
+                folder,
+                files,
+            })
         }
     }
 }

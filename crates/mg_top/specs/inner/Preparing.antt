@@ -1,5 +1,5 @@
 -- What the functions that prepare a delivery may answer.
-use Rattle.std.specs.Prelude.{◌≡◌, ℕ, ◌⊎◌, List, [], ◌∷◌, ◌++◌, codes, Option, Some, None, Result, Ok, Err}
+use Rattle.std.specs.Prelude.{◌≡◌, ℕ, ◌⊎◌, List, [], ◌∷◌, ◌++◌, codes, Option, Some, None, option_map, Result, Ok, Err}
 use Rattle.mg_text.specs.declared.memory.Memory.{Memory}
 use Rattle.scr_tree.specs.Tree.{LocalTree}
 use Rattle.mg_delivery.specs.declared.delivery.Action.{Action}
@@ -19,7 +19,8 @@ use Rattle.mg_sources.specs.Reading.{Part, Protocol, States, Classes}
 use Rattle.mg_refusal.specs.Refusals.{Refusal, refusal_at}
 use Rattle.mg_refusal.specs.Order.{Answers}
 use Rattle.mg_refusal.specs.declared.stop.Stop.{Stop}
-use Rattle.mg_top.specs.Translation.{IsTranslation}
+use Rattle.mg_top.specs.Translation.{Target, IsTranslation}
+use Rattle.mg_top.specs.declared.translate.Target.{Target as Kept}
 use Rattle.mg_delivery.specs.Outside.{Outside}
 use Rattle.mg_delivery.specs.Contents.{after_read}
 use Rattle.mg_top.specs.Ending.{IsUnread, IsDue}
@@ -31,23 +32,27 @@ locals_in (Protocol local ∷ parts) = local ∷ locals_in parts
 locals_in (States typestate ∷ parts) = locals_in parts
 locals_in (Classes file ∷ parts) = locals_in parts
 
+-- where files go
+abbrev pub target_of : Kept → Target
+target_of to = record { package_name = option_map (λ p. p.now) to.package_name; folder = option_map (λ f. f.now) to.folder }
+
 -- what is written for each protocol
-pub data EachIsWritten (folder : Option Word) : List LocalTree → List Action → Type 0 where
-  none : EachIsWritten folder [] []
+pub data EachIsWritten (to : Target) : List LocalTree → List Action → Type 0 where
+  none : EachIsWritten to [] []
   one : {local : LocalTree} {writes : List Action} {locals : List LocalTree} {actions : List Action} →
-      IsTranslation folder local writes → EachIsWritten folder locals actions → EachIsWritten folder (local ∷ locals) (writes ++ actions)
+      IsTranslation to local writes → EachIsWritten to locals actions → EachIsWritten to (local ∷ locals) (writes ++ actions)
 
 -- these were appended, which are the translation of a protocol
-pub record AddsTranslation (folder : Option Word) (local : LocalTree) (before after : List Action) : Type 0 where
+pub record AddsTranslation (to : Target) (local : LocalTree) (before after : List Action) : Type 0 where
   pub writes : List Action
-  pub translation : IsTranslation folder local writes
+  pub translation : IsTranslation to local writes
   pub grown : after ≡ before ++ writes
 
 -- the same of what a file spells; what is no protocol has none
-abbrev pub AddsPart : Option Word → Part → List Action → List Action → Type 0
-AddsPart folder (Protocol local) before after = AddsTranslation folder local before after
-AddsPart folder (States typestate) before after = after ≡ before
-AddsPart folder (Classes file) before after = after ≡ before
+abbrev pub AddsPart : Target → Part → List Action → List Action → Type 0
+AddsPart to (Protocol local) before after = AddsTranslation to local before after
+AddsPart to (States typestate) before after = after ≡ before
+AddsPart to (Classes file) before after = after ≡ before
 
 -- what a command gives, or the first refusal of its files
 abbrev pub IsCarried : Command → List (List ℕ) → Result Delivery Stop → Type 0

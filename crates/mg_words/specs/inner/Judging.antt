@@ -12,7 +12,8 @@ use Rattle.mg_words.specs.Words.{Word, RoleClass, Roles, Alone, Several, role_na
 use Rattle.mg_words.specs.Words.{Run, Exec, Refine, Project, Load, Verify, IsFileOf, IsSourceName, IsCommand, AreWrong, RunOption, Main}
 use Rattle.mg_words.specs.Words.{Role}
 use Rattle.mg_words.specs.Words.{Order, Steps, Trace, Out, option_words, IsOption, class_in, role_in, order_in, steps_in, is_trace}
-use Rattle.mg_words.specs.Words.{folder_in, AreOptions, IsFileName, out_words}
+use Rattle.mg_words.specs.Words.{folder_in, AreOptions, IsFileName, out_words, package_words}
+use Rattle.api_package.specs.Package.{IsPackage}
 use Rattle.mg_words.specs.declared.words.Command.{Command as Found}
 use Rattle.mg_words.specs.declared.words.Command.TheVariants as found
 use Rattle.mg_words.specs.declared.words.Judged.{Judged}
@@ -87,7 +88,7 @@ role_word_of r = record { role = r.role.now; class = r.class.now }
 
 -- the command that was found
 abbrev pub command_of : Found → Command
-command_of (found.Translate folder files) = Translate (option_map (λ w. w.now) folder) files.now
+command_of (found.Translate package_name folder files) = Translate (option_map (λ w. w.now) package_name) (option_map (λ w. w.now) folder) files.now
 command_of (found.Conform files) = Conform files.now
 command_of (found.Check files) = Check files.now
 command_of (found.Compile folder files) = Compile (option_map (λ w. w.now) folder) files.now
@@ -137,6 +138,15 @@ IsPlaced words (placed.In folder files) =
 IsPlaced words (placed.Wrong None) = words ≡ codes "--out" ∷ []
 IsPlaced words (placed.Wrong (Some word)) =
     (rest : List Word) × (words ≡ codes "--out" ∷ word.now ∷ rest) × (IsFileName word.now → ⊥)
+
+-- the package that words begin with, if they do, and the words behind it, or what makes that none
+abbrev pub IsPackaged : List Word → Placed → Type 0
+IsPackaged words (placed.In package_name rest) =
+    (words ≡ package_words (option_map (λ p. p.now) package_name) ++ rest.now) × IfSome package_name (λ p. IsPackage p.now)
+    × (package_name ≡ None → (more : List Word) → rest.now ≡ codes "--package" ∷ more → ⊥)
+IsPackaged words (placed.Wrong None) = words ≡ codes "--package" ∷ []
+IsPackaged words (placed.Wrong (Some word)) =
+    (rest : List Word) × (words ≡ codes "--package" ∷ word.now ∷ rest) × (IsPackage word.now → ⊥)
 
 -- the first word of which this doesn't hold, or none where it holds of all
 abbrev pub IsFirstOther : (Word → Type 0) → List Word → Option Word → Type 0

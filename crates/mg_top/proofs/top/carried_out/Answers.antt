@@ -14,7 +14,8 @@ use Rattle.mg_top.proofs.top.carried_out.Goals as goal
 pub translate-requires-clause-scribble : goal.translate-requires-clause-scribble
 translate-requires-clause-scribble c =
     let known = c.requires.known in
-    protocols_of known.0 c.in-Translate.files.now (option_map (λ f. f.now) c.in-Translate.folder)
+    protocols_of known.0 c.in-Translate.files.now (option_map (λ p. p.now) c.in-Translate.package_name)
+    (option_map (λ f. f.now) c.in-Translate.folder)
     (subst (λ (z : Command). IsCommand (command_of z) known.0) c.in-Translate.is known.1)
 
 pub returns-in-Conform : goal.returns-in-Conform

@@ -1,4 +1,4 @@
-use Rattle.std.proofs.Common.{Some, None, map, option_map, ap}
+use Rattle.std.proofs.Common.{Some, None, map, ap}
 use Rattle.std.proofs.lemmas.Result.{err_from_is_err_and}
 use Rattle.mg_text.specs.Row.{Row}
 use Rattle.mg_read.specs.First.{Judged, with_earlier}
@@ -12,6 +12,7 @@ use Rattle.mg_sources.proofs.Programs.{of_slice}
 use Rattle.mg_words.specs.Words.{Translate}
 use Rattle.mg_top.specs.Commands.{translated}
 use Rattle.mg_top.specs.Commands as commands
+use Rattle.mg_top.specs.inner.Preparing.{target_of}
 use Rattle.mg_top.proofs.SourceLemmas.{scribble_kinds}
 use Rattle.mg_top.proofs.CommandLemmas.{all_written, stopped_so}
 use Rattle.mg_top.proofs.translate.translate.Goals as goal
@@ -24,7 +25,7 @@ returns-in_err-parts c =
     let files = sources c.args.names.now c.args.contents.now in
     let e = err_from_is_err_and c.from_residual.result c.from_residual.ensures.1 in
     rw (e.1, e.2)
-    (stopped_so (Translate (option_map (λ f. f.now) c.args.folder) c.args.names.now) c.args.contents.now
+    (stopped_so (Translate (target_of c.args.to.now).package_name (target_of c.args.to.now).folder c.args.names.now) c.args.contents.now
     (λ (parts : Row Part). EachSpells files (map part_of parts.items)) (λ r. Judged Refuses files (Some r))
     (λ r h. commands.translate (at_first h)) _ c.in_err-parts.ensures)
 
@@ -34,7 +35,7 @@ returns-in_err-check_roles c =
     let each = of_slice files c.in_ok-parts.parts.items c.as_slice.result.now c.as_slice.ensures.items c.in_ok-parts.ensures in
     let e = err_from_is_err_and c.from_residual-in_err-check_roles.result c.from_residual-in_err-check_roles.ensures.1 in
     rw (e.1, e.2)
-    (stopped_so (Translate (option_map (λ f. f.now) c.args.folder) c.args.names.now) c.args.contents.now
+    (stopped_so (Translate (target_of c.args.to.now).package_name (target_of c.args.to.now).folder c.args.names.now) c.args.contents.now
     (λ (done : Unit {0}). Judged SharesRole (with_earlier files) None) (λ r. Judged SharesRole (with_earlier files) (Some r))
     (λ r h. commands.translate (at_next (map part_of c.as_slice.result.now) each h)) _
     (c.in_err-check_roles.ensures c.args.names.now c.args.contents.now each))

@@ -1,7 +1,7 @@
 use Rattle.std.proofs.Common.{◌≡◌, ◌++◌, map, take, option_map}
 use Rattle.mg_top.specs.Translation.{api_written}
 use Rattle.stm_api.specs.View.{written_of}
-use Rattle.mg_top.proofs.translate.add_files.Given as goal
+use Rattle.mg_top.proofs.translate.add_plain.Given as goal
 
 abbrev pub invariant-loop-file : goal.invariant-loop-file
 invariant-loop-file l =
