@@ -9,9 +9,9 @@ function line_of(file, row,    text, number) {
     close(file)
     return text
 }
-function tokenize(file,    text, row, col, open) {
+function tokenize(file,    text, row, col, open, more) {
     total = 0; row = 0; open = 0
-    while ((getline text <file) > 0) {
+    while ((more = (getline text <file)) > 0) {
         row++; col = 1
         while (text != "") {
             if (open) {
@@ -32,6 +32,7 @@ function tokenize(file,    text, row, col, open) {
     }
     close(file)
     token[total + 1] = ""; row_of[total + 1] = row + 1
+    return more == 0
 }
 # The number of the token at a place; one more than there are where none stands at it.
 function token_at(row, col,    i) {
@@ -446,7 +447,7 @@ function hint_of(file, row, col, fault, name,    at) {
     if (fault == "BadByte") return byte_hint(file, row, col)
     if (fault == "LeftOpen" && name ~ /^value /) return "what this gives is an object in " substr(name, 7) ", and nothing takes it: assign it"
     if (!is_one_of(fault, "Syntax UseMoved MixedChoice Unguarded")) return ""
-    tokenize(file)
+    if (!tokenize(file)) return ""
     if (total == 0) return fault == "Syntax" ? "the file has nothing in it" : ""
     if (is_one_of(fault, "MixedChoice Unguarded")) return protocol_hint(row, col, fault, name)
     at = token_at(row, col)
