@@ -9,13 +9,15 @@ function line_of(file, row,    text, number) {
     close(file)
     return text
 }
-function tokenize(file,    text, row, col, open, more) {
+function tokenize(file,    line, text, row, at, size, open, more) {
     total = 0; row = 0; open = 0
-    while ((more = (getline text <file)) > 0) {
-        row++; col = 1
-        while (text != "") {
+    while ((more = (getline line <file)) > 0) {
+        row++; at = 1; size = 1000
+        # A long line is looked at piece by piece; a token that a piece may cut takes a longer one.
+        while (at <= length(line)) {
+            text = substr(line, at, size)
             if (open) {
-                if (!match(text, /\*\//)) break
+                if (!match(text, /\*\//)) { if (at + size > length(line)) break; at += size - 1; continue }
                 RLENGTH += RSTART - 1; open = 0
             } else if (match(text, /^[ \t\r\f]+/)) { }
             else if (match(text, /^\/\//)) break
@@ -25,9 +27,10 @@ function tokenize(file,    text, row, col, open, more) {
                 else if (match(text, /^"([^"\\]|\\.)*"/)) { }
                 else if (match(text, /^([=!<>+*\/%-]=|\+\+|--|&&|\|\|)/)) { }
                 else RLENGTH = 1
-                token[++total] = substr(text, 1, RLENGTH); row_of[total] = row; col_of[total] = col
+                if (at + size <= length(line) && (RLENGTH > size - 2 || RLENGTH == 1 && text ~ /^"/)) { size *= 2; continue }
+                token[++total] = substr(text, 1, RLENGTH); row_of[total] = row; col_of[total] = at
             }
-            col += RLENGTH; text = substr(text, RLENGTH + 1)
+            at += RLENGTH; size = 1000
         }
     }
     close(file)
