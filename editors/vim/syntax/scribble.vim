@@ -1,11 +1,11 @@
-" Local protocols.
+" Local and global protocols.
 if exists("b:current_syntax")
   finish
 endif
-syntax keyword scribbleControl choice or rec continue to from at
-syntax keyword scribbleHeader module type as local protocol role self
+syntax keyword scribbleControl choice or rec continue do to from at
+syntax keyword scribbleHeader module type as local global protocol role self
 syntax keyword scribbleType int boolean String
-syntax keyword scribbleUnsupported par interruptible do global import sig
+syntax keyword scribbleUnsupported par interruptible import sig
 syntax match scribbleMessage "\<[A-Za-z_][A-Za-z0-9_]*\ze\s*([^)]*)\s*\(to\|from\)\>"
 syntax region scribbleText start=+"+ end=+"+ oneline
 syntax region scribbleComment start="/\*" end="\*/"
