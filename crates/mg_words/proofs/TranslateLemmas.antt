@@ -1,6 +1,7 @@
 -- Which words are the command `translate`, and which can't follow.
 use Rattle.std.proofs.Common.{◌≡◌, List, [], ◌∷◌, ◌++◌, All, length, Option, Some, None, codes, refl, sym, ap, ◌∙◌, subst, append_assoc, arith}
-use Rattle.std.specs.Prelude.{Bor, IfSome, option_map}
+use Rattle.std.specs.Borrow.{Bor}
+use Rattle.std.specs.Prelude.{IfSome, option_map}
 use Rattle.jv_tree.specs.Tokens.{is_name}
 use Rattle.api_package.specs.Package.{IsPackage}
 use Rattle.mg_words.specs.declared.words.Placed.TheVariants as placed
@@ -170,19 +171,21 @@ pub same_translate : (command : Command) (package_name folder : Option Word) (fi
     → IsBehind (Translate package_name folder files) rest → IsCommand command (translate ∷ rest) → Translate package_name folder files ≡ command
 same_translate command package_name folder files rest (e, packaged, name, each) is =
     let (q, d, g, same, (e', packaged', name', each')) = is_translate command rest is in
-    let (one, (other, third)) = same_words package_name q folder d files g (sym e ∙ e') each each' in
+    let (one, other, third) = same_words package_name q folder d files g (sym e ∙ e') each each' in
     (λ i. Translate (one i) (other i) (third i)) ∙ sym same
   where
     same_words : (c q a d : Option Word) (f g : List Word)
         → package_words c ++ (out_words a ++ f) ≡ package_words q ++ (out_words d ++ g) → AreFilesOf (codes ".scr") f
         → AreFilesOf (codes ".scr") g → (c ≡ q) × (a ≡ d) × (f ≡ g)
-    same_words None None a d f g e h h' = (refl, same_folder (AreFilesOf (codes ".scr")) no_file a d f g e h h')
+    same_words None None a d f g e h h' =
+        let (there, behind) = same_folder (AreFilesOf (codes ".scr")) no_file a d f g e h h' in (refl, there, behind)
     same_words None (Some p) None d f g e h h' = absurd (no_pack (p ∷ (out_words d ++ g)) (subst (AreFilesOf (codes ".scr")) e h))
     same_words None (Some p) (Some b) d f g e h h' = pack_out (sym (head_is e))
     same_words (Some p) None a None f g e h h' = absurd (no_pack (p ∷ (out_words a ++ f)) (subst (AreFilesOf (codes ".scr")) (sym e) h'))
     same_words (Some p) None a (Some b) f g e h h' = pack_out (head_is e)
     same_words (Some p) (Some p') a d f g e h h' =
-        (ap Some (head_is (tail_is e)), same_folder (AreFilesOf (codes ".scr")) no_file a d f g (tail_is (tail_is e)) h h')
+        let (there, behind) = same_folder (AreFilesOf (codes ".scr")) no_file a d f g (tail_is (tail_is e)) h h' in
+        (ap Some (head_is (tail_is e)), there, behind)
 
 -- ---- words in the code
 

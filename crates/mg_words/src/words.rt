@@ -197,7 +197,7 @@ fn judge_translate(words: &[Text]) -> Judged<'_>
 fn judge_packaged<'a>(package_name: Option<&'a Text>, words: &'a [Text]) -> Judged<'a>
     requires named { IfSome package_name (λ p. IsPackage p.now) }
     requires plain { package_name ≡ None → (more : List Word) → words.now ≡ codes "--package" ∷ more → ⊥ }
-    ensures { IsJudged (codes "translate" ∷ (package_words (option_map (λ p. p.now) package_name) ++ words.now)) result }
+    ensures { IsJudged (codes "translate" ∷ (package_words (option_map (λ p. p.now) package_name.entry) ++ words.now)) result }
 {
     match split_folder(words) {
         Placed::Wrong(word) => Judged::Wrong(word),
