@@ -1,5 +1,5 @@
-//! The program behind the page: words and files in, what a command of mungo gives out. Nothing else of the page knows how
-//! the program runs. Each command has an instance of its own, so nothing of one is left for the next.
+//! The program behind the page: words and files in, what a command of mungo gives out. Nothing else of the page knows
+//! how the program runs. Each command has an instance of its own, so nothing of one is left for the next.
 'use strict';
 
 const toBytes = text => new TextEncoder().encode(text);
@@ -74,9 +74,9 @@ function hostOf(words, files) {
     return { calls, begin: instance => { memory = instance.exports.memory; }, given };
 }
 
-// Runs `mungo WORDS` over files, a map from names to texts or bytes. It gives the status, what was put on standard output
-// and on standard error, and the files that were written, a map from names to bytes. Where the browser stopped the
-// program, as for want of stack, the status is null, and `err` says why.
+// Runs `mungo WORDS` over files, a map from names to texts or bytes. It gives the status, what was put on standard
+// output and on standard error, and the files that were written, a map from names to bytes. Where the browser stopped
+// the program, as for want of stack, the status is null, and `err` says why.
 function answer(words, files) {
     const host = hostOf(words, files);
     try {

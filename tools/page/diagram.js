@@ -11,7 +11,8 @@ function tag(name, attributes, ...inside) {
 
 // The head of an arrow, by a name, in the colour of its line.
 const arrowHead = id => tag('defs', {}, tag('marker', {
-    id, viewBox: '0 0 8 8', refX: 7.5, refY: 4, markerWidth: 7, markerHeight: 7, markerUnits: 'userSpaceOnUse', orient: 'auto',
+    id, viewBox: '0 0 8 8', refX: 7.5, refY: 4, markerWidth: 7, markerHeight: 7, markerUnits: 'userSpaceOnUse',
+    orient: 'auto',
 }, tag('path', { class: 'tip', d: 'M0,0 L8,4 L0,8 z' })));
 
 // The width of a text in the font of the diagrams.
@@ -124,7 +125,8 @@ function lineOf(link) {
 function diagram(typestate) {
     const { parts, links } = partsOf(typestate), size = layOut(parts, links), EDGE = 16, FIRST = 26;
     const lines = links.map(link => tag('path', {
-        class: 'line', 'data-keys': `|${link.keys.join('|')}|`, d: lineOf(link), ...link.tip && { 'marker-end': 'url(#tip)' },
+        class: 'line', 'data-keys': `|${link.keys.join('|')}|`, d: lineOf(link),
+        ...link.tip && { 'marker-end': 'url(#tip)' },
     }));
     const top = parts[0].y - parts[0].height / 2, x = parts[0].x;
     const start = tag('circle', { class: 'start', cx: x, cy: top - FIRST + 4, r: 4 })

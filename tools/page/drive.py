@@ -8,13 +8,14 @@ import tempfile
 import time
 
 # The keys that tests press beside letters: name, and code of Windows by which Chromium knows it.
-KEYS = {"Tab": 9, "Enter": 13, "Escape": 27, " ": 32, "End": 35, "Home": 36, "ArrowLeft": 37, "ArrowUp": 38, "ArrowRight": 39, "ArrowDown": 40, "Delete": 46, "Backspace": 8}
+KEYS = {"Tab": 9, "Enter": 13, "End": 35, "Home": 36, "ArrowRight": 39, "ArrowDown": 40, "Delete": 46}
 SHIFT, CONTROL = 8, 2
 
 
 def find():
     """The path of Chromium, or None."""
-    return next((path for name in ("chromium", "chromium-browser", "google-chrome") if (path := shutil.which(name))), None)
+    found = (shutil.which(name) for name in ("chromium", "chromium-browser", "google-chrome"))
+    return next((path for path in found if path), None)
 
 
 class Fault(Exception):
@@ -102,9 +103,9 @@ class Browser:
     def press(self, key, count=1, held=0):
         """Presses a key, some times, with other keys held."""
         what = {"key": key, "code": key, "windowsVirtualKeyCode": KEYS[key], "modifiers": held}
-        text = {"Enter": "\r", " ": " "}.get(key)
+        text = {"text": "\r"} if key == "Enter" else {}
         for _ in range(count):
-            self.call("Input.dispatchKeyEvent", type="keyDown", **what, **({"text": text} if text else {}))
+            self.call("Input.dispatchKeyEvent", type="keyDown", **what, **text)
             self.call("Input.dispatchKeyEvent", type="keyUp", **what)
 
     def type(self, text):

@@ -1,7 +1,7 @@
 //! What the program says of a set of files: the verdict, and what it makes of them. It is asked after each change.
 'use strict';
 
-const FAULT = /^(.+):(\d+):(\d+): ([A-Z][A-Za-z]+)(?: ([^:]*))?$/m, BARE = /^mungo: (\w+) ?(.*)$/m;
+const FAULT = /^(.+):(\d+):(\d+): ([A-Z][A-Za-z]+)(?: ([^:\n]*))?$/m, BARE = /^mungo: (\w+) ?(.*)$/m;
 
 const isSource = name => /\.(scr|protocol|java)$/.test(name);
 const isGlobal = (name, text) => name.endsWith('.scr') && /\bglobal\s+protocol\b/.test(withoutComments(text));
@@ -18,7 +18,7 @@ function withoutComments(text) {
 //   program     their names
 //   given       the files that were made: a map from their names to { text, by }, where `by` is the command
 //   isTranslated            whether the local protocols were
-//   typestates, classes     a map from the names of typestates to these, and one from classes to their typestates' names
+//   typestates, classes     a map of typestates by their names, and one from classes to the names of their typestates
 function judge(files) {
     const given = new Map(), sources = new Map(), globals = [...files.keys()].filter(it => isGlobal(it, files.get(it)));
     const give = ({ written }, by) => {
@@ -37,7 +37,8 @@ function judge(files) {
     if (translated) give(translated, 'translate');
     if (program.length) verdict ??= answer(['check', ...program], sources);
     verdict ??= { status: 0, out: '', err: '', written: new Map() };
-    const fault = verdict.status === 0 ? null : faultOf(verdict.err), isTranslated = !translated || translated.status === 0;
+    const fault = verdict.status === 0 ? null : faultOf(verdict.err);
+    const isTranslated = !translated || translated.status === 0;
     return { verdict, fault, globals, sources, program, given, isTranslated, ...meaningOf(sources, given) };
 }
 
@@ -68,8 +69,8 @@ function spanOf(text, fault) {
     return [Math.min(from, text.length), Math.min(from + (word ? word[0].length : 0), text.length)];
 }
 
-// The state that a fault tells, where it tells a variable and a state: that of the class that the variable is declared of,
-// and what it offers. Else null.
+// The state that a fault tells, where it tells a variable and a state: that of the class that the variable is declared
+// of, and what it offers. Else null.
 function stateOf({ fault, sources, classes, typestates }) {
     const [variable, state] = (fault?.about ?? '').split(' '), text = sources.get(fault?.file);
     if (!state || !text || !/^\w+$/.test(variable)) return null;
@@ -91,5 +92,6 @@ function runWords(sources) {
 function mainsOf(text) {
     const parts = text.split(/\bclass\s+(?=\w)/).slice(1);
     const withMain = parts.filter(part => /\bstatic\s+void\s+main\s*\(\s*String\b/.test(part));
-    return withMain.map(part => ({ class: /^\w+/.exec(part)[0], role: /\bnew\s+(\w+)Role\s*\(/.exec(part)?.[1] ?? null }));
+    const role = part => /\bnew\s+(\w+)Role\s*\(/.exec(part)?.[1] ?? null;
+    return withMain.map(part => ({ class: /^\w+/.exec(part)[0], role: role(part) }));
 }

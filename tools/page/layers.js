@@ -4,10 +4,10 @@
 
 const BETWEEN = 18, BELOW = 30, THIN = 10;
 
-// Lays out parts { width, height, last, low } and links { from, to }, whose ends are numbers of parts. A link stands for
-// a line between an upper part `from` and a lower one `to`, and links have no cycle. A part that is `last` stands in the
-// lowest layer, and one that is `low` just above those that it leads to.
-// Gives each part `x` and `y`, its middle, and each link `gaps`, through which it runs; answers the width and the height.
+// Lays out parts { width, height, last, low } and links { from, to }, whose ends are numbers of parts. A link stands
+// for a line between an upper part `from` and a lower one `to`, and links have no cycle. A part that is `last` stands
+// in the lowest layer, and one that is `low` just above those that it leads to.
+// Gives each part `x` and `y`, its middle, and each link `gaps`, through which it runs; answers width and height.
 function layOut(parts, links) {
     if (!parts.length) return { width: 0, height: 0 };
     rank(parts, links);

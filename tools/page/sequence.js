@@ -1,5 +1,5 @@
-//! A run as a sequence, as SVG: a line for each role, its calls as bars, and messages between the lines. Each event has a
-//! row of its own, and its text stands in that row, so that no text covers another.
+//! A run as a sequence, as SVG: a line for each role, its calls as bars, and messages between the lines. Each event has
+//! a row of its own, and its text stands in that row, so that no text covers another.
 'use strict';
 
 const ROW = 17, HEAD = 34, SIGN = 6.7, MOST_ROWS = 400;
@@ -11,8 +11,8 @@ function callText(call) {
     return call.answer ? `${name} = ${call.answer}` : name;
 }
 
-// What is told of a run whatever part of it is shown: its roles, calls with where they end and how deep they stand inside
-// one another, and for each message that is taken where it was sent.
+// What is told of a run whatever part of it is shown: its roles, calls with where they end and how deep they stand
+// inside one another, and for each message that is taken where it was sent.
 function readRun(events) {
     const calls = [], open = new Map(), sent = new Map(), messages = new Map(), made = new Map();
     const list = (map, key) => map.get(key) ?? map.set(key, []).get(key);
@@ -51,8 +51,8 @@ function columnsOf(run) {
     return { columns, width: Math.ceil(at + Math.max(room, 60)) };
 }
 
-// Draws the rows from `first` on, at most MOST_ROWS, of a run. What belongs to an event has its number as `data-at`, where
-// the first has the number 1.
+// Draws the rows from `first` on, at most MOST_ROWS, of a run. What belongs to an event has its number as `data-at`,
+// where the first has the number 1.
 function sequence(run, first) {
     const last = Math.min(run.events.length, first + MOST_ROWS), { columns, width } = columnsOf(run);
     const height = HEAD + ROW * (last - first) + 8, shown = run.events.slice(first, last);
@@ -62,7 +62,8 @@ function sequence(run, first) {
         class: 'row', 'data-at': event.at + 1, x: 0, y: scene.y(event.at) - ROW / 2, width, height: ROW,
     }, tag('title', {}, escaped(event.line))));
     return tag('svg', {
-        class: 'sequence', width, height, viewBox: `0 0 ${width} ${height}`, role: 'img', 'aria-label': 'the run as a sequence',
+        class: 'sequence', width, height, viewBox: `0 0 ${width} ${height}`, role: 'img',
+        'aria-label': 'the run as a sequence',
     }, arrowHead('go'), ...[...columns].map(([role, x]) => lifeShape(role, x, height)),
     ...calls.map(call => callShape(scene, call)), ...shown.map(event => eventShape(scene, event)), ...rows);
 }
@@ -79,7 +80,8 @@ function besideShape(scene, kind, event, text, far) {
 }
 function callShape(scene, call) {
     const far = 5 * call.depth, x = scene.columns.get(call.role) - 6 + far;
-    const top = Math.max(scene.y(call.at) - 7, HEAD), height = Math.max(Math.min(scene.y(call.until) + 5, scene.height) - top, 8);
+    const top = Math.max(scene.y(call.at) - 7, HEAD), bottom = Math.min(scene.y(call.until) + 5, scene.height);
+    const height = Math.max(bottom - top, 8);
     const isInside = call.at >= scene.first;
     return tag('g', { 'data-at': call.at + 1 }, tag('rect', { class: 'busy', x, y: top, width: 12, height, rx: 3 }),
         isInside ? besideShape(scene, 'call', call, callText(call), far) : '');
@@ -96,7 +98,8 @@ function messageShape(scene, event, x, y) {
     const begin = Math.max(scene.y(scene.run.messages.get(event.at) ?? event.at), HEAD);
     const line = { d: `M${from + 7 * way},${begin} L${x - 8 * way},${y}`, 'marker-end': 'url(#go)' };
     const text = { x: x - 16 * way, y: y - 3, 'text-anchor': way > 0 ? 'end' : 'start' };
-    return tag('g', { class: 'message', 'data-at': event.at + 1 }, tag('path', line), tag('text', text, escaped(messageText(event))));
+    const label = tag('text', text, escaped(messageText(event)));
+    return tag('g', { class: 'message', 'data-at': event.at + 1 }, tag('path', line), label);
 }
 
 // Shows that the first `count` events have been: what comes later is pale, and the row of the last one is marked.

@@ -22,7 +22,8 @@ function readTypestate(text) {
 function callsOf(from, body) {
     const calls = [], trimmed = (list, sign) => list.split(sign).map(it => it.trim());
     for (const [, method, types, target] of body.matchAll(/(\w+)\s*\(([^)]*)\)\s*:\s*(<[^>]*>|\w+)/g)) {
-        const pairs = target[0] === '<' ? trimmed(target.slice(1, -1), ',').map(pair => trimmed(pair, ':')) : [[null, target]];
+        const list = target[0] === '<' ? trimmed(target.slice(1, -1), ',') : null;
+        const pairs = list ? list.map(pair => trimmed(pair, ':')) : [[null, target]];
         const text = `${method}(${trimmed(types, ',').join(', ')})`;
         calls.push({ from, method, text, ends: pairs.map(([label, to]) => ({ label, to })) });
     }
