@@ -2,6 +2,7 @@
 import base64
 import json
 import os
+import select
 import shutil
 import subprocess
 import tempfile
@@ -9,7 +10,7 @@ import time
 
 # The keys that tests press beside letters: name, and code of Windows by which Chromium knows it.
 KEYS = {"Tab": 9, "Enter": 13, "End": 35, "Home": 36, "ArrowRight": 39, "ArrowDown": 40, "Delete": 46}
-SHIFT, CONTROL = 8, 2
+SHIFT, CONTROL, SECONDS = 8, 2, 100
 
 
 def find():
@@ -70,6 +71,8 @@ class Browser:
 
     def receive(self):
         while b"\0" not in self.kept:
+            if not select.select([self.read_end], [], [], SECONDS)[0]:
+                raise Fault(f"chromium says nothing for {SECONDS} seconds")
             more = os.read(self.read_end, 1 << 20)
             if not more:
                 raise Fault("chromium ended")

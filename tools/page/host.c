@@ -10,7 +10,7 @@ typedef unsigned char byte;
 int main(int count, char **words);
 FOR_PAGE(run) int run(void) { return main(0, 0); }
 
-// Words: the bytes of one, of which at most `space` are put at `to`. The answer is its length, or -1 where there is none.
+// Words: the bytes of one, of which at most `space` are put at `to`. The answer is its length, or -1 where there's none.
 FROM_PAGE(word) int page_word(unsigned number, unsigned to, unsigned space);
 ssize_t rattle_arg(size_t number, void *to, size_t space) {
     return page_word((unsigned)number, (unsigned)(size_t)to, (unsigned)space);
@@ -40,14 +40,16 @@ int open(const char *name, int flags, ...) {
     // The low two bits of the flags say whether the file is written.
     return answered(page_open((unsigned)(size_t)name, length, flags & 3));
 }
-ssize_t read(int file, void *to, size_t space) { return answered(page_read(file, (unsigned)(size_t)to, (unsigned)space)); }
+ssize_t read(int file, void *to, size_t space) {
+    return answered(page_read(file, (unsigned)(size_t)to, (unsigned)space));
+}
 ssize_t write(int file, const void *from, size_t count) {
     return answered(page_write(file, (unsigned)(size_t)from, (unsigned)count));
 }
 int close(int file) { return answered(page_close(file)); }
 
 // The heap. A block has 32 bytes, or twice as many, and so on, and before what is handed out stand 16 bytes that tell
-// its class. What is given back waits in a list of its class. Where there is nothing the memory grows, by 4 MiB or more.
+// its class. What is given back waits in a list of its class. Where there is nothing the memory grows by 4 MiB or more.
 extern byte __heap_base;
 static byte *next = 0, *limit = 0;
 static void *waiting[64];
@@ -57,7 +59,8 @@ static int *class_at(void *block) { return (int *)((byte *)block - 16); }
 static _Bool grows(size_t count) {
     size_t pages = (count + PAGE - 1) / PAGE;
     if (pages < 64) pages = 64;
-    if (__builtin_wasm_memory_grow(0, pages) == (size_t)-1) return 0;
+    // The lowering leaves 32 bits of the answer, which is -1 where the memory can't grow.
+    if ((int)__builtin_wasm_memory_grow(0, pages) == -1) return 0;
     limit += pages * PAGE;
     return 1;
 }

@@ -6,7 +6,7 @@ const examples = JSON.parse(element('examples').textContent), faults = JSON.pars
 const page = {
     files: new Map(), at: '',               // the files, a map from names to texts, and the one that is shown
     judged: null, took: 0, count: 0,        // what judge.js says of them, in how many milliseconds, for the which time
-    words: null, auto: '',                  // the words of the run that were written, or null, and those that were found
+    words: null, auto: '',                  // the words of the run that were written, or null, and those found
     ran: null, run: null,                   // what `run` gave, and what sequence.js reads in its trace
     objects: new Map(), step: 0, window: null,      // the run's objects, the step that is shown, and the first row
     typestates: new Map(), shown: '', drawn: '',    // the typestates, the one that is drawn, and its HTML

@@ -29,14 +29,15 @@ const probe = (() => {
         const boxes = [...document.querySelectorAll(chosen)].map(it => ({ text: it.textContent, box: it.getBBox() }));
         const meets = (from, length, other, long, by) => from + by < other + long && other + by < from + length;
         const cover = (a, b) => meets(a.x, a.width, b.x, b.width, 1) && meets(a.y, a.height, b.y, b.height, room);
-        const pairs = boxes.flatMap((one, at) => boxes.slice(0, at).filter(other => cover(one.box, other.box)).map(other => [one, other]));
-        return pairs.map(pair => pair.map(it => it.text).join(' and '));
+        const under = (one, at) => boxes.slice(0, at).filter(other => cover(one.box, other.box));
+        return boxes.flatMap((one, at) => under(one, at).map(other => `${one.text} and ${other.text}`));
     }
 
     // Which texts of the diagram a line runs over: a point of it is well inside of their box.
     function crossed() {
         const found = new Set(), STEP = 3, NEAR = 2.5;
-        const texts = [...document.querySelectorAll('#drawn text.call')].map(it => ({ text: it.textContent, box: it.getBBox() }));
+        const calls = [...document.querySelectorAll('#drawn text.call')];
+        const texts = calls.map(it => ({ text: it.textContent, box: it.getBBox() }));
         const inside = (at, from, length) => at > from + NEAR && at < from + length - NEAR;
         for (const line of document.querySelectorAll('#drawn .line')) {
             for (let at = 0; at < line.getTotalLength(); at += STEP) {
@@ -50,20 +51,26 @@ const probe = (() => {
 
     // What the typestate that is drawn has, and what is drawn of it.
     function drawn() {
-        const { states, calls } = page.typestates.get(page.shown), shapes = chosen => [...document.querySelectorAll(chosen)];
+        const { states, calls } = page.typestates.get(page.shown);
+        const shapes = chosen => [...document.querySelectorAll(chosen)];
         const labels = calls.flatMap(call => call.ends.map(end => end.label)).filter(label => label !== null);
         return {
-            states: [...states].sort(), statesDrawn: shapes('#drawn .state').map(it => it.dataset.state).sort(),
-            calls: [...calls.map(call => call.text), ...labels].sort(), callsDrawn: shapes('#drawn text.call').map(it => it.textContent).sort(),
-            covered: covered('#drawn .state, #drawn text.call', 2), crossed: crossed(),
+            states: [...states].sort(),
+            statesDrawn: shapes('#drawn .state').map(it => it.dataset.state).sort(),
+            calls: [...calls.map(call => call.text), ...labels].sort(),
+            callsDrawn: shapes('#drawn text.call').map(it => it.textContent).sort(),
+            covered: covered('#drawn .state, #drawn text.call', 2),
+            crossed: crossed(),
         };
     }
     const lit = () => [...document.querySelectorAll('#drawn .state.on')].map(it => it.dataset.state);
 
     // The objects of the run that at the step that is shown are neither at their end nor where they may be left.
     function unfinished() {
-        const isDone = (object, { state }) => state === 'end' || object.typestate.calls.some(it => it.text === 'drop' && it.from === state);
-        return [...page.objects.values()].filter(object => !isDone(object, standing(object, page.step))).map(object => object.key);
+        const isFree = (object, state) => object.typestate.calls.some(it => it.text === 'drop' && it.from === state);
+        const isDone = (object, { state }) => state === 'end' || isFree(object, state);
+        const left = [...page.objects.values()].filter(object => !isDone(object, standing(object, page.step)));
+        return left.map(object => object.key);
     }
 
     // What has the focus, by its id, its name or what it does.
@@ -74,8 +81,9 @@ const probe = (() => {
 
     // What stands outside of a window of a width, or is too small to be used.
     function outside(width) {
-        const isOut = ({ left, right, width: wide, height }) => left < -0.5 || right > width + 0.5 || wide < 8 || height < 8;
-        return seen('button, select, input, textarea, #say, #drawn, #view').filter(it => isOut(it.getBoundingClientRect())).map(nameOf);
+        const isOut = box => box.left < -0.5 || box.right > width + 0.5 || box.width < 8 || box.height < 8;
+        const shown = seen('button, select, input, textarea, #say, #drawn, #view');
+        return shown.filter(it => isOut(it.getBoundingClientRect())).map(nameOf);
     }
 
     // The heap of host.c under a random load: whether blocks keep what is put into them, and don't cover one another.
@@ -106,21 +114,29 @@ const probe = (() => {
         }
         live.sort((one, other) => one.at - other.at);
         const isApart = live.slice(1).every((block, at) => live[at].at + live[at].size <= block.at);
-        return isApart ? 'right' : 'blocks cover one another';
+        if (!isApart) return 'blocks cover one another';
+        return hasEnd(heap) ? 'right' : 'there is memory without end';
+    }
+    // Whether the heap says so when there is no more memory.
+    function hasEnd(heap) {
+        const GIBI = 2 ** 30;
+        for (let turn = 0; turn < 8; turn++) if (heap.take(GIBI) === 0) return true;
+        return false;
     }
 
     // Random edits of random files of random examples, through the text area, and steps and views between them.
     const PIECES = [
-        '{', '}', ';', '(', ')', '\n', ' ', '"', '/*', '//', '<', '>', ':', 'end', 'State0', 'int x = 1;', 'null', '0', 'c', 'ü', '😀',
-        'while (true) { }', 'rec X { continue X; }', 'choice at C { } or { }', 'new CRole()', 'class A { }', 'drop: end',
-        '@Typestate("P")', 'a(int) to S;', 'global protocol G(role A) { }',
+        '{', '}', ';', '(', ')', '\n', ' ', '"', '/*', '//', '<', '>', ':', 'end', 'State0', 'null', '0', 'c', 'ü', '😀',
+        'int x = 1;', 'while (true) { }', 'rec X { continue X; }', 'choice at C { } or { }', 'new CRole()',
+        'class A { }', 'drop: end', '@Typestate("P")', 'a(int) to S;', 'global protocol G(role A) { }',
     ];
     const random = generator(60);
     function edit() {
         const area = element('text'), text = area.value, at = random(text.length + 1);
         const until = Math.min(text.length, at + random(12)), piece = PIECES[random(PIECES.length)];
         const [head, cut, tail] = [text.slice(0, at), text.slice(at, until), text.slice(until)];
-        area.value = [head + tail, head + piece + cut + tail, head + cut + cut + tail, head + piece + tail][random(4)].toWellFormed();
+        const edited = [head + tail, head + piece + cut + tail, head + cut + cut + tail, head + piece + tail][random(4)];
+        area.value = edited.toWellFormed();
         area.dispatchEvent(new Event('input'));
     }
     function edits(count) {

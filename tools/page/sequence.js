@@ -97,7 +97,7 @@ function messageShape(scene, event, x, y) {
     const from = scene.columns.get(event.whom), way = x < from ? -1 : 1;
     const begin = Math.max(scene.y(scene.run.messages.get(event.at) ?? event.at), HEAD);
     const line = { d: `M${from + 7 * way},${begin} L${x - 8 * way},${y}`, 'marker-end': 'url(#go)' };
-    const text = { x: x - 16 * way, y: y - 3, 'text-anchor': way > 0 ? 'end' : 'start' };
+    const text = { x: x - 14 * way, y: y + 10, 'text-anchor': way > 0 ? 'end' : 'start' };
     const label = tag('text', text, escaped(messageText(event)));
     return tag('g', { class: 'message', 'data-at': event.at + 1 }, tag('path', line), label);
 }

@@ -63,8 +63,8 @@ const views = {
             const calls = fill('calls', [...page.files.keys()].filter(name => !isSource(name)));
             const texts = joinedTexts(page.judged.sources, page.files);
             if (protocol && calls) return given(answer(['conform', protocol, calls], texts));
-            return hint('Asks for a local protocol, and for a file with a call in each line, whose name has no ending of '
-                + 'a source. The example `adder` has both.');
+            return hint('Asks for a local protocol, and for a file with a call in each line, whose name has no ending '
+                + 'of a source. The example `adder` has both.');
         },
     },
     refine: {
