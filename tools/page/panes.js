@@ -154,5 +154,5 @@ function showSequence(page) {
         lines.innerHTML = sequence(page.run, page.window);
     }
     markStep(lines.firstChild, page.step);
-    intoSight(element('view'), lines.querySelector('.row.now'));
+    if (page.step) intoSight(element('view'), lines.querySelector('.row.now')); else element('view').scrollTop = 0;
 }
