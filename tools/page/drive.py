@@ -90,7 +90,7 @@ class Browser:
             raise Fault(f"{text[:200]}: {result['exceptionDetails'].get('exception', {}).get('description')}")
         return result["result"].get("value")
 
-    def wait(self, text, seconds=30):
+    def wait(self, text, seconds=SECONDS):
         """Whether an expression comes to hold within some seconds."""
         end = time.monotonic() + seconds
         while time.monotonic() < end:

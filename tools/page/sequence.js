@@ -12,7 +12,7 @@ function callText(call) {
 }
 
 // What is told of a run whatever part of it is shown: its roles, calls with where they end and how deep they stand
-// inside one another, and for each message that is taken where it was sent.
+// inside one another, for each message that is taken where it was sent, and the messages that no one has taken.
 function readRun(events) {
     const calls = [], open = new Map(), sent = new Map(), messages = new Map(), made = new Map();
     const list = (map, key) => map.get(key) ?? map.set(key, []).get(key);
@@ -31,7 +31,8 @@ function readRun(events) {
         if (event.kind === 'send') list(sent, `${event.role} ${event.whom}`).push(event.at);
         if (event.kind === 'take') messages.set(event.at, list(sent, `${event.whom} ${event.role}`).shift());
     }
-    return { events, roles: [...new Set(events.map(event => event.role))], calls, messages };
+    const roles = [...new Set(events.map(event => event.role))], waiting = new Set([...sent.values()].flat());
+    return { events, roles, calls, messages, waiting };
 }
 
 // Where the line of each role stands: there is room beside it for its calls, and between two lines for messages too.
@@ -91,19 +92,35 @@ function eventShape(scene, event) {
     const dot = r => tag('circle', { class: event.kind, cx: x, cy: y, r });
     if (event.kind === 'made') return tag('g', of, dot(3), besideShape(scene, 'made', event, `new ${event.whom}`, 0));
     if (event.kind === 'look') return tag('g', of, dot(4));
-    return event.kind === 'take' && scene.columns.has(event.whom) ? messageShape(scene, event, x, y) : '';
+    if (!scene.columns.has(event.whom)) return '';
+    if (event.kind === 'send' && scene.run.waiting.has(event.at)) return waitingShape(scene, event, x, y);
+    return event.kind === 'take' ? messageShape(scene, event, x, y) : '';
 }
 function messageShape(scene, event, x, y) {
     const from = scene.columns.get(event.whom), way = x < from ? -1 : 1;
-    const begin = Math.max(scene.y(scene.run.messages.get(event.at) ?? event.at), HEAD);
+    const sent = scene.run.messages.get(event.at) ?? event.at;
+    const begin = Math.max(scene.y(sent), HEAD), of = { 'data-at': event.at + 1, 'data-sent': sent + 1 };
     const line = { d: `M${from + 7 * way},${begin} L${x - 8 * way},${y}`, 'marker-end': 'url(#go)' };
     const text = { x: x - 14 * way, y: y + 10, 'text-anchor': way > 0 ? 'end' : 'start' };
     const label = tag('text', text, escaped(messageText(event)));
-    return tag('g', { class: 'message', 'data-at': event.at + 1 }, tag('path', line), label);
+    return tag('g', { class: 'message', ...of }, tag('path', line), label);
+}
+// A message that no one has taken stays near its sender.
+function waitingShape(scene, event, x, y) {
+    const way = x < scene.columns.get(event.whom) ? 1 : -1, end = x + 60 * way;
+    const text = { x: x + 14 * way, y: y + 10, 'text-anchor': way > 0 ? 'start' : 'end' };
+    return tag('g', { class: 'message waiting', 'data-at': event.at + 1 },
+        tag('path', { d: `M${x + 7 * way},${y} L${end},${y}`, 'marker-end': 'url(#go)' }),
+        tag('text', text, escaped(messageText(event))));
 }
 
-// Shows that the first `count` events have been: what comes later is pale, and the row of the last one is marked.
+// Shows that the first `count` events have been: what comes later is pale, messages that are sent and not yet taken are
+// dashed, and the row of the last event is marked.
 function markStep(svg, count) {
-    for (const it of svg.querySelectorAll('g[data-at]')) it.classList.toggle('later', Number(it.dataset.at) > count);
+    for (const it of svg.querySelectorAll('g[data-at]')) {
+        const isLater = Number(it.dataset.at) > count, isSent = Number(it.dataset.sent) <= count;
+        it.classList.toggle('later', isLater && !isSent);
+        it.classList.toggle('waiting', !it.dataset.sent && it.classList.contains('waiting') || isLater && isSent);
+    }
     for (const it of svg.querySelectorAll('.row')) it.classList.toggle('now', Number(it.dataset.at) === count);
 }
