@@ -1,0 +1,97 @@
+//! What the program says of a set of files: the verdict, and what it makes of them. It is asked after each change.
+'use strict';
+
+const FAULT = /^(.+):(\d+):(\d+): ([A-Z][A-Za-z]+)(?: ([^:\n]*))?$/m, BARE = /^mungo: (\w+) ?(.*)$/m;
+
+const isSource = name => /\.(scr|protocol|java)$/.test(name);
+const isGlobal = (name, text) => name.endsWith('.scr') && /\bglobal\s+protocol\b/.test(withoutComments(text));
+// A text with blanks in place of comments, so that places stay.
+function withoutComments(text) {
+    return text.replace(/\/\*[^]*?\*\/|\/\/[^\n]*/g, comment => comment.replace(/[^\n]/g, ' '));
+}
+
+// Judges files, a map from names to texts. The answer:
+//   verdict     what the first command gave that refuses them, or `check`
+//   fault       of a refusal, { file, line, column, kind, about }; file is null where it has no place; else null
+//   globals     the names of the files with global protocols
+//   sources     the files that are one program, a map in order; those are among them that `project` made
+//   program     their names
+//   given       the files that were made: a map from their names to { text, by }, where `by` is the command
+//   isTranslated            whether the local protocols were
+//   typestates, classes     a map of typestates by their names, and one from classes to the names of their typestates
+function judge(files) {
+    const given = new Map(), sources = new Map(), globals = [...files.keys()].filter(it => isGlobal(it, files.get(it)));
+    const give = ({ written }, by) => {
+        for (const [name, bytes] of written) if (!files.has(name)) given.set(name, { text: toText(bytes), by });
+    };
+    let verdict = null;
+    for (const name of globals) {
+        const projected = answer(['project', name], files);
+        if (projected.status !== 0) verdict ??= projected;
+        give(projected, 'project');
+    }
+    for (const [name, text] of files) if (isSource(name) && !globals.includes(name)) sources.set(name, text);
+    for (const [name, made] of given) sources.set(name, made.text);
+    const program = [...sources.keys()], locals = program.filter(name => name.endsWith('.scr'));
+    const translated = locals.length ? answer(['translate', ...locals], sources) : null;
+    if (translated) give(translated, 'translate');
+    if (program.length) verdict ??= answer(['check', ...program], sources);
+    verdict ??= { status: 0, out: '', err: '', written: new Map() };
+    const fault = verdict.status === 0 ? null : faultOf(verdict.err);
+    const isTranslated = !translated || translated.status === 0;
+    return { verdict, fault, globals, sources, program, given, isTranslated, ...meaningOf(sources, given) };
+}
+
+// The typestates and the classes in sources, and in files that were made of them.
+function meaningOf(sources, given) {
+    const texts = new Map([...sources, ...[...given].map(([name, made]) => [name, made.text])]);
+    const ending = kind => [...texts].filter(([name]) => name.endsWith(kind)).map(([, text]) => text);
+    const typestates = ending('.protocol').map(readTypestate).filter(Boolean);
+    return {
+        typestates: new Map(typestates.map(it => [it.name, it])),
+        classes: classTypestates(ending('.java').map(withoutComments)),
+    };
+}
+
+// The parts of a line that refuses.
+function faultOf(err) {
+    const placed = FAULT.exec(err), bare = BARE.exec(err);
+    if (!placed) return { file: null, line: 0, column: 0, kind: bare?.[1] ?? '', about: bare?.[2] ?? '' };
+    const [, file, line, column, kind, about = ''] = placed;
+    return { file, line: Number(line), column: Number(column), kind, about };
+}
+
+// Where a fault stands in a text: the offset of its first letter, and that behind its word. Columns count bytes.
+function spanOf(text, fault) {
+    const lines = text.split('\n'), before = lines.slice(0, fault.line - 1).reduce((sum, it) => sum + it.length + 1, 0);
+    const from = before + toText(toBytes(lines[fault.line - 1] ?? '').slice(0, fault.column - 1)).length;
+    const word = /^(\w+|[^])/.exec(text.slice(from));
+    return [Math.min(from, text.length), Math.min(from + (word ? word[0].length : 0), text.length)];
+}
+
+// The state that a fault tells, where it tells a variable and a state: that of the class that the variable is declared
+// of, and what it offers. Else null.
+function stateOf({ fault, sources, classes, typestates }) {
+    const [variable, state] = (fault?.about ?? '').split(' '), text = sources.get(fault?.file);
+    if (!state || !text || !/^\w+$/.test(variable)) return null;
+    const before = withoutComments(text).slice(0, spanOf(text, fault)[1]);
+    const declared = [...before.matchAll(new RegExp(`\\b(\\w+)\\s+${variable}\\b`, 'g'))].map(found => found[1]);
+    const typestate = declared.map(name => typestates.get(classes.get(name))).filter(Boolean).pop();
+    if (!typestate?.states.includes(state)) return null;
+    return { typestate, state, offers: typestate.calls.filter(call => call.from === state).map(call => call.text) };
+}
+
+// The words of the run of a program, by its classes with a main: those that make the object of a role play that role.
+// Of several for a role, and of several where none has a role, the last is taken.
+function runWords(sources) {
+    const texts = [...sources].filter(([name]) => name.endsWith('.java')).map(([, text]) => withoutComments(text));
+    const mains = texts.flatMap(mainsOf), roles = new Map(mains.filter(it => it.role).map(it => [it.role, it.class]));
+    if (roles.size) return [...roles].sort().map(([role, name]) => `--role ${role}=${name}`).join(' ');
+    return mains.length ? `--main ${mains[mains.length - 1].class}` : '';
+}
+function mainsOf(text) {
+    const parts = text.split(/\bclass\s+(?=\w)/).slice(1);
+    const withMain = parts.filter(part => /\bstatic\s+void\s+main\s*\(\s*String\b/.test(part));
+    const role = part => /\bnew\s+(\w+)Role\s*\(/.exec(part)?.[1] ?? null;
+    return withMain.map(part => ({ class: /^\w+/.exec(part)[0], role: role(part) }));
+}
