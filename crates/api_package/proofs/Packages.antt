@@ -1,21 +1,17 @@
 -- The names of a package, as they are written.
-use Rattle.std.proofs.Common.{◌≡◌, ℕ, ◌<◌, suc, List, [], ◌∷◌, ◌++◌, Bool, true, false, ◌&&◌, length, refl, sym, ap, ◌∙◌, subst, arith, eqb}
-use Rattle.std.specs.Prelude.{◌+◌, count_by, All}
-use Rattle.std.specs.List.{AllByRecursion, list_all, join_with_byte, slice_split}
+use Rattle.std.proofs.Common.{◌≡◌, ℕ, List, [], ◌∷◌, ◌++◌, Bool, true, false, ◌&&◌, length, refl, sym, ap, ◌∙◌, subst, arith, eqb}
+use Rattle.std.specs.List.{AllByRecursion, list_all, join_with_byte}
 use Rattle.std.proofs.lemmas.List.{append-nil}
 use Rattle.std.proofs.lemmas.List.Splits.{join_with_byte-slice_split, length-slice_split}
 use Rattle.mg_text.specs.Call.{Name}
-use Rattle.mg_text.specs.declared.place.Place.{Place}
-use Rattle.mg_read.specs.Passes.{AllPasses, StopsAt, StartsWith}
+use Rattle.mg_read.specs.Passes.{AllPasses, StartsWith}
 use Rattle.jv_tree.specs.declared.token.Sign.TheVariants as signs
-use Rattle.jv_tree.specs.declared.token.Token.{Token}
-use Rattle.jv_tree.specs.Tokens as tokens
 use Rattle.jv_tree.specs.Tokens.{is_name}
 use Rattle.jv_tree.specs.Files.{AreMoreSteps, IsPath}
 use Rattle.jv_lex.specs.Letters.{is_word_start, is_word_byte}
 use Rattle.jv_back.proofs.Told.{NoWord, Told, nothing, convert, mark_then, word_then, IsNamed, named}
 use Rattle.jv_back.proofs.Parts.{on}
-use Rattle.api_package.specs.Package.{begins_word, is_java_name, steps_of, is_package, IsPackage}
+use Rattle.api_package.specs.Package.{begins_word, is_java_name, steps_of, IsPackage}
 
 both : (a b : Bool) → (a && b) ≡ true → (a ≡ true) × (b ≡ true)
 both true b e = (refl, e)

@@ -1,5 +1,5 @@
 -- Which words name a package of Java.
-use Rattle.std.specs.Prelude.{◌≡◌, ℕ, List, [], ◌∷◌, Bool, true, false, ◌&&◌, ◌==◌}
+use Rattle.std.specs.Prelude.{◌≡◌, List, [], ◌∷◌, Bool, true, false, ◌&&◌, ◌==◌}
 use Rattle.std.specs.List.{list_all, slice_split}
 use Rattle.mg_text.specs.Call.{Name}
 use Rattle.jv_tree.specs.Tokens.{is_name}

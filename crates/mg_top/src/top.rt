@@ -167,7 +167,15 @@ fn carried_out(alloc: Global, command: &Command<'_>, contents: &[Bytes]) -> Resu
             package_name,
             folder,
             files,
-        } => translate(alloc, &Target { package_name, folder }, files, contents),
+        } => translate(
+            alloc,
+            &Target {
+                package_name,
+                folder,
+            },
+            files,
+            contents,
+        ),
         Command::Conform { .. } => {
             conform(alloc, contents[0].as_slice(), contents[1].as_slice())
         }

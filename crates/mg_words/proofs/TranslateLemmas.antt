@@ -1,5 +1,5 @@
 -- Which words are the command `translate`, and which can't follow.
-use Rattle.std.proofs.Common.{◌≡◌, List, [], ◌∷◌, ◌++◌, All, length, Option, Some, None, codes, refl, sym, ap, ◌∙◌, subst, append_assoc, arith}
+use Rattle.std.proofs.Common.{◌≡◌, List, [], ◌∷◌, ◌++◌, length, Option, Some, None, codes, refl, sym, ap, ◌∙◌, subst, append_assoc, arith}
 use Rattle.std.specs.Borrow.{Bor}
 use Rattle.std.specs.Prelude.{IfSome, option_map}
 use Rattle.jv_tree.specs.Tokens.{is_name}
@@ -9,7 +9,7 @@ use Rattle.mg_words.specs.Words.{Word, Command, Translate, IsFileName, IsFileOf,
 use Rattle.mg_words.specs.Words.{IsBehind, IsCommand, AreCommand, CanBegin, AreWrong}
 use Rattle.mg_words.specs.inner.Judging.{IsFirstOther, IsPackaged, IsPlaced}
 use Rattle.mg_words.proofs.Verbs.{translate}
-use Rattle.mg_words.proofs.WordsLemmas.{out, some_source, some_class, is_name as folder_named, head_is, tail_is, filled, empty_is, few, wrong_at}
+use Rattle.mg_words.proofs.WordsLemmas.{out, some_class, is_name as folder_named, head_is, tail_is, filled, empty_is, wrong_at}
 use Rattle.mg_words.proofs.WordsLemmas.{All-mid, none_yet, begins_files, is_translate, no_file, files_behind, folder_behind, folder_lacks}
 use Rattle.mg_words.proofs.WordsLemmas.{same_folder, still_plain}
 

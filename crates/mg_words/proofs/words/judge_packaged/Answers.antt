@@ -1,4 +1,4 @@
-use Rattle.std.proofs.Common.{[], ◌∷◌, option_map, refl, sym, ◌∙◌, codes, eqb-true, length}
+use Rattle.std.proofs.Common.{option_map, sym, ◌∙◌, eqb-true, length}
 use Rattle.std.specs.Prelude.{Some, None}
 use Rattle.mg_words.specs.Words.{out_words}
 use Rattle.mg_words.proofs.WordsLemmas.{named_folder, no_folder}
