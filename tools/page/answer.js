@@ -48,7 +48,7 @@ function hostOf(words, files) {
         },
         open(at, length, writes) {
             const name = toText(view(at, length));
-            if (!writes && !files.has(name)) return NO_FILE;
+            if (writes ? files.refuses?.(name) : !files.has(name)) return NO_FILE;
             last++;
             if (writes) {
                 put.set(last, []);
@@ -74,9 +74,10 @@ function hostOf(words, files) {
     return { calls, begin: instance => { memory = instance.exports.memory; }, given };
 }
 
-// Runs `mungo WORDS` over files, a map from names to texts or bytes. It gives the status, what was put on standard
-// output and on standard error, and the files that were written, a map from names to bytes. Where the browser stopped
-// the program, as for want of stack, the status is null, and `err` says why.
+// Runs `mungo WORDS` over files, a map from names to texts or bytes; any file may be written, or those that it doesn't
+// refuse. It gives the status, what was put on standard output and on standard error, and the files that were written,
+// a map from names to bytes. Where the browser stopped the program, as for want of stack, the status is null, and `err`
+// says why.
 function answer(words, files) {
     const host = hostOf(words, files);
     try {
