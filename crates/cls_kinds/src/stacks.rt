@@ -243,7 +243,8 @@ fn joined_down(alloc: Global, nodes: &[Node], first: u32, second: u32) -> Result
 }
 
 impl Stacks {
-    /// The least list that two of one length fit: the first where it is that.
+    /// The least list that two of one length fit: the first where it is that, else the second where that is.
+    /// None is made there.
     ///
     /// # Errors
     /// `Memory` only.
@@ -258,6 +259,9 @@ impl Stacks {
     {
         if !raises_stack(self.nodes.as_slice(), first, second) {
             return Ok(first);
+        }
+        if !raises_stack(self.nodes.as_slice(), second, first) {
+            return Ok(second);
         }
         let joint = joined_down(alloc, self.nodes.as_slice(), first, second)?;
         self.add_all(joint.below, joint.kinds.as_slice())
