@@ -57,6 +57,45 @@ raised_not (k ∷ ks) (l ∷ ls) n e = go (λ g. raised_not ks ls (omega (arith,
     go others true f g = ap₂ (λ x xs. x ∷ xs) (ap (λ j. record { 0 = j }) (equal_true (joined_number k.0 l.0) k.0 f)) (others g)
     go others false f g = absurd (cc g)
 
+-- which of two comes first doesn't matter
+equal_either : (k l : ℕ) → nat_eq l k ≡ nat_eq k l
+equal_either k l = grind (arith, nat_tests)
+
+or_either : (a b : Bool) → (b || a) ≡ (a || b)
+or_either true true = refl
+or_either true false = refl
+or_either false true = refl
+or_either false false = refl
+
+chain_either : (k l : ℕ) (a b c d : Bool) → (a ≡ true → k ≡ l) → (c ≡ true → d ≡ true → k ≡ l) → chain k l a b c d ≡ chain l k a b d c
+chain_either k l true b c d p q = p refl
+chain_either k l false true c d p q = refl
+chain_either k l false false true true p q = sym (q refl refl)
+chain_either k l false false true false p q = refl
+chain_either k l false false false true p q = refl
+chain_either k l false false false false p q = refl
+
+joined_number_either : (k l : ℕ) → joined_number k l ≡ joined_number l k
+joined_number_either k l = go (nat_eq k l) refl (is_plain k || is_plain l) refl (nat_eq k 2) refl (nat_eq l 2) refl
+  where
+    go : (a : Bool) → nat_eq k l ≡ a → (b : Bool) → (is_plain k || is_plain l) ≡ b → (c : Bool) → nat_eq k 2 ≡ c → (d : Bool) →
+        nat_eq l 2 ≡ d → joined_number k l ≡ joined_number l k
+    go a e b f c g d h =
+        chain_is k l a b c d e f g h
+        ∙ chain_either k l a b c d (λ t. equal_true k l (e ∙ t)) (λ t u. equal_true k 2 (g ∙ t) ∙ sym (equal_true l 2 (h ∙ u)))
+        ∙ sym (chain_is l k a b d c (equal_either k l ∙ e) (or_either (is_plain k) (is_plain l) ∙ f) h g)
+
+joined_all_either : (ks ls : List Kind) → joined_all ks ls ≡ joined_all ls ks
+joined_all_either [] [] = refl
+joined_all_either [] (l ∷ ls) = refl
+joined_all_either (k ∷ ks) [] = refl
+joined_all_either (k ∷ ks) (l ∷ ls) =
+    ap₂ (λ n xs. record { 0 = n } ∷ xs) (joined_number_either k.0 l.0) (joined_all_either ks ls)
+
+-- a second list that isn't raised by the first is what both are joined to
+pub raised_not_second : (ks ls : List Kind) → length ks ≡ length ls → is_raised ls ks ≡ false → joined_all ks ls ≡ ls
+raised_not_second ks ls n e = joined_all_either ks ls ∙ raised_not ls ks (sym n) e
+
 -- one more element of two lists
 pub raised_more : (xs ys : List Kind) (i : ℕ) (d e : Kind) → i < length xs → length xs ≡ length ys →
     is_raised (drop i xs) (drop i ys) ≡ (not (joined_number (get_or xs i d).0 (get_or ys i e).0 == (get_or xs i d).0) || is_raised

@@ -206,10 +206,12 @@ fn raises_stack(nodes: &[Node], first: u32, second: u32) -> bool
     }
 }
 
-/// What two lists are joined to: kinds, the topmost first, and the list below these.
+/// What two lists are joined to: kinds, the topmost first, and the list below these. Beside each kind stands
+/// the second's list that has its place on top, which is tried before one is made.
 #[derive(Drop)]
 struct Joint {
     kinds: Vec<Kind>,
+    seconds: Vec<u32>,
     below: u32,
 }
 
@@ -224,26 +226,41 @@ fn joined_down(alloc: Global, nodes: &[Node], first: u32, second: u32) -> Result
         ≡ joined_all (stack_at (stacks_of nodes.now) first) (stack_at (stacks_of nodes.now) second)) }
 {
     let mut kinds = Vec::new(alloc);
+    let mut seconds = Vec::new(alloc);
     let mut a = first;
     let mut b = second;
     'down: loop {
         if a == b {
-            return Ok(Joint { kinds, below: a });
+            return Ok(Joint {
+                kinds,
+                seconds,
+                below: a,
+            });
         }
         let Some(old) = top_of(nodes, a) else {
-            return Ok(Joint { kinds, below: a });
+            return Ok(Joint {
+                kinds,
+                seconds,
+                below: a,
+            });
         };
         let Some(new) = top_of(nodes, b) else {
-            return Ok(Joint { kinds, below: a });
+            return Ok(Joint {
+                kinds,
+                seconds,
+                below: a,
+            });
         };
         kinds.push(old.kind.joined(new.kind))?;
+        seconds.push(b)?;
         a = old.below;
         b = new.below;
     }
 }
 
 impl Stacks {
-    /// The least list that two of one length fit: the first where it is that.
+    /// The least list that two of one length fit: the first where it is that, else the second where that is.
+    /// None is made there.
     ///
     /// # Errors
     /// `Memory` only.
@@ -259,12 +276,38 @@ impl Stacks {
         if !raises_stack(self.nodes.as_slice(), first, second) {
             return Ok(first);
         }
+        if !raises_stack(self.nodes.as_slice(), second, first) {
+            return Ok(second);
+        }
         let joint = joined_down(alloc, self.nodes.as_slice(), first, second)?;
-        self.add_all(joint.below, joint.kinds.as_slice())
+        self.add_all(
+            joint.below,
+            joint.kinds.as_slice(),
+            joint.seconds.as_slice(),
+        )
     }
 
-    /// A list with more kinds on top, the last one first.
-    fn add_all(&mut self, below: u32, kinds: &[Kind]) -> Result<u32, Memory>
+    /// A list with one more kind on top: that which a list of numbers has at a place, where it is the same.
+    fn add_where(
+        &mut self,
+        below: u32,
+        kind: Kind,
+        numbers: &[u32],
+        at: usize,
+    ) -> Result<u32, Memory>
+        requires { below < length self.old }
+        ensures grows { OnOk result (Grows self.old self.new) }
+        ensures there { IfOk result (λ s. s < length self.new) }
+        ensures made { IfOk result (λ s. stack_at self.new s ≡ stack_at self.old below ++ kind ∷ []) }
+    {
+        if let Some(number) = pushed_at(self.nodes.as_slice(), numbers, at, below, kind) {
+            return Ok(number);
+        }
+        self.add(below, kind)
+    }
+
+    /// A list with more kinds on top, the last one first. Those of `seconds` serve where they are the same.
+    fn add_all(&mut self, below: u32, kinds: &[Kind], seconds: &[u32]) -> Result<u32, Memory>
         requires { below < length self.old }
         ensures grows { OnOk result (Grows self.old self.new) }
         ensures there { IfOk result (λ s. s < length self.new) }
@@ -274,7 +317,7 @@ impl Stacks {
         let mut left = kinds.len();
         while left > 0 {
             left -= 1;
-            stack = self.add(stack, kinds[left])?;
+            stack = self.add_where(stack, kinds[left], seconds, left)?;
         }
         Ok(stack)
     }
