@@ -1,5 +1,5 @@
 -- The names among the tokens of a file are names, so what they spell can be written.
-use Rattle.std.proofs.Common.{◌≡◌, ◌≢◌, ◌≤◌, ℕ, List, [], ◌∷◌, ◌++◌, map, length, refl, sym, subst}
+use Rattle.std.proofs.Common.{◌≡◌, ◌≢◌, ◌≤◌, ℕ, suc, List, [], ◌∷◌, ◌++◌, map, length, refl, sym, ap, subst}
 use Rattle.std.specs.List.{AllByRecursion}
 use Rattle.mg_text.specs.Call.{Name}
 use Rattle.mg_text.specs.declared.place.Place.{Place}
@@ -13,7 +13,7 @@ use Rattle.scr_parse.specs.Grammar.{Listed, IsRole, IsBraced}
 use Rattle.scr_read.proofs.Named.{AreNamed, in_front, in_back, tokens_named, listed_written}
 use Rattle.scr_global.specs.Tree.{Statements, Nothing, Says, Choice, Rec, Continue, Branches, NoBranch, Branch}
 use Rattle.scr_global_tree.specs.Valid.{IsWritten, AreWritten, AreWrittenIn, HasBranches}
-use Rattle.scr_global_tree.specs.Written.{WrittenTree, global_of}
+use Rattle.scr_global_tree.specs.Written.{WrittenTree, global_of, role_place}
 use Rattle.scr_global_parse.specs.Grammar.{IsHeader, IsMessage, AreStatements, AreBranches, AreOthers, IsFile}
 use Rattle.scr_global_read.specs.Spelling.{Spells}
 
@@ -100,6 +100,11 @@ file_written w ts f h =
           body.0 body.1 body.2,
     )
 
+-- what is made of each element of a list is as many
+map_both : {A B C : Type 0} (f : A → B) (g : A → C) (xs : List A) → length (map f xs) ≡ length (map g xs)
+map_both f g [] = refl
+map_both f g (x ∷ xs) = ap suc (map_both f g xs)
+
 -- what a file spells can be written
 pub can_be_written : (file : ℕ) (bytes : List ℕ) (w : WrittenTree) → Spells file bytes w → IsWritten (global_of w)
 can_be_written file bytes w s =
@@ -108,6 +113,7 @@ can_be_written file bytes w s =
       name = r.0;
       roles = r.1;
       some_role = header_some w.roles s.spelled.spelled.header s.spelled.spelled.heads;
+      placed = map_both role_place role_name w.roles;
       body = r.2;
       depth =
           s.spelled.shallow;

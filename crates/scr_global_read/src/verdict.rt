@@ -4,11 +4,11 @@ ghost use Rattle.std.specs.Prelude.{◌≡◌, Some, IfOk, map};
 ghost use Rattle.scr_global_tree.specs.Global.{tree_of};
 ghost use Rattle.scr_global_tree.specs.Valid.{IsValid};
 ghost use Rattle.scr_tree.specs.Written.{role_name};
-ghost use Rattle.scr_global_tree.specs.Written.{written_of, global_of};
+ghost use Rattle.scr_global_tree.specs.Written.{written_of, global_of, role_place};
 ghost use Rattle.scr_global_read.specs.Outcome.{Refused, told, fault_answer};
 
 use crate::fault::GlobalFault;
-use mg_text::{List, Memory, Text};
+use mg_text::{List, Memory, Place, Text};
 use scr_global_judge::Fault;
 use scr_global_tree::{Global, GlobalCondition, WrittenGlobal};
 use scr_tree::Role;
@@ -50,6 +50,17 @@ fn names_of(alloc: Allocator, roles: &[Role]) -> Result<List<Text>, Memory>
     Ok(names)
 }
 
+// Where roles are named.
+fn places_of(alloc: Allocator, roles: &[Role]) -> Result<List<Place>, Memory>
+    ensures { IfOk result (λ l. l.items ≡ map role_place roles.now) }
+{
+    let mut places = List::new(alloc);
+    for role in roles {
+        places.push(role.place)?;
+    }
+    Ok(places)
+}
+
 // The protocol that is meant.
 pub(crate) fn protocol_of(
     alloc: Allocator,
@@ -66,6 +77,7 @@ pub(crate) fn protocol_of(
         carries: _,
         body,
     } = written;
+    let places = places_of(alloc, roles.as_slice())?;
     let roles = names_of(alloc, roles.as_slice())?;
-    Ok(Global::new(file, name, roles, body))
+    Ok(Global::new(file, name, roles, places, body))
 }

@@ -1,5 +1,5 @@
 -- What a global protocol meets: it can be written, and none of the conditions is at fault.
-use Rattle.std.specs.Prelude.{◌≢◌, ◌≤◌, ℕ, suc, max, List, []}
+use Rattle.std.specs.Prelude.{◌≡◌, ◌≢◌, ◌≤◌, ℕ, suc, max, List, [], length}
 use Rattle.std.specs.List.{AllByRecursion}
 use Rattle.mg_text.specs.Call.{Name}
 use Rattle.scr_tree.specs.Words.{IsName}
@@ -38,11 +38,12 @@ abbrev mutual
   HasBranches NoBranch = ⊥
   HasBranches (Branch b more) = Unit {0}
 
--- the names are names of Scribble, a role is listed, each choice has a branch, and statements nest 200 deep at most
+-- the names are names of Scribble, a role is listed, each has a place, each choice has a branch, and statements nest 200 deep at most
 pub record IsWritten (global : GlobalTree) : Type 0 where
   pub name : IsName global.name
   pub roles : AllByRecursion IsName global.roles
   pub some_role : global.roles ≢ []
+  pub placed : length global.places ≡ length global.roles
   pub body : AreWritten global.body
   pub depth : depth global.body ≤ 200
 

@@ -46,5 +46,5 @@ abbrev pub bodies : List (Row GStatement) → Branches
 bodies branches = branches_of (map (λ b. statements b.items) branches)
 
 -- the tree of a global protocol's parts
-abbrev pub written : ℕ → Name → List Name → List GStatement → GlobalTree
-written file name roles body = record { file = file; name = name; roles = roles; body = statements body }
+abbrev pub written : ℕ → Name → List Name → List Place → List GStatement → GlobalTree
+written file name roles places body = record { file = file; name = name; roles = roles; places = places; body = statements body }

@@ -1,6 +1,7 @@
 -- A file as it is written, beside the protocol that it means: types, roles and payloads by their names.
 use Rattle.std.specs.Prelude.{ℕ, List, map}
 use Rattle.mg_text.specs.Call.{Name}
+use Rattle.mg_text.specs.declared.place.Place.{Place}
 use Rattle.scr_tree.specs.declared.written.Declaration.{Declaration}
 use Rattle.scr_tree.specs.declared.written.Role.{Role}
 use Rattle.scr_tree.specs.Written.{Carries, carries_of, role_name}
@@ -28,6 +29,10 @@ written_of file w = record {
   body = statements w.body.items;
 }
 
+-- where a role is named
+abbrev pub role_place : Role → Place
+role_place role = role.place
+
 -- the protocol that is meant
 abbrev pub global_of : WrittenTree → GlobalTree
-global_of w = record { file = w.file; name = w.name; roles = map role_name w.roles; body = w.body }
+global_of w = record { file = w.file; name = w.name; roles = map role_name w.roles; places = map role_place w.roles; body = w.body }

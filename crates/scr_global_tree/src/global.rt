@@ -4,15 +4,16 @@ ghost use Rattle.scr_global_tree.specs.View.{written, statements};
 ghost use Rattle.scr_global_tree.specs.Valid.{IsValid};
 
 use crate::GStatement;
-use mg_text::{List, Text};
+use mg_text::{List, Place, Text};
 
 /// A valid global protocol: the roles, and what they do.
 pub struct Global {
     file: u32,
     name: Text,
     roles: List<Text>,
+    places: List<Place>,
     body: List<GStatement>,
-    ghost valid: { ∥ IsValid (written file name roles.items body.items) ∥₁ },
+    ghost valid: { ∥ IsValid (written file name roles.items places.items body.items) ∥₁ },
 }
 
 // One call lets go of it, wherever a function ends.
@@ -22,6 +23,7 @@ impl Drop for Global {
             file: _,
             name: _,
             roles: _,
+            places: _,
             body: _,
         } = self;
     }
@@ -32,14 +34,21 @@ impl Global {
     ghost use Rattle.scr_global_tree.specs.Global.{tree_of};
 
     /// The protocol of these parts, which are valid.
-    pub fn new(file: u32, name: Text, roles: List<Text>, body: List<GStatement>) -> Global
-        requires { ∥ IsValid (written file name roles.items body.items) ∥₁ }
-        ensures { tree_of result ≡ written file name roles.items body.items }
+    pub fn new(
+        file: u32,
+        name: Text,
+        roles: List<Text>,
+        places: List<Place>,
+        body: List<GStatement>,
+    ) -> Global
+        requires { ∥ IsValid (written file name roles.items places.items body.items) ∥₁ }
+        ensures { tree_of result ≡ written file name roles.items places.items body.items }
     {
         Global {
             file,
             name,
             roles,
+            places,
             body,
         }
     }
@@ -63,6 +72,13 @@ impl Global {
         ensures { result.now.items ≡ (tree_of self.now).roles }
     {
         &self.roles
+    }
+
+    /// The places of the roles' names in the header, in the same order.
+    pub fn places(&self) -> &List<Place>
+        ensures { result.now.items ≡ (tree_of self.now).places }
+    {
+        &self.places
     }
 
     /// What the roles do.
