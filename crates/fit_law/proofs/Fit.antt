@@ -18,7 +18,7 @@ use Rattle.scr_tree.specs.Meaning.{first_of, protocol_of}
 use Rattle.scr_tree.specs.Protocol.{Message, Send, Take, Protocol}
 use Rattle.scr_tree.specs.Steps.{Act, Moves, Looks, Position, whole, stays}
 use Rattle.scr_tree.specs.Traces.{Complete}
-use Rattle.scr_global.specs.Alone.{Step, Finished}
+use Rattle.scr_global.specs.Alone.{Step, Run, Finished}
 use Rattle.scr_global.specs.Global.{Passing, Global}
 use Rattle.scr_global.specs.Points as conversations
 use Rattle.scr_global.specs.Systems.{Parcel, parcel, System, Moved, Reaches, initial, waits_for}
@@ -69,11 +69,12 @@ use Rattle.scr_faithful.specs.Faithful.{CanEnd}
 use Rattle.scr_faithful.proofs.Faithful.{complete_is_conversation, each_has_done_its_part}
 use Rattle.scr_faithful.specs.Heard.{NoneIsForgotten}
 use Rattle.scr_faithful.proofs.Heard.{each_has_done_a_part}
-use Rattle.fit_law.specs.Conversed.{TurnsGoOnInConversation, passed, RestIsConversation, TurnsAreInConversation}
+use Rattle.fit_law.specs.Conversed.{TurnsGoOnInConversation, passed, parcel_of, RestIsConversation, TurnsAreInConversation}
+use Rattle.fit_law.specs.Conversed.{IsConfiguration, IsFinished, TurnsAreConfigurations, RestIsFinished}
 use Rattle.fit_law.specs.Fit.{IsHad, KeepsTo, IsCast, AreMeant, IsWell, IsComplete, NoneGetsStuck}
 use Rattle.fit_law.proofs.Deeds.{deeds-append, Walked, walked, but_look}
-use Rattle.fit_law.proofs.Worlds.{parcel_of, Stands, Good, fresh_is_good, turns_good}
-use Rattle.fit_law.proofs.Objects.{label_known, runs_so, Ahead, ahead, refusal, refused_ahead, completes, at_end}
+use Rattle.fit_law.proofs.Worlds.{Stands, Good, fresh_is_good, turns_good}
+use Rattle.fit_law.proofs.Objects.{label_known, runs_so, exactly_so, Ahead, ahead, refusal, refused_ahead, completes, at_end}
 
 -- ---- systems
 
@@ -301,6 +302,13 @@ module _ (j : Sources) (typestates : List Typestate) (roles : List Name) (g : Gl
     abbrev Walk : ℕ → Position → Type 0
     Walk i end = Walked (protocols (name i)) (deeds (events_of i w.events)) end
 
+    -- a run of the role's protocol that has just its deeds
+    abbrev Exactly : ℕ → Position → Type 0
+    Exactly i end = (all : List Act) × Run (whole (protocols (name i))) all end × (deeds (events_of i w.events) ≡ map unnumbered all)
+
+    as_walk : (i : ℕ) {end : Position} → Exactly i end → Walk i end
+    as_walk i x = walked x.0 x.1 x.2
+
     -- ---- one role
 
     module _ (r : ℕ) (main : RoleMain) (at_main : slice_get mains r ≡ Some main) where
@@ -521,6 +529,11 @@ module _ (j : Sources) (typestates : List Typestate) (roles : List Name) (g : Gl
             subst (λ n. Walked (protocols n) (deeds (es r main at_main)) end) (sym (name_is r main at_main))
             (subst (λ ds. Walked (first_of (L r main at_main)) ds end) (sym deeds_are) x)
 
+        exactly_named : {end : Position} (all : List Act) → Run (whole (first_of (L r main at_main))) all end →
+            acts o E ≡ map unnumbered all → Exactly r end
+        exactly_named {end} all run e =
+            (all, subst (λ n. Run (whole (protocols n)) all end) (sym (name_is r main at_main)) run, deeds_are ∙ e)
+
         ahead_of : (doing : Doing) → StandsAt j (L r main at_main).me (protocol_of (L r main at_main)) o E doing →
             Ahead j typestates (L r main at_main) (valid r main at_main) (had r main at_main) (P r main at_main) (says r main at_main)
             main.class (inputs r main at_main) (suc (role r main at_main).count) (keeps r main at_main) o made doing
@@ -689,6 +702,38 @@ module _ (j : Sources) (typestates : List Typestate) (roles : List Name) (g : Gl
               ⊎_elim (λ h. bad (subst IsOther finish_is h))
               (λ x. ended o made (λ so prefix. acting so prefix.later prefix.is) x refl finish_is) ends
 
+      -- the run of all its deeds
+      exact : (end : Position) × Exactly r end
+      exact = go (done_so r main at_main)
+        where
+          as_named : {end : Position} (all : List Act) → Run (whole (first_of (L r main at_main))) all end →
+              deeds (es r main at_main) ≡ map unnumbered all → Exactly r end
+          as_named {end} all run e =
+              (all, subst (λ n. Run (whole (protocols n)) all end) (sym (name_is r main at_main)) run, e)
+
+          nothing_first : {A : Type 0} (xs ys : List A) → xs ++ ys ≡ [] → xs ≡ []
+          nothing_first [] ys e = refl
+          nothing_first (x ∷ xs) ys e = absurd (cc e)
+
+          go : IsDoneByOne j (roles ++ cast.idle) (L r main at_main).me (protocol_of (L r main at_main)) (inputs r main at_main)
+              (run r main at_main) → (end : Position) × Exactly r end
+          go (not_yet nobody none busy) =
+              let shown = shown r main at_main in (
+                whole (first_of (L r main at_main)),
+                as_named [] stays (nothing_first (deeds (es r main at_main)) (deeds shown.later)
+                    (sym (deeds-append (es r main at_main) shown.later) ∙ ap deeds (sym shown.is) ∙ none)),
+              )
+          go (by_one o made alone acting ends) =
+              let shown = shown r main at_main in
+              ⊎_elim
+              (λ x. (x.0, as_named x.1 x.2 (acting (es r main at_main) shown.later shown.is ∙ x.3)))
+              (λ s. absurd (no_refusal s.is_all o made (λ so prefix. acting so prefix.later prefix.is)
+              (subst (λ xs. Refuses (L r main at_main).me (protocol_of (L r main at_main)) (calls j (role_class (L r main at_main).me) o xs)
+              (open_told (told o xs)) (acts o xs) xs (run r main at_main)) (sym s.is_all) s)))
+              (exactly_so j typestates (L r main at_main) (valid r main at_main) (had r main at_main) (P r main at_main)
+              (says r main at_main) main.class (inputs r main at_main) (suc (role r main at_main).count) (keeps r main at_main) o made
+              (es r main at_main) shown.later shown.is)
+
       well_by : (ending : Ending) → (role r main at_main).state ≡ Over ending → (finish : Finish) × (finish_of ending ≡ Some finish)
           × Means (mean j main.class (inputs r main at_main)) (suc (role r main at_main).count) (es r main at_main) finish →
           IsWell (Over ending)
@@ -723,7 +768,7 @@ module _ (j : Sources) (typestates : List Typestate) (roles : List Name) (g : Gl
     module _ (r : ℕ) (main : RoleMain) (at_main : slice_get mains r ≡ Some main) where
       -- a role that waits, and one that has returned
       waiting : (m : Machine) → (role r main at_main).state ≡ Runs m → (k : ℕ) → step p r m w.messages ≡ Waits k →
-          (end : Position) × (Walk r end × AtRest r (role r main at_main).state end)
+          (end : Position) × (Exactly r end × AtRest r (role r main at_main).state end)
       waiting m runs k is = go (done_so r main at_main)
         where
           shows : Shows (mean j main.class (inputs r main at_main)) (role r main at_main).count (es r main at_main)
@@ -757,13 +802,13 @@ module _ (j : Sources) (typestates : List Typestate) (roles : List Name) (g : Gl
               ((so : List Event) → Prefix so (run r main at_main).events → deeds so ≡ acts o so) →
               {d : Doing} {f : Finish} →
               StandsAt j (L r main at_main).me (protocol_of (L r main at_main)) o (run r main at_main).events d →
-              Halts (inputs r main at_main) (run r main at_main).events d f → f ≡ Wait (name_of w k) → (end : Position) × (Walk r end × AtRest r (role r main at_main).state end)
+              Halts (inputs r main at_main) (run r main at_main).events d f → f ≡ Wait (name_of w k) → (end : Position) × (Exactly r end × AtRest r (role r main at_main).state end)
           halted o made only st (waits {doing = d} wants there none) e =
               let a = ahead_of r main at_main settled o made only d st in
               let x : peer_in d ≡ name_of w k = wait_is e in (
                 a.next.at,
                 (
-                  as_named r main at_main settled o made only (walked a.closed a.next.run a.are),
+                  exactly_named r main at_main settled o made only a.closed a.next.run a.are,
                   blocked a.next.act a.next.to (name_of w k) k a.next.step (act_wants d a.next.act a.next.of wants ∙ ap Some x)
                       (subst (λ (y : List Name). k < length y) good.named emptied.within) named_k emptied.empty,
                 ),
@@ -775,13 +820,13 @@ module _ (j : Sources) (typestates : List Typestate) (roles : List Name) (g : Gl
               ((so : List Event) → Prefix so (run r main at_main).events → deeds so ≡ acts o so) →
               {f : Finish} →
               EndsInCall j (L r main at_main).me (protocol_of (L r main at_main)) o (run r main at_main).events (inputs r main at_main) f →
-              f ≡ Wait (name_of w k) → (end : Position) × (Walk r end × AtRest r (role r main at_main).state end)
+              f ≡ Wait (name_of w k) → (end : Position) × (Exactly r end × AtRest r (role r main at_main).state end)
           ended o made only (cut undone h) e = absurd (subst IsCut e h)
           ended o made only (halts st h) e = halted o made only st h e
           ended o made only (refuses x) e = absurd (cc e)
 
           go : IsDoneByOne j (roles ++ cast.idle) (L r main at_main).me (protocol_of (L r main at_main)) (inputs r main at_main)
-              (run r main at_main) → (end : Position) × (Walk r end × AtRest r (role r main at_main).state end)
+              (run r main at_main) → (end : Position) × (Exactly r end × AtRest r (role r main at_main).state end)
           go (not_yet nobody none busy) = absurd (subst IsBusy finish_is busy)
           go (by_one o made alone acting ends) =
               ⊎_elim (λ h. absurd (subst IsOther finish_is h))
@@ -799,17 +844,17 @@ module _ (j : Sources) (typestates : List Typestate) (roles : List Name) (g : Gl
         done_finish : (run r main at_main).finish ≡ Done
         done_finish = ap (λ (x : Ended). x.finish) done_shows.2 ∙ sym (some_is done_shows.1)
 
-        has_returned : (end : Position) × (Walk r end × AtRest r (role r main at_main).state end)
+        has_returned : (end : Position) × (Exactly r end × AtRest r (role r main at_main).state end)
         has_returned = go (done_so r main at_main)
           where
             go : IsDoneByOne j (roles ++ cast.idle) (L r main at_main).me (protocol_of (L r main at_main)) (inputs r main at_main) (run r main at_main) →
-                (end : Position) × (Walk r end × AtRest r (role r main at_main).state end)
+                (end : Position) × (Exactly r end × AtRest r (role r main at_main).state end)
             go (not_yet nobody none busy) = absurd (subst IsBusy done_finish busy)
             go (by_one o made alone acting ends) =
                 let a = at_end j typestates (L r main at_main) (valid r main at_main) (had r main at_main) (P r main at_main)
                 (says r main at_main) main.class (inputs r main at_main) (suc (role r main at_main).count) (keeps r main at_main) o made
                 done_finish in
-                (a.end, (as_named r main at_main done_settled o made (λ so prefix. acting so prefix.later prefix.is) (walked a.closed a.run a.are), returned over a.finished))
+                (a.end, (exactly_named r main at_main done_settled o made (λ so prefix. acting so prefix.later prefix.is) a.closed a.run a.are, returned over a.finished))
 
         -- its objects are at the end
         is_complete : (o : ℕ) → IsMade (es r main at_main) o (role_class (L r main at_main).me) →
@@ -822,11 +867,11 @@ module _ (j : Sources) (typestates : List Typestate) (roles : List Name) (g : Gl
             (subst (λ xs. IsMade xs o (role_class (L r main at_main).me)) (sym done_settled) made) done_finish)
 
       stands_still : Rests p w → ((role r main at_main).state ≢ Over endings.Zero) →
-          (end : Position) × (Walk r end × AtRest r (role r main at_main).state end)
+          (end : Position) × (Exactly r end × AtRest r (role r main at_main).state end)
       stands_still rests no_zero = go (role r main at_main).state refl (rests r (role r main at_main) (at_role r main at_main)) (well r main at_main)
         where
           go : (s : State) → (role r main at_main).state ≡ s → IsStill p w r (role r main at_main).state → IsWell (role r main at_main).state →
-              (end : Position) × (Walk r end × AtRest r (role r main at_main).state end)
+              (end : Position) × (Exactly r end × AtRest r (role r main at_main).state end)
           go (Runs m) e still h = let k = subst (IsStill p w r) e still in waiting m e k.0 k.1
           go (Over endings.Done) e still h = has_returned e
           go (Over endings.Zero) e still h = absurd (no_zero e)
@@ -835,10 +880,38 @@ module _ (j : Sources) (typestates : List Typestate) (roles : List Name) (g : Gl
           go (Over (endings.NoPeer q)) e still h = absurd (subst IsWell e h)
           go (Over (endings.Bad _)) e still h = absurd (subst IsWell e h)
 
+    -- a configuration, by where each role stands
+    configured : (ends : ℕ → Position) → ((i : ℕ) → i < length names → Exactly i (ends i)) → IsConfiguration roles locals mains w
+    configured ends are =
+        let s = good.stands (record { ends = ends; walks = λ i h. as_walk i (are i h) }) in
+        record {
+          system = s.system;
+          reached = s.reached;
+          done = λ r main at.
+              let h : r < length names = got_within names r main.role (name_at mains r main at) in
+              let x = are r h in
+              let place : s.system.at main.role ≡ ends r = ap (λ n. s.system.at n) (sym (name_is r main at)) ∙ s.at r h in
+              (x.0, subst (λ q. Run (whole (protocols main.role)) x.0 q) (sym place)
+              (subst (λ n. Run (whole (protocols n)) x.0 (ends r)) (name_is r main at) x.1), x.2);
+          lists = λ from to sender receiver at_from at_to.
+              let hf : from < length names = got_within names from sender.role (name_at mains from sender at_from) in
+              let ht : to < length names = got_within names to receiver.role (name_at mains to receiver at_to) in
+              ap (λ n. s.system.lists n receiver.role) (sym (name_is from sender at_from))
+              ∙ ap (λ n. s.system.lists (name from) n) (sym (name_is to receiver at_to)) ∙ s.lists from to hf ht;
+        }
+
+    exactly_at : (i : ℕ) → i < length names → (end : Position) × Exactly i end
+    exactly_at i h = let m = main_at mains i h in exact i m.main m.at
+
+    is_configuration : IsConfiguration roles locals mains w
+    is_configuration =
+        let chosen = choose (length names) Exactly exactly_at in
+        configured chosen.ends chosen.are
+
     module _ (rests : Rests p w) (no_zero : (r : ℕ) (role : Role) → slice_get w.roles r ≡ Some role → role.state ≢ Over endings.Zero) where
       -- where each stands, whatever its state is
       abbrev Standing : (i : ℕ) → Position → Type 0
-      Standing i e = Walk i e × ((x : Role) → slice_get w.roles i ≡ Some x → AtRest i x.state e)
+      Standing i e = Exactly i e × ((x : Role) → slice_get w.roles i ≡ Some x → AtRest i x.state e)
 
       stand : (i : ℕ) → i < length names → (e : Position) × Standing i e
       stand i h =
@@ -855,7 +928,7 @@ module _ (j : Sources) (typestates : List Typestate) (roles : List Name) (g : Gl
       chosen = choose (length names) Standing stand
 
       now : Stands roles protocols names begun.distinct listed w chosen.ends
-      now = good.stands (record { ends = chosen.ends; walks = λ i h. (chosen.are i h).0 })
+      now = good.stands (record { ends = chosen.ends; walks = λ i h. as_walk i (chosen.are i h).0 })
 
       abbrev c : System
       c = now.system
@@ -911,6 +984,9 @@ module _ (j : Sources) (typestates : List Typestate) (roles : List Name) (g : Gl
             is_complete r main at_main (all_returned r (role r main at_main) (at_role r main at_main)) o made;
       }
 
+      rest_is_configuration : (c : IsConfiguration roles locals mains w) × IsFinished roles c.system
+      rest_is_configuration = (configured chosen.ends (λ i h. (chosen.are i h).0), stuck_none.finished)
+
       conversed : IsGuarded g → (messages : List Passing) × conversations.Complete g messages
           × ((r : ℕ) (main : RoleMain) → slice_get mains r ≡ Some main →
           passed (deeds (events_of r w.events)) ≡ global_law.named main.role messages)
@@ -934,6 +1010,14 @@ none_gets_stuck j typestates roles g locals mains cast p first begun meant taken
   all_well j typestates roles g locals mains cast p first begun meant taken,
   λ rests no_zero. all_over j typestates roles g locals mains cast p first begun meant taken rests no_zero,
 )
+
+pub turns_are_configurations : TurnsAreConfigurations
+turns_are_configurations j typestates roles g locals mains cast p first begun meant taken =
+    is_configuration j typestates roles g locals mains cast p first begun meant taken
+
+pub rest_is_finished : RestIsFinished
+rest_is_finished j typestates roles g locals mains cast p first begun meant taken rests no_zero =
+    rest_is_configuration j typestates roles g locals mains cast p first begun meant taken rests no_zero
 
 pub rest_is_conversation : RestIsConversation
 rest_is_conversation j typestates roles g locals mains cast guarded p first begun meant taken rests no_zero =

@@ -37,13 +37,9 @@ use Rattle.vm_world_law.proofs.Lists.{some_is, set_long, get_within, same_name, 
 use Rattle.vm_world_law.proofs.Ways.{still_by, still_to, set_some, set_square_way, IsSquare, none_square, none_on_way, other_is}
 use Rattle.vm_world_law.proofs.Ways.{named_within, set_square}
 use Rattle.stm_acts.specs.Ends.{deeds}
-use Rattle.fit_law.specs.Conversed.{passed}
+use Rattle.fit_law.specs.Conversed.{passed, parcel_of}
 use Rattle.fit_law.proofs.Deeds.{one_more, none_more, nothing_ends, same_end, Walked, LastDeed, did, but_looked, last_deed}
 use Rattle.fit_law.proofs.Deeds.{start_walked, moved_is, looked_is}
-
--- what a message is in a system
-abbrev pub parcel_of : Sent → Parcel
-parcel_of m = parcel m.label (kind_of m.payload)
 
 quiet_deeds : (e : Option Event) → IsQuiet e → (es : List Event) → deeds (es ++ noted e) ≡ deeds es
 quiet_deeds None h es = ap deeds (Rattle.std.proofs.Common.append-nil es)
