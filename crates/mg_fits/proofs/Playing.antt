@@ -149,6 +149,15 @@ main_same true false protocol = refl
 main_same false args true = refl
 main_same false args false = refl
 
+-- a class has its name in the core
+module _ (program : Program) (core : Core.Program) (res : Resolves program core) where
+  pub class_text_is : (name : Name) (c : ℕ) (class : Class) → class_named program.files name ≡ Some class →
+      slice_get (classes_of program.files) c ≡ Some class → class_text core c ≡ Some name
+  class_text_is name c class named at =
+      let k = aligned_at res.classes c class at in
+      ap (option_map (λ (k : Core.Class). text_at core k.name)) k.at
+      ∙ ap Some (text_is program core res k.item.name class.name k.is.name ∙ class_name program.files name class named)
+
 -- `mains` are the roles with their classes, `own` those that the files have protocols of, and `roles` are the same
 module _ (program : Program) (core : Core.Program) (res : Resolves program core) (is_core : IsCore core) (roles own : List Name)
     (within : (me : Name) → Contains roles me → Contains own me) (wider : (me : Name) → Contains own me → Contains roles me)
@@ -164,13 +173,6 @@ module _ (program : Program) (core : Core.Program) (res : Resolves program core)
     is : MethodIs program core owner item
     class_is : class_text core item.class ≡ Some name
 
-  class_text_is : (name : Name) (c : ℕ) (class : Class) → class_named program.files name ≡ Some class →
-      slice_get (classes_of program.files) c ≡ Some class → class_text core c ≡ Some name
-  class_text_is name c class named at =
-      let k = aligned_at res.classes c class at in
-      ap (option_map (λ (k : Core.Class). text_at core k.name)) k.at
-      ∙ ap Some (text_is program core res k.item.name class.name k.is.name ∙ class_name program.files name class named)
-
   stands : (name : Name) (class : Class) → class_named program.files name ≡ Some class → (j : ℕ) (m : Method) →
       slice_get class.methods j ≡ Some m → Stands name m
   stands name class named j m at =
@@ -185,7 +187,7 @@ module _ (program : Program) (core : Core.Program) (res : Resolves program core)
         item = k.item;
         at = k.at;
         is = k.is;
-        class_is = ap (class_text core) k.is.class ∙ class_text_is name c.0 class named c.1;
+        class_is = ap (class_text core) k.is.class ∙ class_text_is program core res name c.0 class named c.1;
       }
 
   -- its uses are among those that are judged

@@ -15,7 +15,9 @@ use Rattle.stm_acts.specs.Played.{role_class}
 use Rattle.vm_world_law.specs.declared.role.RoleMain.{RoleMain}
 use Rattle.mg_refusal.specs.Refusals.{Refusal, refusal_at, refusal_nowhere}
 use Rattle.mg_sources.specs.Reading.{Part}
-use Rattle.mg_fits.specs.Uses.{Use, Talks, Makes, uses_beside_making}
+use Rattle.fit_uses.specs.declared.usage.Use.{Use}
+use Rattle.fit_uses.specs.declared.usage.Use.TheVariants.{Talks, Makes}
+use Rattle.fit_uses.specs.Uses.{uses_beside_making}
 use Rattle.mg_fits.specs.Parts.{Headed, header, protocols_in, roles_in, is_role_class, own_uses}
 
 pub data Condition : Type 0 where

@@ -11,7 +11,8 @@ use Rattle.jv_core.specs.Tree.{Method, Program}
 use Rattle.jv_core.specs.Lookup.{class_text, class_numbered, is_main}
 use Rattle.vm_world_law.specs.declared.role.RoleMain.{RoleMain}
 use Rattle.mg_sources.specs.Reading.{Part, Protocol, States, Classes}
-use Rattle.mg_fits.specs.Uses.{Use, uses_in_all, uses_beside_making}
+use Rattle.fit_uses.specs.declared.usage.Use.{Use}
+use Rattle.fit_uses.specs.Uses.{uses_in_all, uses_beside_making}
 
 -- a role of a header, with the place of its name
 pub record Headed : Type 0 where
@@ -35,6 +36,10 @@ protocols_in parts = flat_map protocol_in parts
 -- the roles that they are of
 abbrev pub roles_in : List Part → List Name
 roles_in parts = map (λ local. local.me) (protocols_in parts)
+
+-- the protocol that the files have of a role, or else another
+abbrev pub own_local : List Part → (otherwise : Name → LocalTree) → Name → LocalTree
+own_local parts otherwise me = unwrap_or (find (λ local. bytes_eq local.me me) (protocols_in parts)) (otherwise me)
 
 -- the name is that of the class that is generated of the protocol of one of these roles
 abbrev pub is_role_class : List Name → Name → Bool
