@@ -881,9 +881,9 @@ module _ (j : Sources) (typestates : List Typestate) (roles : List Name) (g : Gl
           go (Over (endings.Bad _)) e still h = absurd (subst IsWell e h)
 
     -- a configuration, by where each role stands
-    configured : (ends : ℕ → Position) → ((i : ℕ) → i < length names → Exactly i (ends i)) → IsConfiguration roles locals mains w
-    configured ends are =
-        let s = good.stands (record { ends = ends; walks = λ i h. as_walk i (are i h) }) in
+    abbrev configured : (ends : ℕ → Position) → ((i : ℕ) → i < length names → Exactly i (ends i)) →
+        Stands roles protocols names begun.distinct listed w ends → IsConfiguration roles locals mains w
+    configured ends are s =
         record {
           system = s.system;
           reached = s.reached;
@@ -906,7 +906,7 @@ module _ (j : Sources) (typestates : List Typestate) (roles : List Name) (g : Gl
     is_configuration : IsConfiguration roles locals mains w
     is_configuration =
         let chosen = choose (length names) Exactly exactly_at in
-        configured chosen.ends chosen.are
+        configured chosen.ends chosen.are (good.stands (record { ends = chosen.ends; walks = λ i h. as_walk i (chosen.are i h) }))
 
     module _ (rests : Rests p w) (no_zero : (r : ℕ) (role : Role) → slice_get w.roles r ≡ Some role → role.state ≢ Over endings.Zero) where
       -- where each stands, whatever its state is
@@ -985,7 +985,7 @@ module _ (j : Sources) (typestates : List Typestate) (roles : List Name) (g : Gl
       }
 
       rest_is_configuration : (c : IsConfiguration roles locals mains w) × IsFinished roles c.system
-      rest_is_configuration = (configured chosen.ends (λ i h. (chosen.are i h).0), stuck_none.finished)
+      rest_is_configuration = (configured chosen.ends (λ i h. (chosen.are i h).0) now, stuck_none.finished)
 
       conversed : IsGuarded g → (messages : List Passing) × conversations.Complete g messages
           × ((r : ℕ) (main : RoleMain) → slice_get mains r ≡ Some main →
