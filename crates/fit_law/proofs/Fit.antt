@@ -1,5 +1,6 @@
 -- The law: the system that a world is isn't stuck.
-use Rattle.std.proofs.Common.{◌≡◌, ◌≢◌, ◌⊎◌, inl, inr, ⊎_elim, ℕ, zero, suc, ◌+◌, ◌<◌, ◌≤◌, leb, Bool, true, false, List, [], ◌∷◌, ◌++◌, map, length}
+use Rattle.std.proofs.Common.{◌≡◌, ◌≢◌, ◌⊎◌, inl, inr, ⊎_elim, ℕ, zero, suc, ◌+◌, ◌<◌, ◌≤◌, leb, Bool, true, false, List, [], ◌∷◌, ◌++◌}
+use Rattle.std.proofs.Common.{map, length}
 use Rattle.std.proofs.Common.{Option, Some, None, refl, sym, ap, ◌∙◌, subst, position, arith, append-nil}
 use Rattle.std.specs.Prelude.{◌==◌, if◌then◌else◌, slice_get, Contains, cond}
 use Rattle.std.specs.List.{IsDistinct, filter}
@@ -554,7 +555,8 @@ module _ (j : Sources) (typestates : List Typestate) (roles : List Name) (g : Gl
             found : Numbered peer → Peer peer
             found k =
                 let z : 0 + k.number ≡ k.number = omega arith in
-                let at : slice_get w.messages.roles k.number ≡ Some peer = ap (λ (x : List Name). slice_get x k.number) good.named ∙ k.there in
+                let at : slice_get w.messages.roles k.number ≡ Some peer = ap (λ (x : List Name). slice_get x k.number) good.named ∙
+                k.there in
                 record {
                   number = k.number;
                   lower = k.within;
@@ -567,7 +569,8 @@ module _ (j : Sources) (typestates : List Typestate) (roles : List Name) (g : Gl
 
         -- the next message is another than that which is taken
         no_mismatch : {peer label : Name} {kind : Payload} {messages : List Sent} {message : Sent} →
-            StandsAt j (L r main at_main).me (protocol_of (L r main at_main)) o E (Passes (Take peer label kind)) → messages_of (inputs r main at_main) peer ≡ Some messages →
+            StandsAt j (L r main at_main).me (protocol_of (L r main at_main)) o E (Passes (Take peer label kind)) →
+            messages_of (inputs r main at_main) peer ≡ Some messages →
             slice_get messages (taken peer E) ≡ Some message → ((message.label ≡ label) × (kind_of message.payload ≡ kind) → ⊥) → ⊥
         no_mismatch {peer} {label} {kind} {messages} {message} st there next differs =
             let a = ahead_of (Passes (Take peer label kind)) st in
@@ -616,7 +619,8 @@ module _ (j : Sources) (typestates : List Typestate) (roles : List Name) (g : Gl
             let f = finds next.at (as_named (but_look s.peer s.label s.closed next.run s.are)) next.act next.to next.step s.peer
             (ap waits_for look.1) hd.from hd.within hd.named hd.message hd.more hd.is in
             let other_is_it = alike_look look.1 f.alike in
-            let label_is : other_is_it.0 ≡ s.label = found_is f.label f.other_act other_is_it.0 other_is_it.1 f.is ∙ sym f.is_label ∙ hd.labelled in
+            let label_is : other_is_it.0 ≡ s.label = found_is f.label f.other_act other_is_it.0 other_is_it.1 f.is ∙ sym f.is_label ∙
+            hd.labelled in
             s.no_branch (label_known j typestates (L r main at_main) (valid r main at_main) (had r main at_main) (P r main at_main)
             (says r main at_main) s.closed next.run
             (subst (λ a. Step next.at a f.to) (other_is_it.1 ∙ ap (Looks s.number s.peer) label_is) f.step) s.asked)
@@ -634,7 +638,8 @@ module _ (j : Sources) (typestates : List Typestate) (roles : List Name) (g : Gl
                 labels e = cc
 
         -- each peer is there
-        no_miss : (doing : Doing) → StandsAt j (L r main at_main).me (protocol_of (L r main at_main)) o E doing → messages_of (inputs r main at_main) (peer_in doing) ≡ None → ⊥
+        no_miss : (doing : Doing) → StandsAt j (L r main at_main).me (protocol_of (L r main at_main)) o E doing →
+            messages_of (inputs r main at_main) (peer_in doing) ≡ None → ⊥
         no_miss doing st none =
             let a = ahead_of doing st in
             let k = peer_is (peer_in doing) (subst (P r main at_main) (peer_same doing a.next.act a.next.of) a.next.peer) in
@@ -755,7 +760,8 @@ module _ (j : Sources) (typestates : List Typestate) (roles : List Name) (g : Gl
           go : (s : State) → (role r main at_main).state ≡ s → IsWell s
           go (Runs m) e = tt
           go (Over ending) e =
-              well_by ending e (subst (λ s. Shows (mean j main.class (inputs r main at_main)) (role r main at_main).count (es r main at_main)
+              well_by ending e (subst
+              (λ s. Shows (mean j main.class (inputs r main at_main)) (role r main at_main).count (es r main at_main)
               (stand_of p w r s)) e (is_meant r main at_main).shows)
 
     -- ---- rest
@@ -802,7 +808,8 @@ module _ (j : Sources) (typestates : List Typestate) (roles : List Name) (g : Gl
               ((so : List Event) → Prefix so (run r main at_main).events → deeds so ≡ acts o so) →
               {d : Doing} {f : Finish} →
               StandsAt j (L r main at_main).me (protocol_of (L r main at_main)) o (run r main at_main).events d →
-              Halts (inputs r main at_main) (run r main at_main).events d f → f ≡ Wait (name_of w k) → (end : Position) × (Exactly r end × AtRest r (role r main at_main).state end)
+              Halts (inputs r main at_main) (run r main at_main).events d f → f ≡ Wait (name_of w k) → (end : Position) ×
+              (Exactly r end × AtRest r (role r main at_main).state end)
           halted o made only st (waits {doing = d} wants there none) e =
               let a = ahead_of r main at_main settled o made only d st in
               let x : peer_in d ≡ name_of w k = wait_is e in (
@@ -847,18 +854,26 @@ module _ (j : Sources) (typestates : List Typestate) (roles : List Name) (g : Gl
         has_returned : (end : Position) × (Exactly r end × AtRest r (role r main at_main).state end)
         has_returned = go (done_so r main at_main)
           where
-            go : IsDoneByOne j (roles ++ cast.idle) (L r main at_main).me (protocol_of (L r main at_main)) (inputs r main at_main) (run r main at_main) →
+            go : IsDoneByOne j (roles ++ cast.idle) (L r main at_main).me (protocol_of (L r main at_main)) (inputs r main at_main)
+                (run r main at_main) →
                 (end : Position) × (Exactly r end × AtRest r (role r main at_main).state end)
             go (not_yet nobody none busy) = absurd (subst IsBusy done_finish busy)
             go (by_one o made alone acting ends) =
                 let a = at_end j typestates (L r main at_main) (valid r main at_main) (had r main at_main) (P r main at_main)
                 (says r main at_main) main.class (inputs r main at_main) (suc (role r main at_main).count) (keeps r main at_main) o made
-                done_finish in
-                (a.end, (exactly_named r main at_main done_settled o made (λ so prefix. acting so prefix.later prefix.is) a.closed a.run a.are, returned over a.finished))
+                done_finish in (
+                  a.end,
+                  (
+                    exactly_named r main at_main done_settled o made (λ so prefix. acting so prefix.later prefix.is) a.closed
+                        a.run a.are,
+                    returned over a.finished,
+                  ),
+                )
 
         -- its objects are at the end
         is_complete : (o : ℕ) → IsMade (es r main at_main) o (role_class (L r main at_main).me) →
-            Complete (L r main at_main).me (protocol_of (L r main at_main)) (calls j (role_class (L r main at_main).me) o (es r main at_main))
+            Complete (L r main at_main).me (protocol_of (L r main at_main))
+            (calls j (role_class (L r main at_main).me) o (es r main at_main))
         is_complete o made =
             subst (λ xs. Complete (L r main at_main).me (protocol_of (L r main at_main)) (calls j (role_class (L r main at_main).me) o xs))
             done_settled
@@ -868,9 +883,11 @@ module _ (j : Sources) (typestates : List Typestate) (roles : List Name) (g : Gl
 
       stands_still : Rests p w → ((role r main at_main).state ≢ Over endings.Zero) →
           (end : Position) × (Exactly r end × AtRest r (role r main at_main).state end)
-      stands_still rests no_zero = go (role r main at_main).state refl (rests r (role r main at_main) (at_role r main at_main)) (well r main at_main)
+      stands_still rests no_zero = go (role r main at_main).state refl (rests r (role r main at_main) (at_role r main at_main))
+          (well r main at_main)
         where
-          go : (s : State) → (role r main at_main).state ≡ s → IsStill p w r (role r main at_main).state → IsWell (role r main at_main).state →
+          go : (s : State) → (role r main at_main).state ≡ s → IsStill p w r (role r main at_main).state →
+              IsWell (role r main at_main).state →
               (end : Position) × (Exactly r end × AtRest r (role r main at_main).state end)
           go (Runs m) e still h = let k = subst (IsStill p w r) e still in waiting m e k.0 k.1
           go (Over endings.Done) e still h = has_returned e
@@ -890,9 +907,12 @@ module _ (j : Sources) (typestates : List Typestate) (roles : List Name) (g : Gl
           done = λ r main at.
               let h : r < length names = got_within names r main.role (name_at mains r main at) in
               let x = are r h in
-              let place : s.system.at main.role ≡ ends r = ap (λ n. s.system.at n) (sym (name_is r main at)) ∙ s.at r h in
-              (x.0, subst (λ q. Run (whole (protocols main.role)) x.0 q) (sym place)
-              (subst (λ n. Run (whole (protocols n)) x.0 (ends r)) (name_is r main at) x.1), x.2);
+              let place : s.system.at main.role ≡ ends r = ap (λ n. s.system.at n) (sym (name_is r main at)) ∙ s.at r h in (
+                x.0,
+                subst (λ q. Run (whole (protocols main.role)) x.0 q) (sym place)
+                    (subst (λ n. Run (whole (protocols n)) x.0 (ends r)) (name_is r main at) x.1),
+                x.2,
+              );
           lists = λ from to sender receiver at_from at_to.
               let hf : from < length names = got_within names from sender.role (name_at mains from sender at_from) in
               let ht : to < length names = got_within names to receiver.role (name_at mains to receiver at_to) in

@@ -107,7 +107,8 @@ record LastIn (parts : Parts) (p : Position) (front : List Act) (last : Act) (q 
   run : RunIn parts p front at
   step : StepIn parts at last q
 
-last_in : {parts : Parts} {p q : Position} (front : List Act) {last : Act} → RunIn parts p (front ++ last ∷ []) q → LastIn parts p front last q
+last_in : {parts : Parts} {p q : Position} (front : List Act) {last : Act} → RunIn parts p (front ++ last ∷ []) q →
+    LastIn parts p front last q
 last_in {p = p} [] (goes step stays) = record { at = p; run = stays; step = step }
 last_in {p = p} (a ∷ front) (goes step run) =
     let more = last_in front run in
@@ -334,7 +335,8 @@ module _ (j : Sources) (typestates : List Typestate) (L : LocalTree) (valid : �
               long =
                   let a : length (acts o run_of.events) ≡ length (p.closed ++ p.last) =
                   ap length p.are ∙ map_long unnumbered (p.closed ++ p.last) in
-                  let b : length (acts o run_of.events) ≡ length x.closed + 1 = ap length x.are ∙ length-append x.closed (Looked q l ∷ []) in
+                  let b : length (acts o run_of.events) ≡ length x.closed + 1 = ap length x.are ∙
+                  length-append x.closed (Looked q l ∷ []) in
                   let c : length x.closed ≡ length (calls j (role_class L.me) o run_of.events) = x.as_many in
                   let d : length p.closed ≡ length (calls j (role_class L.me) o run_of.events) =
                   sym (map_long (names.call_of L.me) p.closed) ∙ ap length p.of_calls in
@@ -345,7 +347,8 @@ module _ (j : Sources) (typestates : List Typestate) (L : LocalTree) (valid : �
                   (acts o run_of.events) run_of.events run_of
               by_last [] e =
                   let a = long in
-                  let b : length (p.closed ++ p.last) ≡ length p.closed = ap (λ z. length (p.closed ++ z)) e ∙ ap length (append-nil p.closed)
+                  let b : length (p.closed ++ p.last) ≡ length p.closed = ap (λ z. length (p.closed ++ z)) e ∙
+                  ap length (append-nil p.closed)
                   in
                   absurd (omega (arith, a, b))
               by_last (act ∷ (other_act ∷ more)) e =

@@ -99,8 +99,8 @@ RestIsConversation =
     ((r : ℕ) (role : Role) → slice_get (turns p first taken).roles r ≡ Some role → role.state ≢ Over endings.Zero) →
     IsConversation g mains (turns p first taken)
 
--- Where each conversation of the global protocol can be brought to an end, what they have said is after each list of turns part of a complete
--- one.
+-- Where each conversation of the global protocol can be brought to an end, what they have said is after each list of turns part of a
+-- complete one.
 abbrev pub TurnsAreInConversation : Type 0
 TurnsAreInConversation =
     (j : Sources) (typestates : List Typestate) (roles : List Name) (g : Global) (locals : Name → LocalTree) (mains : List RoleMain)

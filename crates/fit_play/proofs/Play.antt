@@ -23,7 +23,8 @@ use Rattle.vm_world_law.specs.World.{State, Runs, Over, Role, World, Rests}
 use Rattle.fit_law.specs.Fit.{IsCast}
 use Rattle.fit_law.proofs.Fit.{none_gets_stuck, rest_is_finished, rest_is_conversation, turns_are_configurations, turns_are_in_conversation}
 use Rattle.fit_law.proofs.Fit.{turns_go_on_in_conversation}
-use Rattle.fit_play.specs.Play.{PlayIn, AllKeep, HasEndedWell, NoneGetsStuckIn, ZeroIn, RunsEndWell, TurnsAreReached, TurnsConverse, TurnsGoOn}
+use Rattle.fit_play.specs.Play.{PlayIn, AllKeep, HasEndedWell, NoneGetsStuckIn, ZeroIn, RunsEndWell, TurnsAreReached, TurnsConverse}
+use Rattle.fit_play.specs.Play.{TurnsGoOn}
 
 some_is : {A : Type 0} {a b : A} → Some a ≡ Some b → a ≡ b
 some_is e = cc
@@ -125,7 +126,8 @@ turns_converse j typestates roles g locals mains play keeps can p first begun me
 
 pub turns_are_reached : TurnsAreReached
 turns_are_reached j typestates roles g locals mains play keeps p first begun meant taken =
-    turns_are_configurations j typestates roles g locals mains (is_cast j typestates roles g locals mains play keeps) p first begun meant taken
+    turns_are_configurations j typestates roles g locals mains (is_cast j typestates roles g locals mains play keeps) p first begun
+    meant taken
 
 pub turns_go_on : TurnsGoOn
 turns_go_on j typestates roles g locals mains play keeps heard p first begun meant taken =

@@ -23,8 +23,8 @@ use Rattle.stm_acts.specs.Calm.{OnlyMainsPlay, MainPlaysOne}
 use Rattle.fit_law.specs.Conversed.{IsConfiguration, IsFinished, IsConversation, IsPartOfConversation, IsPartOfGoing}
 use Rattle.fit_law.specs.Fit.{AreLocals, IsHad, KeepsTo, AreMeant, IsWell, IsComplete}
 
--- The sources play a global protocol: each of its roles has what is generated of its projection, and the `main` of its class makes one object
--- of the generated class.
+-- The sources play a global protocol: each of its roles has what is generated of its projection, and the `main` of its class makes one
+-- object of the generated class.
 pub record PlayIn (j : Sources) (typestates : List Typestate) (roles : List Name) (g : Global) (locals : Name → LocalTree)
     (mains : List RoleMain) : Type 0 where
   pub locals_are : AreLocals roles g locals
@@ -58,7 +58,8 @@ pub record HasEndedWell (j : Sources) (roles : List Name) (g : Global) (locals :
     pub runs : (c : IsConfiguration roles locals mains w) × IsFinished roles c.system
     pub conversation : IsConversation g mains w
 
--- After every list of turns no role has ended but by its return or a zero divisor. At rest, where none ended by a zero divisor, all is complete.
+-- After every list of turns no role has ended but by its return or a zero divisor. At rest, where none ended by a zero divisor, all is
+-- complete.
 abbrev pub NoneGetsStuckIn : Type 0
 NoneGetsStuckIn =
     (j : Sources) (typestates : List Typestate) (roles : List Name) (g : Global) (locals : Name → LocalTree) (mains : List RoleMain)

@@ -1,5 +1,6 @@
 -- A resolved program whose methods use nothing that is for the classes of roles alone.
-use Rattle.std.proofs.Common.{◌≡◌, ℕ, Bool, true, false, true≢false, List, [], ◌∷◌, ◌++◌, Option, Some, None, refl, sym, ap, ◌∙◌, subst, slice_get}
+use Rattle.std.proofs.Common.{◌≡◌, ℕ, Bool, true, false, true≢false, List, [], ◌∷◌, ◌++◌, Option, Some, None, refl, sym, ap, ◌∙◌, subst}
+use Rattle.std.proofs.Common.{slice_get}
 use Rattle.std.proofs.Common.{option_map, eqb, ◌==◌}
 use Rattle.std.specs.Prelude.{if◌then◌else◌, nat_eq}
 use Rattle.std.specs.List.{AllByRecursion}
@@ -181,9 +182,10 @@ module _ (core : Program) (NoRole : (class : ℕ) → Type 0) where
       calm_in_groups : {sc : List ℕ} {ts : List Target} (gs : Groups) → FineGroups core m sc ts gs → AreFree (uses_in_groups gs) →
           CalmInGroups gs
       calm_in_groups _ fine.no_group h = tt
-      calm_in_groups _ (fine.group {body = body} {more = rest} f g) h =
-          (calm_in_all body f (left (uses_in_all body) (uses_in_groups rest) h),
-          calm_in_groups rest g (right (uses_in_all body) (uses_in_groups rest) h))
+      calm_in_groups _ (fine.group {body = body} {more = rest} f g) h = (
+        calm_in_all body f (left (uses_in_all body) (uses_in_groups rest) h),
+        calm_in_groups rest g (right (uses_in_all body) (uses_in_groups rest) h),
+      )
 
     -- ---- the making
 

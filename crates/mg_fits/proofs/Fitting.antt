@@ -1,5 +1,6 @@
 -- The law: files that fit a global protocol play it, so their roles never get stuck.
-use Rattle.std.proofs.Common.{◌≡◌, ◌≢◌, ◌⊎◌, inl, inr, ⊎_elim, ℕ, suc, List, [], ◌∷◌, ◌++◌, length, map, Option, Some, None, refl, sym, ap, ◌∙◌}
+use Rattle.std.proofs.Common.{◌≡◌, ◌≢◌, ◌⊎◌, inl, inr, ⊎_elim, ℕ, suc, List, [], ◌∷◌, ◌++◌, length, map, Option, Some, None, refl, sym}
+use Rattle.std.proofs.Common.{ap, ◌∙◌}
 use Rattle.std.proofs.Common.{subst, slice_get, Contains}
 use Rattle.std.proofs.Math.Logic.{∥∥₁_elim}
 use Rattle.std.proofs.lemmas.List.Elements.{Contains-append_cases, Contains-append_left, Contains-append_right}
@@ -146,13 +147,15 @@ module _ (global : Source) (files : List Source) (mains : List RoleMain) (core :
       let p = position_of mains w.0 w.1 in (p.0, w.0, p.1, w.2)
 
   known : (r : ℕ) (main : RoleMain) → slice_get mains r ≡ Some main → Contains g.roles main.role
-  known r main at = surely_in g.roles main.role (λ n. clean_at (conditions.IsStranger global.number g parts core mains) mains clean.strangers main (got_in mains r main at) _ (n, refl))
+  known r main at = surely_in g.roles main.role
+      (λ n. clean_at (conditions.IsStranger global.number g parts core mains) mains clean.strangers main (got_in mains r main at) _ (n, refl))
 
   in_files : (me : Name) → Contains g.roles me → Contains (roles_in parts) me
   in_files me has =
       let h = of_header me has in
       subst (Contains (roles_in parts)) h.2
-      (surely_in (roles_in parts) h.0.role (λ n. clean_at (conditions.HasNoProtocol global.number g parts core mains) (header g.roles g.places) clean.without h.0 h.1 _ (n, refl)))
+      (surely_in (roles_in parts) h.0.role
+      (λ n. clean_at (conditions.HasNoProtocol global.number g parts core mains) (header g.roles g.places) clean.without h.0 h.1 _ (n, refl)))
 
   within : (me : Name) → Contains among me → Contains (roles_in parts) me
   within me has = ⊎_elim (in_files me) (λ c. c) (Contains-append_cases g.roles (roles_in parts) me has)
@@ -248,7 +251,8 @@ module _ (global : Source) (files : List Source) (mains : List RoleMain) (core :
     }
 
 -- accepted files keep to the typestates
-all_keep : AcceptedKeepTypestates → (files : List Source) (core : Core.Program) (accepted : AreAccepted files core) (mains : List RoleMain) →
+all_keep : AcceptedKeepTypestates →
+    (files : List Source) (core : Core.Program) (accepted : AreAccepted files core) (mains : List RoleMain) →
     ((r : ℕ) (main : RoleMain) → slice_get mains r ≡ Some main → main_of core main.class ≢ None) →
     AllKeep accepted.have.program.files accepted.have.program.typestates mains
 all_keep kept files core accepted mains have r main at inputs budget =

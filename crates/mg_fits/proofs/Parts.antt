@@ -1,5 +1,6 @@
 -- What lists of names, protocols and headers have.
-use Rattle.std.proofs.Common.{◌≡◌, ℕ, zero, suc, Bool, true, false, true≢false, List, [], ◌∷◌, ◌++◌, length, map, Option, Some, None, refl, sym, ap, ◌∙◌}
+use Rattle.std.proofs.Common.{◌≡◌, ℕ, zero, suc, Bool, true, false, true≢false, List, [], ◌∷◌, ◌++◌, length, map, Option, Some, None}
+use Rattle.std.proofs.Common.{refl, sym, ap, ◌∙◌}
 use Rattle.std.proofs.Common.{subst, slice_get, Contains, ⊎_elim, flat_map, eqb, arith}
 use Rattle.std.proofs.Math.Logic.{∥∥₁_elim}
 use Rattle.std.specs.Prelude.{cond, find, unwrap_or}
@@ -58,7 +59,8 @@ headed (role ∷ roles) (place ∷ places) e me has =
 -- ---- protocols of files
 
 -- each is what a file spells
-pub read_in : (files : List Source) (parts : List Part) → EachSpells files parts → (local : LocalTree) → Contains (protocols_in parts) local →
+pub read_in : (files : List Source) (parts : List Part) → EachSpells files parts → (local : LocalTree) →
+    Contains (protocols_in parts) local →
     (source : Source) × Contains files source × Reads source (Protocol local)
 read_in [] [] h local has = absurd (nothing_in local has)
 read_in [] (part ∷ parts) h local has = absurd h
@@ -103,10 +105,12 @@ has_own parts otherwise me has = go (find (λ (local : LocalTree). bytes_eq loca
     go : (o : Option LocalTree) → find (λ (local : LocalTree). bytes_eq local.me me) (protocols_in parts) ≡ o → Has parts otherwise me
     go None e =
         let w = of_map (λ (local : LocalTree). local.me) (protocols_in parts) me has in
-        absurd (none_passes (λ (local : LocalTree). bytes_eq local.me me) (protocols_in parts) e w.0 w.1 ((bytes_eq-Decides w.0.me me).1 w.2))
+        absurd (none_passes (λ (local : LocalTree). bytes_eq local.me me) (protocols_in parts) e w.0 w.1
+        ((bytes_eq-Decides w.0.me me).1 w.2))
     go (Some local) e =
         let same : local ≡ own_local parts otherwise me = ap (λ o. unwrap_or o (otherwise me)) (sym e) in
         subst (λ (l : LocalTree). Contains (protocols_in parts) l × (l.me ≡ me) → Has parts otherwise me) (sym same)
-        (λ k. record { there = k.0; own = k.1 })
-        (found_in (λ (l : LocalTree). bytes_eq l.me me) (protocols_in parts) local e,
-        (bytes_eq-Decides local.me me).0 (found_passes (λ (l : LocalTree). bytes_eq l.me me) (protocols_in parts) local e))
+        (λ k. record { there = k.0; own = k.1 }) (
+          found_in (λ (l : LocalTree). bytes_eq l.me me) (protocols_in parts) local e,
+          (bytes_eq-Decides local.me me).0 (found_passes (λ (l : LocalTree). bytes_eq l.me me) (protocols_in parts) local e),
+        )

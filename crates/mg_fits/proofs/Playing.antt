@@ -1,5 +1,6 @@
 -- Where no condition of fitting is at fault, the sources are quiet, but for the `main` of each role, which makes one object of its class.
-use Rattle.std.proofs.Common.{◌≡◌, ◌≢◌, ◌⊎◌, inl, inr, ⊎_elim, ℕ, zero, suc, Bool, true, false, true≢false, List, [], ◌∷◌, ◌++◌, map, Option, Some, None}
+use Rattle.std.proofs.Common.{◌≡◌, ◌≢◌, ◌⊎◌, inl, inr, ⊎_elim, ℕ, zero, suc, Bool, true, false, true≢false, List, [], ◌∷◌, ◌++◌, map}
+use Rattle.std.proofs.Common.{Option, Some, None}
 use Rattle.std.proofs.Common.{refl, sym, ap, ◌∙◌, subst, slice_get, option_map, option_and_then, Contains, flat_map, ◌||◌, ◌&&◌}
 use Rattle.std.specs.Prelude.{if◌then◌else◌, cond, find, unwrap_or}
 use Rattle.std.specs.List.{AllByRecursion, list_any}
@@ -93,7 +94,8 @@ abbrev Differ : List (List RoleMain × RoleMain) → Type 0
 Differ qs = AllByRecursion (λ q. Shares q → ⊥) qs
 
 later_differs : (before ms : List RoleMain) → Differ (behind before ms) → (c : Name) →
-    Contains (map (λ (other : RoleMain). other.class) before) c → (r : ℕ) (main : RoleMain) → slice_get ms r ≡ Some main → main.class ≡ c → ⊥
+    Contains (map (λ (other : RoleMain). other.class) before) c → (r : ℕ) (main : RoleMain) → slice_get ms r ≡ Some main →
+    main.class ≡ c → ⊥
 later_differs before [] h c has r main at e = none_some at
 later_differs before (m ∷ ms) h c has zero main at e =
     h.0 (subst (Contains (map (λ (other : RoleMain). other.class) before)) (sym (ap (λ (x : RoleMain). x.class) (some_is at) ∙ e)) has)
@@ -265,82 +267,85 @@ module _ (program : Program) (core : Core.Program) (res : Resolves program core)
       (makes_one : (k : Core.Method) → Contains core.methods k → looks.is_main k.kind ≡ true → class_text core k.class ≡ Some main.class →
       ((class : ℕ) → class_numbered core (role_class main.role) ≡ Some class → uses_beside_making class k.body ≡ None) → ⊥)
     where
-    plain : IsNoRole roles main.class
-    plain you has_you e =
-        let role : HasRole program.files typestates you (protocols you) = has you has_you in
-        its_main ((mains_are_the_same program core res main.class).none_there
-        (ap (λ (c : Option Class). option_map (meant.method_in main.class) (option_and_then (λ (k : Class). find is_main k.methods) c))
-        (ap (class_named program.files) e ∙ role.class)
-        ∙ ap (option_map (meant.method_in main.class)) (no_main_in role.place you role.firsts)))
+      plain : IsNoRole roles main.class
+      plain you has_you e =
+          let role : HasRole program.files typestates you (protocols you) = has you has_you in
+          its_main ((mains_are_the_same program core res main.class).none_there
+          (ap (λ (c : Option Class). option_map (meant.method_in main.class) (option_and_then (λ (k : Class). find is_main k.methods) c))
+          (ap (class_named program.files) e ∙ role.class)
+          ∙ ap (option_map (meant.method_in main.class)) (no_main_in role.place you role.firsts)))
 
-    role_is : (name : Option Name) → name ≡ Some main.class →
-        option_and_then (λ name. option_map (λ (x : RoleMain). x.role) (find (λ (x : RoleMain). bytes_eq x.class name) mains)) name
-        ≡ Some main.role
-    role_is name e =
-        ap (option_and_then (λ name. option_map (λ (x : RoleMain). x.role) (find (λ (x : RoleMain). bytes_eq x.class name) mains))) e
-        ∙ ap (option_map (λ (x : RoleMain). x.role)) (first_of_class [] mains differ r main at)
+      role_is : (name : Option Name) → name ≡ Some main.class →
+          option_and_then (λ name. option_map (λ (x : RoleMain). x.role) (find (λ (x : RoleMain). bytes_eq x.class name) mains)) name
+          ≡ Some main.role
+      role_is name e =
+          ap (option_and_then (λ name. option_map (λ (x : RoleMain). x.role) (find (λ (x : RoleMain). bytes_eq x.class name) mains))) e
+          ∙ ap (option_map (λ (x : RoleMain). x.role)) (first_of_class [] mains differ r main at)
 
-    -- the uses beside the making
-    record Made (k : Core.Method) : Type 0 where
-      class : ℕ
-      numbered : class_numbered core (role_class main.role) ≡ Some class
-      uses : List Use
-      are : uses_beside_making class k.body ≡ Some uses
-      all : uses_of_method core mains k ≡ uses
+      -- the uses beside the making
+      record Made (k : Core.Method) : Type 0 where
+        class : ℕ
+        numbered : class_numbered core (role_class main.role) ≡ Some class
+        uses : List Use
+        are : uses_beside_making class k.body ≡ Some uses
+        all : uses_of_method core mains k ≡ uses
 
-    made : (m : Method) (s : Stands main.class m) → is_main m ≡ true → Made s.item
-    made m s e = by_class (class_numbered core (role_class main.role)) refl
-      where
-        is_a_main : looks.is_main s.item.kind ≡ true
-        is_a_main = kind_is main.class m s ∙ e
+      made : (m : Method) (s : Stands main.class m) → is_main m ≡ true → Made s.item
+      made m s e = by_class (class_numbered core (role_class main.role)) refl
+        where
+          is_a_main : looks.is_main s.item.kind ≡ true
+          is_a_main = kind_is main.class m s ∙ e
 
-        nothing : ((class : ℕ) → class_numbered core (role_class main.role) ≡ Some class → uses_beside_making class s.item.body ≡ None) → ⊥
-        nothing none = makes_one s.item (got_in core.methods s.number s.item s.at) is_a_main s.class_is none
+          nothing : ((class : ℕ) → class_numbered core (role_class main.role) ≡ Some class →
+              uses_beside_making class s.item.body ≡ None) → ⊥
+          nothing none = makes_one s.item (got_in core.methods s.number s.item s.at) is_a_main s.class_is none
 
-        by_uses : (class : ℕ) → class_numbered core (role_class main.role) ≡ Some class → (us : Option (List Use)) →
-            uses_beside_making class s.item.body ≡ us → Made s.item
-        by_uses class n None f =
-            absurd (nothing (λ c g. subst (λ x. uses_beside_making x s.item.body ≡ None) (some_is (sym n ∙ g)) f))
-        by_uses class n (Some us) f = record {
-          class = class;
-          numbered = n;
-          uses = us;
-          are = f;
-          all = ap (λ b. unwrap_or (option_and_then (λ class. uses_beside_making class s.item.body)
-              (if b then option_and_then (λ role. class_numbered core (role_class role)) (role_of_main core mains s.item.class) else None))
-              (uses_in_all s.item.body)) is_a_main
-              ∙ ap (λ o. unwrap_or (option_and_then (λ class. uses_beside_making class s.item.body)
-              (option_and_then (λ role. class_numbered core (role_class role)) o)) (uses_in_all s.item.body))
-              (role_is (class_text core s.item.class) s.class_is)
-              ∙ ap (λ o. unwrap_or (option_and_then (λ class. uses_beside_making class s.item.body) o) (uses_in_all s.item.body)) n
-              ∙ ap (λ o. unwrap_or o (uses_in_all s.item.body)) f;
-        }
+          by_uses : (class : ℕ) → class_numbered core (role_class main.role) ≡ Some class → (us : Option (List Use)) →
+              uses_beside_making class s.item.body ≡ us → Made s.item
+          by_uses class n None f =
+              absurd (nothing (λ c g. subst (λ x. uses_beside_making x s.item.body ≡ None) (some_is (sym n ∙ g)) f))
+          by_uses class n (Some us) f = record {
+            class = class;
+            numbered = n;
+            uses = us;
+            are = f;
+            all = ap (λ b. unwrap_or (option_and_then (λ class. uses_beside_making class s.item.body)
+                (if b then option_and_then (λ role. class_numbered core (role_class role)) (role_of_main core mains s.item.class)
+                else None))
+                (uses_in_all s.item.body)) is_a_main
+                ∙ ap (λ o. unwrap_or (option_and_then (λ class. uses_beside_making class s.item.body)
+                (option_and_then (λ role. class_numbered core (role_class role)) o)) (uses_in_all s.item.body))
+                (role_is (class_text core s.item.class) s.class_is)
+                ∙ ap (λ o. unwrap_or (option_and_then (λ class. uses_beside_making class s.item.body) o) (uses_in_all s.item.body)) n
+                ∙ ap (λ o. unwrap_or o (uses_in_all s.item.body)) f;
+          }
 
-        by_class : (c : Option ℕ) → class_numbered core (role_class main.role) ≡ c → Made s.item
-        by_class None f = absurd (nothing (λ c g. absurd (none_some (sym f ∙ g))))
-        by_class (Some c) f = by_uses c f (uses_beside_making c s.item.body) refl
+          by_class : (c : Option ℕ) → class_numbered core (role_class main.role) ≡ c → Made s.item
+          by_class None f = absurd (nothing (λ c g. absurd (none_some (sym f ∙ g))))
+          by_class (Some c) f = by_uses c f (uses_beside_making c s.item.body) refl
 
-    role_numbered : (c : ℕ) → class_numbered core (role_class main.role) ≡ Some c → IsClass program core (role_class main.role) c
-    role_numbered c e =
-        let s = class_stands program core res (role_class main.role) res.classes c e in
-        record { class = s.class; named = s.named; at = s.at }
+      role_numbered : (c : ℕ) → class_numbered core (role_class main.role) ≡ Some c → IsClass program core (role_class main.role) c
+      role_numbered c e =
+          let s = class_stands program core res (role_class main.role) res.classes c e in
+          record { class = s.class; named = s.named; at = s.at }
 
-    main_body : (m : Method) → Stands main.class m → is_main m ≡ true →
-        MakesOne program.files roles (role_class main.role) (scope_of main.class m) m.body
-    main_body m s e =
-        let k = made m s e in
-        subst (λ (x : Method). MakesOne program.files roles (role_class main.role) (scope_of main.class m) x.body) s.method
-        (subst (λ sc. MakesOne program.files roles (role_class main.role) sc s.owner.method.body) (begins main.class m s)
-        (makes program core res roles s.item k.class (role_class main.role) (role_numbered k.class k.numbered)
-        (typed.with_params s.owner.method.params (typed.entered program s.owner.owner.class s.owner.method)) (known main.class m s)
-        s.owner.method.body s.is.body
-        (making core (NoRole program core res roles) s.item k.class s.item.body (fine_in main.class m s).body k.uses k.are
-        (subst (AreFree core (NoRole program core res roles)) k.all (free_in main.class m s plain)))))
+      main_body : (m : Method) → Stands main.class m → is_main m ≡ true →
+          MakesOne program.files roles (role_class main.role) (scope_of main.class m) m.body
+      main_body m s e =
+          let k = made m s e in
+          subst (λ (x : Method). MakesOne program.files roles (role_class main.role) (scope_of main.class m) x.body) s.method
+          (subst (λ sc. MakesOne program.files roles (role_class main.role) sc s.owner.method.body) (begins main.class m s)
+          (makes program core res roles s.item k.class (role_class main.role) (role_numbered k.class k.numbered)
+          (typed.with_params s.owner.method.params (typed.entered program s.owner.owner.class s.owner.method)) (known main.class m s)
+          s.owner.method.body s.is.body
+          (making core (NoRole program core res roles) s.item k.class s.item.body (fine_in main.class m s).body k.uses k.are
+          (subst (AreFree core (NoRole program core res roles)) k.all (free_in main.class m s plain)))))
 
-    pub main_plays_one : MainPlaysOne program.files roles main.role main.class
-    main_plays_one = record {
-      plain = plain;
-      main = λ c named. all_at
-          (λ (m : Method). is_main m ≡ true → MakesOne program.files roles (role_class main.role) (scope_of main.class m) m.body) c.methods
-          (λ j m there e. main_body m (stands main.class c named j m there) e);
-    }
+      pub main_plays_one : MainPlaysOne program.files roles main.role main.class
+      main_plays_one = record {
+        plain = plain;
+        main = λ c named. all_at
+            (λ (m : Method). is_main m ≡ true → MakesOne program.files roles (role_class main.role) (scope_of main.class m) m.body)
+            c.methods
+            (λ j m there e. main_body m (stands main.class c named j m there) e);
+      }

@@ -22,7 +22,8 @@ use Rattle.jv_rules.specs.Scope as typed
 use Rattle.jv_core.specs.Tree as Core
 use Rattle.jv_core.specs.Lookup.{class_text}
 use Rattle.jv_core.specs.Lookup as looks
-use Rattle.jv_names.specs.Resolves.{Numbers, HasSlot, Owned, IsClass, IsMethod, IsOwnField, IsVar, IsExpr, IsExprs, IsStmt, IsStmts, IsGroups, IsValue}
+use Rattle.jv_names.specs.Resolves.{Numbers, HasSlot, Owned, IsClass, IsMethod, IsOwnField, IsVar, IsExpr, IsExprs, IsStmt, IsStmts}
+use Rattle.jv_names.specs.Resolves.{IsGroups, IsValue}
 use Rattle.jv_names.specs.Resolves.{MethodIs, methods_of, Resolves}
 use Rattle.jv_names.specs.Resolves as is
 use Rattle.jv_names.proofs.Naming.{kind_by}
@@ -30,7 +31,8 @@ use Rattle.jv_names.proofs.Tables.{some_is, aligned_at, class_name}
 use Rattle.stm_acts.specs.Calm.{Scope, behind_it, is_variable, Every, EveryArgument, EveryIn, EveryInAll, EveryInGroups, IsQuiet, IsQuietOn}
 use Rattle.stm_acts.specs.Calm.{HasNoMain, IsNoRole, NoReturn, NoReturnIn, NoReturnInGroups, MakesOne, here_it_is, behind}
 use Rattle.fit_uses.specs.Uses.{returns, returns_in, returns_in_groups}
-use Rattle.mg_fits.proofs.Calm.{IsNoMain, Calm, CalmAll, CalmIn, CalmInAll, CalmInGroups, CalmValue, MakesIn, it_makes, then_makes, declare_makes}
+use Rattle.mg_fits.proofs.Calm.{IsNoMain, Calm, CalmAll, CalmIn, CalmInAll, CalmInGroups, CalmValue, MakesIn, it_makes, then_makes}
+use Rattle.mg_fits.proofs.Calm.{declare_makes}
 
 -- ---- truth values
 
@@ -86,7 +88,8 @@ module _ (program : Program) (core : Core.Program) (res : Resolves program core)
   abbrev pub Known : typed.Scope → Type 0
   Known sc = class_named program.files sc.class.name ≡ Some sc.class
 
-  field_seen : (sc : typed.Scope) → Known sc → (x : Name) (f : Field) → own_field sc x ≡ Some f → is_variable program.files (seen sc) x ≡ true
+  field_seen : (sc : typed.Scope) → Known sc → (x : Name) (f : Field) → own_field sc x ≡ Some f →
+      is_variable program.files (seen sc) x ≡ true
   field_seen sc known x f e =
       or_right (list_any (bytes_eq x) (seen sc).locals)
       ((seen sc).on_object && is_some (option_and_then (λ c. field_named c x) (class_named program.files sc.class.name)))
@@ -101,7 +104,8 @@ module _ (program : Program) (core : Core.Program) (res : Resolves program core)
       is_variable program.files (seen sc) x ≡ true
   variable_seen sc known x t e = go (local_named sc x) refl e
     where
-      field : (f : Option Field) → own_field sc x ≡ f → option_map (λ (f : Field). Rattle.jv_rules.specs.Types.meant sc.program f.ty) f ≡ Some t →
+      field : (f : Option Field) → own_field sc x ≡ f →
+          option_map (λ (f : Field). Rattle.jv_rules.specs.Types.meant sc.program f.ty) f ≡ Some t →
           is_variable program.files (seen sc) x ≡ true
       field None g e = absurd (cc)
       field (Some f) g e = field_seen sc known x f g
@@ -154,7 +158,8 @@ module _ (program : Program) (core : Core.Program) (res : Resolves program core)
   Quiet sc e = Every (IsQuiet program.files roles) (seen sc) e
 
   -- a variable holds no call
-  variable_quiet : (sc : typed.Scope) {ns : Numbers} (e : Expr) {x : Rattle.jv_core.specs.declared.tree.Var.Var} → IsVar program core sc ns e x →
+  variable_quiet : (sc : typed.Scope) {ns : Numbers} (e : Expr) {x : Rattle.jv_core.specs.declared.tree.Var.Var} →
+      IsVar program core sc ns e x →
       Quiet sc e
   variable_quiet sc _ (is.a_local h) = tt
   variable_quiet sc _ (is.a_field n h) = tt
@@ -164,7 +169,8 @@ module _ (program : Program) (core : Core.Program) (res : Resolves program core)
   on_variable : (sc : typed.Scope) → Known sc → {ns : Numbers} (e : Expr) {x : Rattle.jv_core.specs.declared.tree.Var.Var} →
       IsVar program core sc ns e x → (f : Name) → IsQuietOn program.files (seen sc) e f
   on_variable sc known _ (is.a_local {x = x} h) f = λ no. not_both (or_left (list_any (bytes_eq x) (seen sc).locals)
-      ((seen sc).on_object && is_some (option_and_then (λ c. field_named c x) (class_named program.files sc.class.name))) (slot_seen x h)) no
+      ((seen sc).on_object && is_some (option_and_then (λ c. field_named c x) (class_named program.files sc.class.name)))
+      (slot_seen x h)) no
   on_variable sc known _ (is.a_field {x = x} n h) f = λ no. not_both (field_seen sc known x h.field h.visible) no
   on_variable sc known _ (is.own h) f = tt
 
@@ -262,7 +268,8 @@ module _ (program : Program) (core : Core.Program) (res : Resolves program core)
     -- ---- no `return`
 
     mutual
-      straight : {sc : typed.Scope} {ns : Numbers} (s : Stmt) {s' : Core.Stmt} → IsStmt program core method sc ns s s' → returns s' ≡ false →
+      straight : {sc : typed.Scope} {ns : Numbers} (s : Stmt) {s' : Core.Stmt} → IsStmt program core method sc ns s s' →
+          returns s' ≡ false →
           NoReturn s
       straight _ (is.block {body = body} i) e = all_straight body i e
       straight _ is.empty e = tt

@@ -13,8 +13,8 @@ use Rattle.mg_fits.specs.Fits.{Fits}
 use Rattle.mg_fits.specs.Parts.{own_local}
 use Rattle.mg_fits.specs.Promise.{NoneGetsStuck}
 
--- For files that fit, each role at the `main` of its class, where after every list of turns each role did what is meant. The local protocols
--- are those of the files.
+-- For files that fit, each role at the `main` of its class, where after every list of turns each role did what is meant. The local
+-- protocols are those of the files.
 abbrev pub RolesThatFit : Type 0
 RolesThatFit = (global : Source) (files : List Source) (mains : List RoleMain) (core : Core.Program)
     (fits : Fits global files mains core) (accepted : AreAccepted files core) →

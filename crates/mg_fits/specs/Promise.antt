@@ -26,8 +26,8 @@ module _ (j : Sources) (roles : List Name) (g : Global) (locals : Name → Local
     -- where each conversation can be brought to an end, what was said so far is part of a complete one
     pub part : CanEnd g → IsPartOfConversation g mains w
 
-  -- After every list of turns; and a run in an order of turns up to a limit ends well, or some role has ended by a zero divisor, or the limit
-  -- is reached.
+  -- After every list of turns; and a run in an order of turns up to a limit ends well, or some role has ended by a zero divisor, or the
+  -- limit is reached.
   pub record NoneGetsStuck (first : World) : Type 0 where
     pub always : (taken : List ℕ) → NoneIsStuck (turns program first taken)
     pub runs : (order : List ℕ) (limit : ℕ) (last : World) → IsRun program first order limit last →

@@ -23,7 +23,8 @@ use Rattle.stm_acts.proofs.Standing as old
 use Rattle.stm_acts.proofs.Reading.{Read}
 use Rattle.stm_acts.proofs.Bodies.{Within, here_it_is, further_on, contained, in_more, is_first}
 use Rattle.stm_acts.proofs.Joined.{called_so, there, of_firsts}
-use Rattle.stm_acts.specs.Calm.{Scope, declare, behind_it, scope_of, OnlyRolesCall, OnlyMainsPlay, MainPlaysOne, MakesOne, here_it_is as one_here}
+use Rattle.stm_acts.specs.Calm.{Scope, declare, behind_it, scope_of, OnlyRolesCall, OnlyMainsPlay, MainPlaysOne, MakesOne}
+use Rattle.stm_acts.specs.Calm.{here_it_is as one_here}
 use Rattle.stm_acts.specs.Calm.{behind, IsNoRole, EveryInAll}
 use Rattle.jv_tree.specs.Source.{Stmts, Method, Class}
 use Rattle.jv_meaning.specs.Names.{is_main}
@@ -33,7 +34,8 @@ use Rattle.stm_acts.specs.Ends.{DeedsAreOfOne, PlaysAlone, IsDoneByOne, not_yet,
 use Rattle.stm_acts.proofs.Stage.{Part, Stage, Fits}
 use Rattle.stm_acts.proofs.Everywhere.{Any, NoMain, on_object_no_main, all_calm, all_quiet, in_quiet, in_all_quiet}
 use Rattle.stm_acts.proofs.Mains.{Starts, here_so, behind_so, Once, none_made, one_made, nobody, it_alone, made_it, once_so}
-use Rattle.stm_acts.proofs.Moments.{At, Out, In, Did, IsOf, Goes, elsewhere, enters, does, leaves, Ran, goes, part, EndsAt, out, inside, halted}
+use Rattle.stm_acts.proofs.Moments.{At, Out, In, Did, IsOf, Goes, elsewhere, enters, does, leaves, Ran, goes, part, EndsAt, out, inside}
+use Rattle.stm_acts.proofs.Moments.{halted}
 use Rattle.stm_acts.proofs.Moments.{refused}
 use Rattle.stm_acts.proofs.Keeping.{Stops, contains_more, some_is}
 use Rattle.stm_acts.proofs.Programs.{stands}
@@ -326,7 +328,8 @@ module _ (j : Sources) (typestates : List Typestate) (roles : List Name) (protoc
       Few = Unit {0};
       Plain = NoMain;
       on_object = on_object_no_main;
-      bodies = λ c class e none. all_quiet j roles (λ c. role_of c ≡ None) no_role c class.methods (quiet.others c class e (unknown c none));
+      bodies = λ c class e none. all_quiet j roles (λ c. role_of c ≡ None) no_role c class.methods
+          (quiet.others c class e (unknown c none));
     }
 
     module _ (me : Name) (p : PartOf me) where

@@ -1,5 +1,6 @@
 -- A `main` that makes one object of a role's class: none is there before, and behind it there is this one alone.
-use Rattle.std.proofs.Common.{◌≡◌, ◌⊎◌, inl, inr, ⊎_elim, ℕ, Bool, true, false, List, [], ◌∷◌, ◌++◌, length, Option, Some, None, refl, sym, ap}
+use Rattle.std.proofs.Common.{◌≡◌, ◌⊎◌, inl, inr, ⊎_elim, ℕ, Bool, true, false, List, [], ◌∷◌, ◌++◌, length, Option, Some, None, refl}
+use Rattle.std.proofs.Common.{sym, ap}
 use Rattle.std.proofs.Common.{subst, eqb}
 use Rattle.std.specs.Prelude.{◌≢◌, if◌then◌else◌, find, cond, ◌==◌, option_map, option_and_then}
 use Rattle.std.specs.List.{AllByRecursion}
@@ -116,7 +117,8 @@ module _ (st : Stage) (r : Part st.j) (is_role : st.role_of (role_class r.me) �
         subst (λ (k : Option Class). Main ((within (λ locals. valued (found k >>= λ k. found (new_fields st.j k.fields) >>= λ row.
         valuing (make (record { class = role; fields = row })))) >>= λ v. declared x v (all rest)) s)) (sym r.class)
         (from_only (length s.shared.heap) ns _
-        ((declared_done st x (values.Object (length s.shared.heap)) (all_q st low b here none (x ∷ ns) rest h)).by (only (length s.shared.heap))
+        ((declared_done st x (values.Object (length s.shared.heap)) (all_q st low b here none (x ∷ ns) rest h)).by
+        (only (length s.shared.heap))
         (record {
           locals = s.locals;
           shared = record {
@@ -209,7 +211,8 @@ module _ (st : Stage) (r : Part st.j) (is_role : st.role_of (role_class r.me) �
       go None e b f = inl (stopped st Wrong (λ c. tt) i)
       go (Some row) e false f = inl (stopped st Wrong (λ c. tt) i)
       go (Some row) e true f = result_so (method_in c m).has_result _
-          (main_q (below (language st.j st.inputs) n) (lows st n) (turns_straight st.j st.inputs n) (record { class = c; object = None }) none
+          (main_q (below (language st.j st.inputs) n) (lows st n) (turns_straight st.j st.inputs n)
+          (record { class = c; object = None }) none
           (names row) m.body
           (subst (λ sc. Starts sc m.body)
           (begins_at c m None row (bound_names m.params [] [] row e) (suits_so (method_in c m).on_object None f)) h.1)
@@ -232,7 +235,8 @@ module _ (st : Stage) (r : Part st.j) (is_role : st.role_of (role_class r.me) �
   made_it o w = w.has o role (self o)
 
   pub once_so : st.Calm → (class : Name) → st.role_of class ≡ None →
-      ((c : Class) → class_named st.j class ≡ Some c → AllByRecursion (λ (m : Method). is_main m ≡ true → Starts (scope_of class m) m.body) c.methods) →
+      ((c : Class) → class_named st.j class ≡ Some c →
+      AllByRecursion (λ (m : Method). is_main m ≡ true → Starts (scope_of class m) m.body) c.methods) →
       (budget : ℕ) → Once (mean st.j class st.inputs budget)
   once_so calm class none starts budget = class_so (class_named st.j class) refl
     where

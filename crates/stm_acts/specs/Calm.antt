@@ -41,7 +41,8 @@ scope_of class m = record { class = class; on_object = if m.is_static then false
 
 -- a variable has this name: a parameter or a local, or else a field of the object that the code runs on
 abbrev pub is_variable : Sources → Scope → Name → Bool
-is_variable j sc x = list_any (bytes_eq x) sc.locals || (sc.on_object && is_some (option_and_then (λ c. field_named c x) (class_named j sc.class)))
+is_variable j sc x = list_any (bytes_eq x) sc.locals ||
+    (sc.on_object && is_some (option_and_then (λ c. field_named c x) (class_named j sc.class)))
 
 -- What holds of every call and every `new` that runs, and of what is visible there. Targets of assignments hold none.
 module _ (P : Scope → Expr → Type 0) where
