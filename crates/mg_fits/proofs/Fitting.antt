@@ -60,7 +60,6 @@ use Rattle.mg_fits.specs.Conditions as conditions
 use Rattle.mg_fits.specs.Fits.{Fits}
 use Rattle.mg_fits.specs.Laws.{RolesThatFit}
 use Rattle.mg_fits.specs.Parts.{Headed, header, protocols_in, roles_in, own_local, own_uses}
-use Rattle.mg_fits.specs.Promise.{HasEndedWell, NoneIsStuck, NoneGetsStuck}
 use Rattle.mg_fits.proofs.Calm.{IsFree, AreFree}
 use Rattle.mg_fits.proofs.Sourced.{NoRole}
 use Rattle.mg_fits.proofs.Parts.{surely_in, surely_same, surely_equal, headed, read_in, has_own}
@@ -105,7 +104,7 @@ module _ (number : ℕ) (g : GlobalTree) (parts : List Part) (core : Core.Progra
 
   differ : (qs : List (List RoleMain × RoleMain)) → Clean (conditions.SharesMain number g parts core mains) qs → Differ qs
   differ [] h = tt
-  differ (q ∷ qs) h = ((λ shares. h.0 _ (shares, refl)), differ qs h.1)
+  differ ((earlier, main) ∷ qs) h = ((λ shares. h.0 _ (shares, refl)), differ qs h.1)
 
 module _ (global : Source) (files : List Source) (mains : List RoleMain) (core : Core.Program) (fits : Fits global files mains core)
     (program : Program) (are : AreWellTyped files program) (res : Resolves program core) (law : SpelledIsShaped) where

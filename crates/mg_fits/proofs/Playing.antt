@@ -86,11 +86,11 @@ no_role_class roles name none = go (is_role_class roles name) refl
 -- ---- each class plays one role
 
 -- a class of an earlier role
-abbrev Shares : List RoleMain × RoleMain → Type 0
+abbrev pub Shares : List RoleMain × RoleMain → Type 0
 Shares (earlier, main) = Contains (map (λ (other : RoleMain). other.class) earlier) main.class
 
 -- no role has the class of an earlier one
-abbrev Differ : List (List RoleMain × RoleMain) → Type 0
+abbrev pub Differ : List (List RoleMain × RoleMain) → Type 0
 Differ qs = AllByRecursion (λ q. Shares q → ⊥) qs
 
 later_differs : (before ms : List RoleMain) → Differ (behind before ms) → (c : Name) →

@@ -1,6 +1,6 @@
 -- The conditions under which roles that run files fit a global protocol, in the order in which they are judged: where each is at fault,
 -- and how it is refused.
-use Rattle.std.specs.Prelude.{◌≡◌, ℕ, List, [], ◌∷◌, map, codes, Option, Some, None, Contains, slice_get}
+use Rattle.std.specs.Prelude.{◌≡◌, ℕ, true, List, [], ◌∷◌, map, codes, Option, Some, None, Contains, slice_get}
 use Rattle.mg_text.specs.Call.{Name}
 use Rattle.mg_text.specs.Places.{start_of}
 use Rattle.mg_read.specs.First.{Judged, with_earlier}
