@@ -1,17 +1,16 @@
 -- A resolved program whose methods use nothing that is for the classes of roles alone.
-use Rattle.std.proofs.Common.{◌≡◌, ℕ, Bool, true, false, true≢false, List, [], ◌∷◌, ◌++◌, Option, Some, None, refl, sym, ap, ◌∙◌, subst}
+use Rattle.std.proofs.Common.{◌≡◌, ℕ, Bool, true, false, true≢false, List, ◌++◌, Option, Some, None, refl, sym, ap, ◌∙◌, subst}
 use Rattle.std.proofs.Common.{slice_get}
-use Rattle.std.proofs.Common.{option_map, eqb, ◌==◌}
-use Rattle.std.specs.Prelude.{if◌then◌else◌, nat_eq}
+use Rattle.std.proofs.Common.{option_map}
+use Rattle.std.specs.Prelude.{if◌then◌else◌}
 use Rattle.std.specs.List.{AllByRecursion}
 use Rattle.std.proofs.lemmas.Bool.{eqb-true}
 use Rattle.mg_text.specs.declared.place.Place.{Place}
 use Rattle.jv_core.specs.declared.program.CoreType.{CoreType}
-use Rattle.jv_core.specs.declared.program.MethodKind.{MethodKind}
 use Rattle.jv_core.specs.declared.program.MethodKind.TheVariants as kinds
 use Rattle.jv_core.specs.Tree.{Expr, Int, Truth, Text, Null, Variable, Constant, Neg, Not, Binary, Protocol, Helper, Static, Equals, Concat}
 use Rattle.jv_core.specs.Tree.{Session, New, Exprs, NoExpr, Argument}
-use Rattle.jv_core.specs.Tree.{Stmt, Block, Empty, Local, Assign, If, IfElse, While, Do, Switch, Break, Continue, Return, Print, Eval}
+use Rattle.jv_core.specs.Tree.{Stmt, Block, Local, Assign, If, IfElse, While, Do, Switch, Return, Print, Eval}
 use Rattle.jv_core.specs.Tree.{Stmts, NoStmt, Then, Declare, Groups, NoGroup, Group, Method, Program}
 use Rattle.jv_core.specs.Lookup.{is_main}
 use Rattle.jv_core.specs.Types as has
@@ -21,7 +20,7 @@ use Rattle.jv_core.specs.Statements.{Fine, FineAll, FineGroups, Target}
 use Rattle.jv_names.proofs.Clean.{all_left, all_right}
 use Rattle.fit_uses.specs.declared.usage.Use.{Use}
 use Rattle.fit_uses.specs.declared.usage.Use.TheVariants.{Talks, Makes}
-use Rattle.fit_uses.specs.Uses.{uses_of, uses_of_all, uses_of_value, uses_in, uses_in_all, uses_in_groups, returns, returns_in, is_new_of}
+use Rattle.fit_uses.specs.Uses.{uses_of, uses_of_all, uses_of_value, uses_in, uses_in_all, uses_in_groups, returns, is_new_of}
 use Rattle.fit_uses.specs.Uses.{uses_beside_making}
 
 module _ (core : Program) (NoRole : (class : ℕ) → Type 0) where

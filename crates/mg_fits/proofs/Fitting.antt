@@ -1,52 +1,43 @@
 -- The law: files that fit a global protocol play it, so their roles never get stuck.
-use Rattle.std.proofs.Common.{◌≡◌, ◌≢◌, ◌⊎◌, inl, inr, ⊎_elim, ℕ, suc, List, [], ◌∷◌, ◌++◌, length, map, Option, Some, None, refl, sym}
+use Rattle.std.proofs.Common.{◌≡◌, ◌≢◌, ⊎_elim, ℕ, List, [], ◌∷◌, ◌++◌, length, map, Some, None, refl, sym}
 use Rattle.std.proofs.Common.{ap, ◌∙◌}
 use Rattle.std.proofs.Common.{subst, slice_get, Contains}
 use Rattle.std.proofs.Math.Logic.{∥∥₁_elim}
-use Rattle.std.proofs.lemmas.List.Elements.{Contains-append_cases, Contains-append_left, Contains-append_right}
-use Rattle.std.specs.List.{AllByRecursion}
+use Rattle.std.proofs.lemmas.List.Elements.{Contains-append_cases, Contains-append_right}
 use Rattle.mg_text.specs.Call.{Name}
-use Rattle.mg_read.specs.First.{Judged, FirstOf, none, next, Clean, with_earlier}
+use Rattle.mg_read.specs.First.{FirstOf, none, next, Clean, with_earlier}
 use Rattle.scr_tree.specs.Meaning.{protocol_of}
 use Rattle.scr_tree.specs.Tree.{LocalTree}
 use Rattle.scr_tree.specs.Valid.{IsValid}
 use Rattle.scr_back.specs.Same.{AreSame}
 use Rattle.scr_global.specs.Tree.{said}
 use Rattle.scr_global.specs.Texts.{projected}
-use Rattle.scr_faithful.specs.Guarded.{IsGuarded}
 use Rattle.scr_faithful.proofs.Guarding.{clean_is_guarded}
 use Rattle.scr_global_tree.specs.Tree.{GlobalTree}
 use Rattle.scr_global_tree.specs.Valid.{IsValid as IsValidGlobal}
 use Rattle.scr_project.specs.Outcome as projects
 use Rattle.scr_project.proofs.Promises.{clean_of, are_projections}
-use Rattle.jv_values.specs.Values.{Inputs}
-use Rattle.jv_meaning.specs.Meaning.{mean}
-use Rattle.jv_rules.specs.Faults.{IsWellTyped}
 use Rattle.jv_rules.specs.Program.{Program}
 use Rattle.jv_rules.specs.Shape.{IsShaped}
 use Rattle.jv_rules.proofs.Positive.{clean_at}
 use Rattle.jv_core.specs.Tree as Core
 use Rattle.jv_core.specs.Conditions.{IsCore}
-use Rattle.jv_core.specs.Lookup.{class_text, class_numbered, is_main}
 use Rattle.jv_core.specs.Meaning.{main_of}
-use Rattle.jv_names.specs.Resolves.{IsClass, Resolves}
+use Rattle.jv_names.specs.Resolves.{Resolves}
 use Rattle.jv_names.proofs.Clean.{judged_clean}
 use Rattle.jv_names.proofs.Declared.{in_map, of_map, position_of, got_in}
 use Rattle.jv_names.proofs.Kept.{core_is_kept}
 use Rattle.jv_resolve_law.specs.ShapedLaws.{SpelledIsShaped}
 use Rattle.stm_acts.specs.Held.{HoldsApi}
 use Rattle.stm_acts.specs.Played.{role_class, HasRole}
-use Rattle.vm_model.specs.Program.{Program as Machine}
 use Rattle.vm_world_law.specs.declared.role.RoleMain.{RoleMain}
-use Rattle.vm_world_law.specs.World.{World, turns, IsBegun}
-use Rattle.fit_law.specs.Fit.{AreLocals, IsHad, KeepsTo, AreMeant}
+use Rattle.fit_law.specs.Fit.{AreLocals, IsHad}
 use Rattle.fit_same.proofs.Sameness.{same_are_locals}
 use Rattle.fit_play.specs.Play.{PlayIn, AllKeep}
 use Rattle.fit_play.proofs.Had.{api_is_had}
 use Rattle.fit_play.proofs.Play.{none_gets_stuck_in, runs_end_well, turns_are_reached, turns_converse}
 use Rattle.fit_uses.specs.declared.usage.Use.{Use}
 use Rattle.fit_uses.specs.declared.usage.Use.TheVariants.{Talks, Makes}
-use Rattle.fit_uses.specs.Uses.{uses_beside_making}
 use Rattle.mg_sources.specs.Files.{Source}
 use Rattle.mg_sources.specs.Reading.{Part, Protocol, Reads}
 use Rattle.mg_accepted.specs.Accepted.{AreAccepted}
@@ -59,8 +50,8 @@ use Rattle.mg_accepted_law.proofs.Read.{valid_read}
 use Rattle.mg_fits.specs.Conditions as conditions
 use Rattle.mg_fits.specs.Fits.{Fits}
 use Rattle.mg_fits.specs.Laws.{RolesThatFit}
-use Rattle.mg_fits.specs.Parts.{Headed, header, protocols_in, roles_in, own_local, own_uses}
-use Rattle.mg_fits.proofs.Calm.{IsFree, AreFree}
+use Rattle.mg_fits.specs.Parts.{Headed, header, roles_in, own_local, own_uses}
+use Rattle.mg_fits.proofs.Calm.{AreFree}
 use Rattle.mg_fits.proofs.Sourced.{NoRole}
 use Rattle.mg_fits.proofs.Parts.{surely_in, surely_same, surely_equal, headed, read_in, has_own}
 use Rattle.mg_fits.proofs.Playing.{Differ, class_text_is, only_mains_play, main_plays_one}
@@ -147,14 +138,16 @@ module _ (global : Source) (files : List Source) (mains : List RoleMain) (core :
 
   known : (r : ℕ) (main : RoleMain) → slice_get mains r ≡ Some main → Contains g.roles main.role
   known r main at = surely_in g.roles main.role
-      (λ n. clean_at (conditions.IsStranger global.number g parts core mains) mains clean.strangers main (got_in mains r main at) _ (n, refl))
+      (λ n. clean_at (conditions.IsStranger global.number g parts core mains) mains clean.strangers main (got_in mains r main at) _
+      (n, refl))
 
   in_files : (me : Name) → Contains g.roles me → Contains (roles_in parts) me
   in_files me has =
       let h = of_header me has in
       subst (Contains (roles_in parts)) h.2
       (surely_in (roles_in parts) h.0.role
-      (λ n. clean_at (conditions.HasNoProtocol global.number g parts core mains) (header g.roles g.places) clean.without h.0 h.1 _ (n, refl)))
+      (λ n. clean_at (conditions.HasNoProtocol global.number g parts core mains) (header g.roles g.places) clean.without h.0 h.1 _
+      (n, refl)))
 
   within : (me : Name) → Contains among me → Contains (roles_in parts) me
   within me has = ⊎_elim (in_files me) (λ c. c) (Contains-append_cases g.roles (roles_in parts) me has)

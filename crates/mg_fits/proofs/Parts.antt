@@ -1,8 +1,7 @@
 -- What lists of names, protocols and headers have.
-use Rattle.std.proofs.Common.{◌≡◌, ℕ, zero, suc, Bool, true, false, true≢false, List, [], ◌∷◌, ◌++◌, length, map, Option, Some, None}
+use Rattle.std.proofs.Common.{◌≡◌, ℕ, Bool, true, false, true≢false, List, [], ◌∷◌, length, Option, Some, None}
 use Rattle.std.proofs.Common.{refl, sym, ap, ◌∙◌}
-use Rattle.std.proofs.Common.{subst, slice_get, Contains, ⊎_elim, flat_map, eqb, arith}
-use Rattle.std.proofs.Math.Logic.{∥∥₁_elim}
+use Rattle.std.proofs.Common.{subst, Contains, ⊎_elim, eqb, arith}
 use Rattle.std.specs.Prelude.{cond, find, unwrap_or}
 use Rattle.std.specs.List.{list_any}
 use Rattle.std.specs.Str.{bytes_eq}
@@ -15,11 +14,11 @@ use Rattle.scr_back.specs.Same.{AreSame}
 use Rattle.scr_same.specs.inner.Alike.{is_alike}
 use Rattle.scr_same.proofs.Decided.{true_same, same_true}
 use Rattle.jv_rules.proofs.Tests.{nothing_in, in_cases, in_first, in_later, any_decides}
-use Rattle.jv_names.proofs.Declared.{in_map, of_map}
+use Rattle.jv_names.proofs.Declared.{of_map}
 use Rattle.jv_names.proofs.Tables.{some_is, none_some, found_passes}
 use Rattle.mg_sources.specs.Files.{Source}
 use Rattle.mg_sources.specs.Reading.{Part, Protocol, States, Classes, Reads, EachSpells}
-use Rattle.mg_fits.specs.Parts.{Headed, header, protocol_in, protocols_in, roles_in, own_local}
+use Rattle.mg_fits.specs.Parts.{Headed, header, protocols_in, roles_in, own_local}
 
 -- what isn't absent stands in a list of names
 pub surely_in : (xs : List Name) (x : Name) → ((Contains xs x → ⊥) → ⊥) → Contains xs x

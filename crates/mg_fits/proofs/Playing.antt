@@ -1,16 +1,16 @@
 -- Where no condition of fitting is at fault, the sources are quiet, but for the `main` of each role, which makes one object of its class.
-use Rattle.std.proofs.Common.{◌≡◌, ◌≢◌, ◌⊎◌, inl, inr, ⊎_elim, ℕ, zero, suc, Bool, true, false, true≢false, List, [], ◌∷◌, ◌++◌, map}
+use Rattle.std.proofs.Common.{◌≡◌, ◌≢◌, ℕ, zero, suc, Bool, true, false, true≢false, List, [], ◌∷◌, ◌++◌, map}
 use Rattle.std.proofs.Common.{Option, Some, None}
 use Rattle.std.proofs.Common.{refl, sym, ap, ◌∙◌, subst, slice_get, option_map, option_and_then, Contains, flat_map, ◌||◌, ◌&&◌}
 use Rattle.std.specs.Prelude.{if◌then◌else◌, cond, find, unwrap_or}
-use Rattle.std.specs.List.{AllByRecursion, list_any}
+use Rattle.std.specs.List.{AllByRecursion}
 use Rattle.std.specs.Str.{bytes_eq}
 use Rattle.std.proofs.lemmas.Slice.Eq.{bytes_eq-Decides}
 use Rattle.std.proofs.lemmas.List.Elements.{Contains-append_left, Contains-append_right}
 use Rattle.std.proofs.lemmas.List.{map-append}
 use Rattle.mg_text.specs.Call.{Name}
 use Rattle.mg_text.specs.declared.place.Place.{Place}
-use Rattle.mg_read.specs.First.{Judged, Clean, behind, with_earlier}
+use Rattle.mg_read.specs.First.{behind, with_earlier}
 use Rattle.scr_tree.specs.Protocol.{Parts, Send, Take}
 use Rattle.ts_tree.specs.Typestate.{Typestate}
 use Rattle.jv_tree.specs.declared.tree.Param.{Param}
@@ -20,15 +20,15 @@ use Rattle.jv_meaning.specs.Names.{is_main}
 use Rattle.jv_meaning.specs.Names as meant
 use Rattle.jv_rules.specs.Program.{Program, is_of_protocol}
 use Rattle.jv_rules.specs.Scope as typed
-use Rattle.jv_rules.proofs.Tests.{nothing_in, in_cases, in_first, in_later}
+use Rattle.jv_rules.proofs.Tests.{in_first, in_later}
 use Rattle.jv_core.specs.Tree as Core
 use Rattle.jv_core.specs.Conditions.{IsCore, IsMethod as IsCoreMethod}
 use Rattle.jv_core.specs.Lookup.{text_at, class_text, class_numbered}
 use Rattle.jv_core.specs.Lookup as looks
 use Rattle.jv_core.specs.Meaning.{main_of}
-use Rattle.jv_names.specs.Resolves.{Owned, IsClass, MethodIs, methods_of, Resolves}
-use Rattle.jv_names.proofs.Clean.{all_left, all_right, judged_clean}
-use Rattle.jv_names.proofs.Declared.{got_in, in_map}
+use Rattle.jv_names.specs.Resolves.{Owned, IsClass, MethodIs, Resolves}
+use Rattle.jv_names.proofs.Clean.{all_left, all_right}
+use Rattle.jv_names.proofs.Declared.{got_in}
 use Rattle.jv_names.proofs.Lookups.{owned_by}
 use Rattle.jv_names.proofs.Main.{class_stands, mains_are_the_same}
 use Rattle.jv_names.proofs.Naming.{kind_by}
@@ -39,13 +39,12 @@ use Rattle.stm_api.specs.Doings.{Doing, Passes, Asks}
 use Rattle.stm_api.specs.Api as api
 use Rattle.stm_acts.specs.Played.{role_class, HasRole}
 use Rattle.stm_acts.specs.Ends.{HasRoles}
-use Rattle.stm_acts.specs.Calm.{Scope, with_params, scope_of, EveryInAll, IsQuiet, IsNoRole, OnlyMainsPlay, MakesOne, MainPlaysOne}
+use Rattle.stm_acts.specs.Calm.{with_params, scope_of, EveryInAll, IsQuiet, IsNoRole, OnlyMainsPlay, MakesOne, MainPlaysOne}
 use Rattle.vm_world_law.specs.declared.role.RoleMain.{RoleMain}
 use Rattle.fit_uses.specs.declared.usage.Use.{Use}
-use Rattle.fit_uses.specs.declared.usage.Use.TheVariants.{Talks, Makes}
 use Rattle.fit_uses.specs.Uses.{uses_in_all, uses_beside_making}
-use Rattle.mg_fits.specs.Parts.{is_role_class, has_role_class, role_of_main, class_to_make, uses_of_method, own_uses}
-use Rattle.mg_fits.proofs.Calm.{IsFree, AreFree, CalmInAll, MakesIn, calm_in_all, making}
+use Rattle.mg_fits.specs.Parts.{is_role_class, has_role_class, role_of_main, uses_of_method, own_uses}
+use Rattle.mg_fits.proofs.Calm.{IsFree, AreFree, calm_in_all, making}
 use Rattle.mg_fits.proofs.Sourced.{seen, Known, NoRole, quiet_in_all, makes}
 
 -- ---- lists

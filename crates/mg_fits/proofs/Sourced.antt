@@ -1,8 +1,8 @@
 -- Sources that a calm core stands for are quiet, but for mains that make one object.
 use Rattle.std.proofs.Common.{◌≡◌, ◌≢◌, ℕ, Bool, true, false, true≢false, List, [], ◌∷◌, map, Option, Some, None, refl, sym, ap, ◌∙◌, subst}
-use Rattle.std.proofs.Common.{slice_get, option_map, option_and_then, ◌||◌, ◌&&◌}
-use Rattle.std.specs.Prelude.{if◌then◌else◌, is_some, codes, cond}
-use Rattle.std.specs.List.{AllByRecursion, list_any, find}
+use Rattle.std.proofs.Common.{option_map, option_and_then, ◌||◌, ◌&&◌}
+use Rattle.std.specs.Prelude.{if◌then◌else◌, is_some, cond}
+use Rattle.std.specs.List.{list_any}
 use Rattle.std.specs.Str.{bytes_eq}
 use Rattle.std.proofs.lemmas.Slice.Eq.{bytes_eq-Decides}
 use Rattle.mg_text.specs.Call.{Name}
@@ -12,7 +12,7 @@ use Rattle.jv_tree.specs.Source.{Expr, Variable, Member, This, Method, Class, Fi
 use Rattle.jv_tree.specs.Source.{Stmt, Block, Empty, Local, Assign, If, IfElse, While, Do, Switch, Break, Continue, Return, Print, Eval}
 use Rattle.jv_tree.specs.Source.{Stmts, Then, Groups}
 use Rattle.jv_tree.specs.Source as Source
-use Rattle.jv_meaning.specs.Program.{classes_of, class_named, field_named, method_named}
+use Rattle.jv_meaning.specs.Program.{class_named, field_named, method_named}
 use Rattle.jv_meaning.specs.Names.{is_main}
 use Rattle.jv_rules.specs.Program.{Program}
 use Rattle.jv_rules.specs.Types.{ValueType, TextType}
@@ -31,7 +31,7 @@ use Rattle.jv_names.proofs.Tables.{some_is, aligned_at, class_name}
 use Rattle.stm_acts.specs.Calm.{Scope, behind_it, is_variable, Every, EveryArgument, EveryIn, EveryInAll, EveryInGroups, IsQuiet, IsQuietOn}
 use Rattle.stm_acts.specs.Calm.{HasNoMain, IsNoRole, NoReturn, NoReturnIn, NoReturnInGroups, MakesOne, here_it_is, behind}
 use Rattle.fit_uses.specs.Uses.{returns, returns_in, returns_in_groups}
-use Rattle.mg_fits.proofs.Calm.{IsNoMain, Calm, CalmAll, CalmIn, CalmInAll, CalmInGroups, CalmValue, MakesIn, it_makes, then_makes}
+use Rattle.mg_fits.proofs.Calm.{IsNoMain, Calm, CalmAll, CalmIn, CalmInAll, CalmInGroups, MakesIn, it_makes, then_makes}
 use Rattle.mg_fits.proofs.Calm.{declare_makes}
 
 -- ---- truth values
