@@ -252,7 +252,7 @@ all_keep kept files core accepted mains have r main at inputs budget =
     record { no_null = k.no_null; follows = k.follows; finished = k.finished }
 
 pub roles_that_fit : SpelledIsShaped → AcceptedKeepTypestates → RolesThatFit
-roles_that_fit law kept global files mains core fits accepted have program first begun meant =
+roles_that_fit law kept files core accepted mains have program first begun meant global fits =
     let sources = accepted.have.program in
     let play : PlayIn sources.files sources.typestates fits.tree.roles (said fits.tree.body) (own_local fits.parts fits.locals) mains =
     plays global files mains core fits sources accepted.have.are accepted.have.stands law have in

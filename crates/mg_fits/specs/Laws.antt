@@ -13,12 +13,16 @@ use Rattle.mg_fits.specs.Fits.{Fits}
 use Rattle.mg_fits.specs.Parts.{own_local}
 use Rattle.mg_fits.specs.Promise.{NoneGetsStuck}
 
--- For files that fit, each role at the `main` of its class, where after every list of turns each role did what is meant. The local
--- protocols are those of the files.
+-- Whatever global protocol these accepted files fit, run by these roles, none of them gets stuck. The local protocols are the files' own.
+abbrev pub NoneIsStuckWhereFit : (files : List Source) (core : Core.Program) → AreAccepted files core → List RoleMain → Program → World →
+    Type 0
+NoneIsStuckWhereFit files core accepted mains program first = (global : Source) (fits : Fits global files mains core) →
+    NoneGetsStuck accepted.have.program.files fits.tree.roles (said fits.tree.body) (own_local fits.parts fits.locals) mains program first
+
+-- So it is where each role begins at the `main` of its class, and after every list of turns each did what is meant.
 abbrev pub RolesThatFit : Type 0
-RolesThatFit = (global : Source) (files : List Source) (mains : List RoleMain) (core : Core.Program)
-    (fits : Fits global files mains core) (accepted : AreAccepted files core) →
+RolesThatFit = (files : List Source) (core : Core.Program) (accepted : AreAccepted files core) (mains : List RoleMain) →
     ((r : ℕ) (main : RoleMain) → slice_get mains r ≡ Some main → main_of core main.class ≢ None) →
     (program : Program) (first : World) → IsBegun program mains first →
     ((taken : List ℕ) → AreMeant accepted.have.program.files mains program (turns program first taken)) →
-    NoneGetsStuck accepted.have.program.files fits.tree.roles (said fits.tree.body) (own_local fits.parts fits.locals) mains program first
+    NoneIsStuckWhereFit files core accepted mains program first
