@@ -1,13 +1,13 @@
 -- The law: the system that a world is isn't stuck.
-use Rattle.std.proofs.Common.{◌≡◌, ◌≢◌, ◌⊎◌, inl, inr, ⊎_elim, ℕ, zero, suc, ◌+◌, ◌<◌, ◌≤◌, leb, Bool, true, false, List, [], ◌∷◌, ◌++◌, map, length}
-use Rattle.std.proofs.Common.{Option, Some, None, refl, sym, ap, ◌∙◌, subst, position, arith, append-nil}
-use Rattle.std.specs.Prelude.{◌==◌, if◌then◌else◌, slice_get, Contains, cond}
-use Rattle.std.specs.List.{IsDistinct, filter}
+use Rattle.std.proofs.Common.{◌≡◌, ◌≢◌, ◌⊎◌, inl, inr, ⊎_elim, ℕ, suc, ◌+◌, ◌<◌, true, false, List, [], ◌∷◌, ◌++◌}
+use Rattle.std.proofs.Common.{map, length}
+use Rattle.std.proofs.Common.{Some, None, refl, sym, ap, ◌∙◌, subst, arith, append-nil}
+use Rattle.std.specs.Prelude.{◌==◌, slice_get, Contains}
+use Rattle.std.specs.List.{IsDistinct}
 use Rattle.std.specs.Str.{bytes_eq}
-use Rattle.std.proofs.lemmas.Bool.Decides.{eqb_tells, leb_tells}
+use Rattle.std.proofs.lemmas.Bool.Decides.{eqb_tells}
 use Rattle.mg_text.specs.Call.{Name}
 use Rattle.mg_text.specs.declared.event.Event.{Event}
-use Rattle.mg_text.specs.declared.event.Event.TheVariants as seen
 use Rattle.mg_text.specs.declared.event.Sent.{Sent}
 use Rattle.mg_text.specs.declared.event.Ending.{Ending}
 use Rattle.mg_text.specs.declared.event.Ending.TheVariants as endings
@@ -18,15 +18,14 @@ use Rattle.scr_tree.specs.Meaning.{first_of, protocol_of}
 use Rattle.scr_tree.specs.Protocol.{Message, Send, Take, Protocol}
 use Rattle.scr_tree.specs.Steps.{Act, Moves, Looks, Position, whole, stays}
 use Rattle.scr_tree.specs.Traces.{Complete}
-use Rattle.scr_global.specs.Alone.{Step, Finished}
+use Rattle.scr_global.specs.Alone.{Step, Run, Finished}
 use Rattle.scr_global.specs.Global.{Passing, Global}
 use Rattle.scr_global.specs.Points as conversations
-use Rattle.scr_global.specs.Systems.{Parcel, parcel, System, Moved, Reaches, initial, waits_for}
-use Rattle.scr_global.specs.Systems as systems
+use Rattle.scr_global.specs.Systems.{Parcel, System, Moved, Reaches, initial, waits_for}
 use Rattle.scr_global.specs.Laws as global_law
 use Rattle.scr_global.specs.Laws.{AreProjections}
 use Rattle.scr_global.proofs.Stuck.{messages_are_taken, none_is_stuck}
-use Rattle.fit_next.specs.Next.{Alike, same, both_send, both_look}
+use Rattle.fit_next.specs.Next.{Alike}
 use Rattle.fit_next.proofs.Next.{next_is_alike, finished_stops}
 use Rattle.fit_next.proofs.Inside.{Says, IsPeer, says_projected, peer_at}
 use Rattle.ts_tree.specs.Typestate.{Typestate}
@@ -36,7 +35,7 @@ use Rattle.stm_acts.specs.Played.{role_class, Refuses}
 use Rattle.stm_acts.proofs.Standing.{Of}
 use Rattle.jv_values.specs.Alike.{Prefix}
 use Rattle.jv_values.specs.Values.{Inputs, Ended, Finish, Done, Zero, Null, Mismatch, NoPeer, Wait, More, Wrong}
-use Rattle.jv_values.specs.Messages.{messages_of, takes_from, taken}
+use Rattle.jv_values.specs.Messages.{messages_of, taken}
 use Rattle.jv_values.specs.Seen.{IsMade, told, open_told}
 use Rattle.jv_meaning.specs.Program.{Sources}
 use Rattle.jv_meaning.specs.Meaning.{mean}
@@ -48,8 +47,6 @@ use Rattle.vm_model.specs.Step.{step}
 use Rattle.vm_world_law.specs.declared.role.RoleMain.{RoleMain}
 use Rattle.vm_world_law.specs.declared.stand.Stand.{Stand}
 use Rattle.vm_world_law.specs.declared.stand.Stand.TheVariants as stands
-use Rattle.vm_world_law.specs.Doing.{Answer, Looks as LooksAt, Takes, Refuses as RefusesIt, Doing as Doings, Goes, Ends, Sends, Receives}
-use Rattle.vm_world_law.specs.Doing.{answers, receives, done, IsDoing}
 use Rattle.vm_world_law.specs.Meant.{finish_of, Means}
 use Rattle.vm_world_law.specs.World.{State, Runs, Over, Role, World, turns, IsBegun, IsFresh, events_of, name_of, sent, took, taken_from}
 use Rattle.vm_world_law.specs.World.{waits_by, IsStill, Rests}
@@ -57,11 +54,9 @@ use Rattle.vm_world_law.specs.Turns.{stand_of, waiting_for}
 use Rattle.vm_world_law.specs.Worlds.{inputs_of, Shows, IsMeant}
 use Rattle.vm_world_law.specs.Laws.{Delivers}
 use Rattle.vm_world_law.proofs.Begun.{begun_is_fresh}
-use Rattle.vm_world_law.proofs.Doing.{does_one}
 use Rattle.vm_world_law.proofs.Inputs.{its_inputs}
 use Rattle.vm_world_law.proofs.Alone.{kept_by}
 use Rattle.vm_world_law.proofs.Lists.{some_is, got_within}
-use Rattle.vm_world_law.proofs.Ways.{other_is, named_within}
 use Rattle.stm_acts.specs.Ends.{deeds, peer_in, Wants, IsOther, IsCut, IsBusy, Halts, waits, misses, mismatches, StandsAt, EndsInCall, cut}
 use Rattle.stm_acts.specs.Ends.{halts, refuses, IsDoneByOne, not_yet, by_one}
 use Rattle.scr_faithful.specs.Guarded.{IsGuarded}
@@ -69,187 +64,14 @@ use Rattle.scr_faithful.specs.Faithful.{CanEnd}
 use Rattle.scr_faithful.proofs.Faithful.{complete_is_conversation, each_has_done_its_part}
 use Rattle.scr_faithful.specs.Heard.{NoneIsForgotten}
 use Rattle.scr_faithful.proofs.Heard.{each_has_done_a_part}
-use Rattle.fit_law.specs.Conversed.{TurnsGoOnInConversation, passed, RestIsConversation, TurnsAreInConversation}
+use Rattle.fit_law.specs.Conversed.{TurnsGoOnInConversation, passed, parcel_of, RestIsConversation, TurnsAreInConversation}
+use Rattle.fit_law.specs.Conversed.{IsConfiguration, IsFinished, TurnsAreConfigurations, RestIsFinished}
 use Rattle.fit_law.specs.Fit.{IsHad, KeepsTo, IsCast, AreMeant, IsWell, IsComplete, NoneGetsStuck}
 use Rattle.fit_law.proofs.Deeds.{deeds-append, Walked, walked, but_look}
-use Rattle.fit_law.proofs.Worlds.{parcel_of, Stands, Good, fresh_is_good, turns_good}
-use Rattle.fit_law.proofs.Objects.{label_known, runs_so, Ahead, ahead, refusal, refused_ahead, completes, at_end}
-
--- ---- systems
-
--- a move is a step
-moved_step : {me : Name} {c d : System} {act : Act} → Moved me c act d → (to : Position) × Step (c.at me) act to
-moved_step (systems.sends {to = to} step) = (to, step)
-moved_step (systems.takes {to = to} step e) = (to, step)
-moved_step (systems.looks {to = to} step e) = (to, step)
-
--- a move that wants a message finds one
-record Found (c : System) (me peer : Name) (act : Act) : Type 0 where
-  label : Name
-  kind : Payload
-  others : List Parcel
-  there : c.lists peer me ≡ parcel label kind ∷ others
-  is : (act ≡ Moves (Take peer label kind)) ⊎ ((n : ℕ) × (act ≡ Looks n peer label))
-
-moved_finds : {me peer : Name} {c d : System} {act : Act} → Moved me c act d → waits_for act ≡ Some peer → Found c me peer act
-moved_finds (systems.sends step) w = absurd (cc w)
-moved_finds {me} {peer} {c} (systems.takes {peer = theirs} {label = label} {kind = kind} {others = others} it e) w =
-    let f : theirs ≡ peer = some_is w in
-    record {
-      label = label;
-      kind = kind;
-      others = others;
-      there = ap (λ q. c.lists q me) (sym f) ∙ e;
-      is = inl (ap (λ q. Moves (Take q label kind)) f);
-    }
-moved_finds {me} {peer} {c} (systems.looks {number = n} {peer = theirs} {label = label} {kind = kind} {others = others} it e) w =
-    let f : theirs ≡ peer = some_is w in
-    record {
-      label = label;
-      kind = kind;
-      others = others;
-      there = ap (λ q. c.lists q me) (sym f) ∙ e;
-      is = inr (n, ap (λ q. Looks n q label) f);
-    }
-
-alike_waits : {a b : Act} {peer : Name} → Alike a b → waits_for a ≡ Some peer → waits_for b ≡ Some peer
-alike_waits same w = w
-alike_waits both_send w = absurd (cc w)
-alike_waits both_look w = w
-
-alike_take : {peer label : Name} {kind : Payload} {a b : Act} → a ≡ Moves (Take peer label kind) → Alike a b →
-    b ≡ Moves (Take peer label kind)
-alike_take e same = e
-alike_take e both_send = absurd (cc e)
-alike_take e both_look = absurd (cc e)
-
-alike_look : {n : ℕ} {peer label : Name} {a b : Act} → a ≡ Looks n peer label → Alike a b → (l : Name) × (b ≡ Looks n peer l)
-alike_look {label = label} e same = (label, e)
-alike_look e both_send = absurd (cc e)
-alike_look {n} {peer} {label} e (both_look {n = m} {p = p} {l = l} {k = k}) =
-    let f : m ≡ n = numbers e in
-    let g : p ≡ peer = peers e in
-    (k, ap (λ x. Looks x p k) f ∙ ap (λ x. Looks n x k) g)
-  where
-    numbers : {m n : ℕ} {p q l k : Name} → Looks m p l ≡ Looks n q k → m ≡ n
-    numbers e = cc
-
-    peers : {m n : ℕ} {p q l k : Name} → Looks m p l ≡ Looks n q k → p ≡ q
-    peers e = cc
-
--- ---- lists
-
-map_nothing : {A B : Type 0} (f : A → B) (xs : List A) → map f xs ≡ [] → xs ≡ []
-map_nothing f [] e = refl
-map_nothing f (x ∷ xs) e = absurd (cc e)
-
-heads : {A : Type 0} {x y : A} {xs ys : List A} → x ∷ xs ≡ y ∷ ys → x ≡ y
-heads e = cc
-
-labels_are : {l k : Name} {a b : Payload} → parcel l a ≡ parcel k b → (l ≡ k) × (a ≡ b)
-labels_are e = (ap (λ (x : Parcel). x.label) e, ap (λ (x : Parcel). x.kind) e)
-
--- as many were taken
-taken_long : (q : Name) (es : List Event) → length (taken_from q es) ≡ taken q es
-taken_long q [] = refl
-taken_long q (seen.Print t ∷ es) = taken_long q es
-taken_long q (seen.Made o c ∷ es) = taken_long q es
-taken_long q (seen.Enter o m ∷ es) = taken_long q es
-taken_long q (seen.Leave o a ∷ es) = taken_long q es
-taken_long q (seen.Send p l c ∷ es) = taken_long q es
-taken_long q (seen.Look p l ∷ es) = taken_long q es
-taken_long q (seen.Take p l c ∷ es) = go (bytes_eq q p) refl (taken_long q es)
-  where
-    long : (b : Bool) → length (taken_from q es) ≡ taken q es →
-        length ((if b then record { label = l; payload = c } ∷ [] else []) ++ taken_from q es)
-        ≡ length (cond b (seen.Take p l c ∷ filter (takes_from q) es) (filter (takes_from q) es))
-    long true h = ap suc h
-    long false h = h
-
-    go : (b : Bool) → bytes_eq q p ≡ b → length (taken_from q es) ≡ taken q es →
-        length (taken_from q (seen.Take p l c ∷ es)) ≡ taken q (seen.Take p l c ∷ es)
-    go b e h =
-        ap (λ (x : Bool). length ((if x then record { label = l; payload = c } ∷ [] else []) ++ taken_from q es)) e
-        ∙ long b h
-        ∙ sym (ap (λ (x : Bool). length (cond x (seen.Take p l c ∷ filter (takes_from q) es) (filter (takes_from q) es))) e)
-
-got_behind : {A : Type 0} (xs ys : List A) (x : A) → slice_get (xs ++ ys) (length xs) ≡ Some x → (more : List A) × (ys ≡ x ∷ more)
-got_behind [] [] x e = absurd (cc e)
-got_behind [] (y ∷ ys) x e = let f : y ≡ x = some_is e in (ys, ap (λ z. z ∷ ys) f)
-got_behind (z ∷ xs) ys x e = got_behind xs ys x e
-
--- ---- a machine that waits
-
-record Emptied (q : Messages) (me from : ℕ) : Type 0 where
-  empty : on_way q from me ≡ []
-  within : from < length q.roles
-
-waits_at : (q : Messages) (me k : ℕ) (d : Doings) → IsDoing q.roles me d → done q me d ≡ Waits k → Emptied q me k
-waits_at q me k (Goes m event) right e = absurd (cc e)
-waits_at q me k (Ends ending) right e = absurd (cc e)
-waits_at q me k (Sends m to peer message) right e = absurd (cc e)
-waits_at q me k (Receives from peer a) right e = go (on_way q from me) refl e
-  where
-    answered : (message : Sent) (more : List Sent) (x : Answer) → answers q me from peer message more x ≡ Waits k → ⊥
-    answered message more (LooksAt m) e = cc
-    answered message more (Takes m) e = cc
-    answered message more RefusesIt e = cc
-
-    go : (list : List Sent) → on_way q from me ≡ list → receives q me from peer a list ≡ Waits k → Emptied q me k
-    go [] is e =
-        let f : from ≡ k = waits_is e in
-        subst (λ x. Emptied q me x) f
-        (record { empty = is; within = named_within q.roles peer from (other_is me (position (bytes_eq peer) q.roles) from right).is })
-      where
-        waits_is : {a b : ℕ} → Waits a ≡ Waits b → a ≡ b
-        waits_is e = cc
-    go (message ∷ more) is e = absurd (answered message more (a message) e)
-
-step_waits : (p : Program) (me : ℕ) (m : Machine) (q : Messages) (k : ℕ) → step p me m q ≡ Waits k → Emptied q me k
-step_waits p me m q k e =
-    let one = does_one q.roles me p m in
-    waits_at q me k one.doing one.right (sym (one.is q refl) ∙ e)
-
--- ---- choosing where each role stands
-
-abbrev Below : (i n : ℕ) → Type 0
-Below i n = (leb (suc i) n ≡ true) × (suc i ≤ n) ⊎ (leb (suc i) n ≡ false) × (n < suc i)
-
-module _ (n : ℕ) (W : (i : ℕ) → Position → Type 0) where
-  abbrev ends_by : ((i : ℕ) → i < n → (end : Position) × W i end) → (i : ℕ) → Below i n → Position
-  ends_by f i (inl h) = (f i h.1).0
-  ends_by f i (inr h) = []
-
-  record Chosen : Type 0 where
-    ends : ℕ → Position
-    are : (i : ℕ) → i < n → W i (ends i)
-
-  choose : ((i : ℕ) → i < n → (end : Position) × W i end) → Chosen
-  choose f = record { ends = λ i. ends_by f i (leb_tells (suc i) n); are = λ i h. go i h (leb_tells (suc i) n) }
-    where
-      go : (i : ℕ) → i < n → (b : Below i n) → W i (ends_by f i b)
-      go i h (inl k) = (f i k.1).1
-      go i h (inr k) = absurd (let a = k.1 in omega (arith, a, h))
-
--- ---- names of roles
-
-record MainAt (mains : List RoleMain) (i : ℕ) : Type 0 where
-  main : RoleMain
-  at : slice_get mains i ≡ Some main
-  named : slice_get (map (λ (m : RoleMain). m.role) mains) i ≡ Some main.role
-
-main_at : (mains : List RoleMain) (i : ℕ) → i < length (map (λ (m : RoleMain). m.role) mains) → MainAt mains i
-main_at [] i h = absurd (omega (arith, h))
-main_at (m ∷ mains) zero h = record { main = m; at = refl; named = refl }
-main_at (m ∷ mains) (suc i) h =
-    let r = main_at mains i (omega (arith, h)) in
-    record { main = r.main; at = r.at; named = r.named }
-
-name_at : (mains : List RoleMain) (i : ℕ) (main : RoleMain) → slice_get mains i ≡ Some main →
-    slice_get (map (λ (m : RoleMain). m.role) mains) i ≡ Some main.role
-name_at [] i main e = absurd (cc e)
-name_at (m ∷ mains) zero main e = ap (λ (o : Option RoleMain). Rattle.std.specs.Prelude.option_map (λ (x : RoleMain). x.role) o) e
-name_at (m ∷ mains) (suc i) main e = name_at mains i main e
+use Rattle.fit_law.proofs.Worlds.{Stands, Good, fresh_is_good, turns_good}
+use Rattle.fit_law.proofs.Objects.{label_known, runs_so, exactly_so, Ahead, ahead, refusal, refused_ahead, completes, at_end}
+use Rattle.fit_law.proofs.Moves.{moved_step, moved_finds, alike_waits, alike_take, alike_look, map_nothing, heads, labels_are, taken_long}
+use Rattle.fit_law.proofs.Moves.{got_behind, Emptied, step_waits, Chosen, choose, main_at, name_at}
 
 module _ (j : Sources) (typestates : List Typestate) (roles : List Name) (g : Global) (locals : Name → LocalTree)
     (mains : List RoleMain) (cast : IsCast j typestates roles g locals mains) (p : Program) (first : World)
@@ -300,6 +122,13 @@ module _ (j : Sources) (typestates : List Typestate) (roles : List Name) (g : Gl
 
     abbrev Walk : ℕ → Position → Type 0
     Walk i end = Walked (protocols (name i)) (deeds (events_of i w.events)) end
+
+    -- a run of the role's protocol that has just its deeds
+    abbrev Exactly : ℕ → Position → Type 0
+    Exactly i end = (all : List Act) × Run (whole (protocols (name i))) all end × (deeds (events_of i w.events) ≡ map unnumbered all)
+
+    as_walk : (i : ℕ) {end : Position} → Exactly i end → Walk i end
+    as_walk i x = walked x.0 x.1 x.2
 
     -- ---- one role
 
@@ -521,6 +350,11 @@ module _ (j : Sources) (typestates : List Typestate) (roles : List Name) (g : Gl
             subst (λ n. Walked (protocols n) (deeds (es r main at_main)) end) (sym (name_is r main at_main))
             (subst (λ ds. Walked (first_of (L r main at_main)) ds end) (sym deeds_are) x)
 
+        exactly_named : {end : Position} (all : List Act) → Run (whole (first_of (L r main at_main))) all end →
+            acts o E ≡ map unnumbered all → Exactly r end
+        exactly_named {end} all run e =
+            (all, subst (λ n. Run (whole (protocols n)) all end) (sym (name_is r main at_main)) run, deeds_are ∙ e)
+
         ahead_of : (doing : Doing) → StandsAt j (L r main at_main).me (protocol_of (L r main at_main)) o E doing →
             Ahead j typestates (L r main at_main) (valid r main at_main) (had r main at_main) (P r main at_main) (says r main at_main)
             main.class (inputs r main at_main) (suc (role r main at_main).count) (keeps r main at_main) o made doing
@@ -541,7 +375,8 @@ module _ (j : Sources) (typestates : List Typestate) (roles : List Name) (g : Gl
             found : Numbered peer → Peer peer
             found k =
                 let z : 0 + k.number ≡ k.number = omega arith in
-                let at : slice_get w.messages.roles k.number ≡ Some peer = ap (λ (x : List Name). slice_get x k.number) good.named ∙ k.there in
+                let at : slice_get w.messages.roles k.number ≡ Some peer = ap (λ (x : List Name). slice_get x k.number) good.named ∙
+                k.there in
                 record {
                   number = k.number;
                   lower = k.within;
@@ -554,7 +389,8 @@ module _ (j : Sources) (typestates : List Typestate) (roles : List Name) (g : Gl
 
         -- the next message is another than that which is taken
         no_mismatch : {peer label : Name} {kind : Payload} {messages : List Sent} {message : Sent} →
-            StandsAt j (L r main at_main).me (protocol_of (L r main at_main)) o E (Passes (Take peer label kind)) → messages_of (inputs r main at_main) peer ≡ Some messages →
+            StandsAt j (L r main at_main).me (protocol_of (L r main at_main)) o E (Passes (Take peer label kind)) →
+            messages_of (inputs r main at_main) peer ≡ Some messages →
             slice_get messages (taken peer E) ≡ Some message → ((message.label ≡ label) × (kind_of message.payload ≡ kind) → ⊥) → ⊥
         no_mismatch {peer} {label} {kind} {messages} {message} st there next differs =
             let a = ahead_of (Passes (Take peer label kind)) st in
@@ -603,7 +439,8 @@ module _ (j : Sources) (typestates : List Typestate) (roles : List Name) (g : Gl
             let f = finds next.at (as_named (but_look s.peer s.label s.closed next.run s.are)) next.act next.to next.step s.peer
             (ap waits_for look.1) hd.from hd.within hd.named hd.message hd.more hd.is in
             let other_is_it = alike_look look.1 f.alike in
-            let label_is : other_is_it.0 ≡ s.label = found_is f.label f.other_act other_is_it.0 other_is_it.1 f.is ∙ sym f.is_label ∙ hd.labelled in
+            let label_is : other_is_it.0 ≡ s.label = found_is f.label f.other_act other_is_it.0 other_is_it.1 f.is ∙ sym f.is_label ∙
+            hd.labelled in
             s.no_branch (label_known j typestates (L r main at_main) (valid r main at_main) (had r main at_main) (P r main at_main)
             (says r main at_main) s.closed next.run
             (subst (λ a. Step next.at a f.to) (other_is_it.1 ∙ ap (Looks s.number s.peer) label_is) f.step) s.asked)
@@ -621,7 +458,8 @@ module _ (j : Sources) (typestates : List Typestate) (roles : List Name) (g : Gl
                 labels e = cc
 
         -- each peer is there
-        no_miss : (doing : Doing) → StandsAt j (L r main at_main).me (protocol_of (L r main at_main)) o E doing → messages_of (inputs r main at_main) (peer_in doing) ≡ None → ⊥
+        no_miss : (doing : Doing) → StandsAt j (L r main at_main).me (protocol_of (L r main at_main)) o E doing →
+            messages_of (inputs r main at_main) (peer_in doing) ≡ None → ⊥
         no_miss doing st none =
             let a = ahead_of doing st in
             let k = peer_is (peer_in doing) (subst (P r main at_main) (peer_same doing a.next.act a.next.of) a.next.peer) in
@@ -689,6 +527,38 @@ module _ (j : Sources) (typestates : List Typestate) (roles : List Name) (g : Gl
               ⊎_elim (λ h. bad (subst IsOther finish_is h))
               (λ x. ended o made (λ so prefix. acting so prefix.later prefix.is) x refl finish_is) ends
 
+      -- the run of all its deeds
+      exact : (end : Position) × Exactly r end
+      exact = go (done_so r main at_main)
+        where
+          as_named : {end : Position} (all : List Act) → Run (whole (first_of (L r main at_main))) all end →
+              deeds (es r main at_main) ≡ map unnumbered all → Exactly r end
+          as_named {end} all run e =
+              (all, subst (λ n. Run (whole (protocols n)) all end) (sym (name_is r main at_main)) run, e)
+
+          nothing_first : {A : Type 0} (xs ys : List A) → xs ++ ys ≡ [] → xs ≡ []
+          nothing_first [] ys e = refl
+          nothing_first (x ∷ xs) ys e = absurd (cc e)
+
+          go : IsDoneByOne j (roles ++ cast.idle) (L r main at_main).me (protocol_of (L r main at_main)) (inputs r main at_main)
+              (run r main at_main) → (end : Position) × Exactly r end
+          go (not_yet nobody none busy) =
+              let shown = shown r main at_main in (
+                whole (first_of (L r main at_main)),
+                as_named [] stays (nothing_first (deeds (es r main at_main)) (deeds shown.later)
+                    (sym (deeds-append (es r main at_main) shown.later) ∙ ap deeds (sym shown.is) ∙ none)),
+              )
+          go (by_one o made alone acting ends) =
+              let shown = shown r main at_main in
+              ⊎_elim
+              (λ x. (x.0, as_named x.1 x.2 (acting (es r main at_main) shown.later shown.is ∙ x.3)))
+              (λ s. absurd (no_refusal s.is_all o made (λ so prefix. acting so prefix.later prefix.is)
+              (subst (λ xs. Refuses (L r main at_main).me (protocol_of (L r main at_main)) (calls j (role_class (L r main at_main).me) o xs)
+              (open_told (told o xs)) (acts o xs) xs (run r main at_main)) (sym s.is_all) s)))
+              (exactly_so j typestates (L r main at_main) (valid r main at_main) (had r main at_main) (P r main at_main)
+              (says r main at_main) main.class (inputs r main at_main) (suc (role r main at_main).count) (keeps r main at_main) o made
+              (es r main at_main) shown.later shown.is)
+
       well_by : (ending : Ending) → (role r main at_main).state ≡ Over ending → (finish : Finish) × (finish_of ending ≡ Some finish)
           × Means (mean j main.class (inputs r main at_main)) (suc (role r main at_main).count) (es r main at_main) finish →
           IsWell (Over ending)
@@ -710,7 +580,8 @@ module _ (j : Sources) (typestates : List Typestate) (roles : List Name) (g : Gl
           go : (s : State) → (role r main at_main).state ≡ s → IsWell s
           go (Runs m) e = tt
           go (Over ending) e =
-              well_by ending e (subst (λ s. Shows (mean j main.class (inputs r main at_main)) (role r main at_main).count (es r main at_main)
+              well_by ending e (subst
+              (λ s. Shows (mean j main.class (inputs r main at_main)) (role r main at_main).count (es r main at_main)
               (stand_of p w r s)) e (is_meant r main at_main).shows)
 
     -- ---- rest
@@ -723,7 +594,7 @@ module _ (j : Sources) (typestates : List Typestate) (roles : List Name) (g : Gl
     module _ (r : ℕ) (main : RoleMain) (at_main : slice_get mains r ≡ Some main) where
       -- a role that waits, and one that has returned
       waiting : (m : Machine) → (role r main at_main).state ≡ Runs m → (k : ℕ) → step p r m w.messages ≡ Waits k →
-          (end : Position) × (Walk r end × AtRest r (role r main at_main).state end)
+          (end : Position) × (Exactly r end × AtRest r (role r main at_main).state end)
       waiting m runs k is = go (done_so r main at_main)
         where
           shows : Shows (mean j main.class (inputs r main at_main)) (role r main at_main).count (es r main at_main)
@@ -757,13 +628,14 @@ module _ (j : Sources) (typestates : List Typestate) (roles : List Name) (g : Gl
               ((so : List Event) → Prefix so (run r main at_main).events → deeds so ≡ acts o so) →
               {d : Doing} {f : Finish} →
               StandsAt j (L r main at_main).me (protocol_of (L r main at_main)) o (run r main at_main).events d →
-              Halts (inputs r main at_main) (run r main at_main).events d f → f ≡ Wait (name_of w k) → (end : Position) × (Walk r end × AtRest r (role r main at_main).state end)
+              Halts (inputs r main at_main) (run r main at_main).events d f → f ≡ Wait (name_of w k) → (end : Position) ×
+              (Exactly r end × AtRest r (role r main at_main).state end)
           halted o made only st (waits {doing = d} wants there none) e =
               let a = ahead_of r main at_main settled o made only d st in
               let x : peer_in d ≡ name_of w k = wait_is e in (
                 a.next.at,
                 (
-                  as_named r main at_main settled o made only (walked a.closed a.next.run a.are),
+                  exactly_named r main at_main settled o made only a.closed a.next.run a.are,
                   blocked a.next.act a.next.to (name_of w k) k a.next.step (act_wants d a.next.act a.next.of wants ∙ ap Some x)
                       (subst (λ (y : List Name). k < length y) good.named emptied.within) named_k emptied.empty,
                 ),
@@ -775,13 +647,13 @@ module _ (j : Sources) (typestates : List Typestate) (roles : List Name) (g : Gl
               ((so : List Event) → Prefix so (run r main at_main).events → deeds so ≡ acts o so) →
               {f : Finish} →
               EndsInCall j (L r main at_main).me (protocol_of (L r main at_main)) o (run r main at_main).events (inputs r main at_main) f →
-              f ≡ Wait (name_of w k) → (end : Position) × (Walk r end × AtRest r (role r main at_main).state end)
+              f ≡ Wait (name_of w k) → (end : Position) × (Exactly r end × AtRest r (role r main at_main).state end)
           ended o made only (cut undone h) e = absurd (subst IsCut e h)
           ended o made only (halts st h) e = halted o made only st h e
           ended o made only (refuses x) e = absurd (cc e)
 
           go : IsDoneByOne j (roles ++ cast.idle) (L r main at_main).me (protocol_of (L r main at_main)) (inputs r main at_main)
-              (run r main at_main) → (end : Position) × (Walk r end × AtRest r (role r main at_main).state end)
+              (run r main at_main) → (end : Position) × (Exactly r end × AtRest r (role r main at_main).state end)
           go (not_yet nobody none busy) = absurd (subst IsBusy finish_is busy)
           go (by_one o made alone acting ends) =
               ⊎_elim (λ h. absurd (subst IsOther finish_is h))
@@ -799,21 +671,29 @@ module _ (j : Sources) (typestates : List Typestate) (roles : List Name) (g : Gl
         done_finish : (run r main at_main).finish ≡ Done
         done_finish = ap (λ (x : Ended). x.finish) done_shows.2 ∙ sym (some_is done_shows.1)
 
-        has_returned : (end : Position) × (Walk r end × AtRest r (role r main at_main).state end)
+        has_returned : (end : Position) × (Exactly r end × AtRest r (role r main at_main).state end)
         has_returned = go (done_so r main at_main)
           where
-            go : IsDoneByOne j (roles ++ cast.idle) (L r main at_main).me (protocol_of (L r main at_main)) (inputs r main at_main) (run r main at_main) →
-                (end : Position) × (Walk r end × AtRest r (role r main at_main).state end)
+            go : IsDoneByOne j (roles ++ cast.idle) (L r main at_main).me (protocol_of (L r main at_main)) (inputs r main at_main)
+                (run r main at_main) →
+                (end : Position) × (Exactly r end × AtRest r (role r main at_main).state end)
             go (not_yet nobody none busy) = absurd (subst IsBusy done_finish busy)
             go (by_one o made alone acting ends) =
                 let a = at_end j typestates (L r main at_main) (valid r main at_main) (had r main at_main) (P r main at_main)
                 (says r main at_main) main.class (inputs r main at_main) (suc (role r main at_main).count) (keeps r main at_main) o made
-                done_finish in
-                (a.end, (as_named r main at_main done_settled o made (λ so prefix. acting so prefix.later prefix.is) (walked a.closed a.run a.are), returned over a.finished))
+                done_finish in (
+                  a.end,
+                  (
+                    exactly_named r main at_main done_settled o made (λ so prefix. acting so prefix.later prefix.is) a.closed
+                        a.run a.are,
+                    returned over a.finished,
+                  ),
+                )
 
         -- its objects are at the end
         is_complete : (o : ℕ) → IsMade (es r main at_main) o (role_class (L r main at_main).me) →
-            Complete (L r main at_main).me (protocol_of (L r main at_main)) (calls j (role_class (L r main at_main).me) o (es r main at_main))
+            Complete (L r main at_main).me (protocol_of (L r main at_main))
+            (calls j (role_class (L r main at_main).me) o (es r main at_main))
         is_complete o made =
             subst (λ xs. Complete (L r main at_main).me (protocol_of (L r main at_main)) (calls j (role_class (L r main at_main).me) o xs))
             done_settled
@@ -822,11 +702,13 @@ module _ (j : Sources) (typestates : List Typestate) (roles : List Name) (g : Gl
             (subst (λ xs. IsMade xs o (role_class (L r main at_main).me)) (sym done_settled) made) done_finish)
 
       stands_still : Rests p w → ((role r main at_main).state ≢ Over endings.Zero) →
-          (end : Position) × (Walk r end × AtRest r (role r main at_main).state end)
-      stands_still rests no_zero = go (role r main at_main).state refl (rests r (role r main at_main) (at_role r main at_main)) (well r main at_main)
+          (end : Position) × (Exactly r end × AtRest r (role r main at_main).state end)
+      stands_still rests no_zero = go (role r main at_main).state refl (rests r (role r main at_main) (at_role r main at_main))
+          (well r main at_main)
         where
-          go : (s : State) → (role r main at_main).state ≡ s → IsStill p w r (role r main at_main).state → IsWell (role r main at_main).state →
-              (end : Position) × (Walk r end × AtRest r (role r main at_main).state end)
+          go : (s : State) → (role r main at_main).state ≡ s → IsStill p w r (role r main at_main).state →
+              IsWell (role r main at_main).state →
+              (end : Position) × (Exactly r end × AtRest r (role r main at_main).state end)
           go (Runs m) e still h = let k = subst (IsStill p w r) e still in waiting m e k.0 k.1
           go (Over endings.Done) e still h = has_returned e
           go (Over endings.Zero) e still h = absurd (no_zero e)
@@ -835,10 +717,41 @@ module _ (j : Sources) (typestates : List Typestate) (roles : List Name) (g : Gl
           go (Over (endings.NoPeer q)) e still h = absurd (subst IsWell e h)
           go (Over (endings.Bad _)) e still h = absurd (subst IsWell e h)
 
+    -- a configuration, by where each role stands
+    abbrev configured : (ends : ℕ → Position) → ((i : ℕ) → i < length names → Exactly i (ends i)) →
+        Stands roles protocols names begun.distinct listed w ends → IsConfiguration roles locals mains w
+    configured ends are s =
+        record {
+          system = s.system;
+          reached = s.reached;
+          done = λ r main at.
+              let h : r < length names = got_within names r main.role (name_at mains r main at) in
+              let x = are r h in
+              let place : s.system.at main.role ≡ ends r = ap (λ n. s.system.at n) (sym (name_is r main at)) ∙ s.at r h in (
+                x.0,
+                subst (λ q. Run (whole (protocols main.role)) x.0 q) (sym place)
+                    (subst (λ n. Run (whole (protocols n)) x.0 (ends r)) (name_is r main at) x.1),
+                x.2,
+              );
+          lists = λ from to sender receiver at_from at_to.
+              let hf : from < length names = got_within names from sender.role (name_at mains from sender at_from) in
+              let ht : to < length names = got_within names to receiver.role (name_at mains to receiver at_to) in
+              ap (λ n. s.system.lists n receiver.role) (sym (name_is from sender at_from))
+              ∙ ap (λ n. s.system.lists (name from) n) (sym (name_is to receiver at_to)) ∙ s.lists from to hf ht;
+        }
+
+    exactly_at : (i : ℕ) → i < length names → (end : Position) × Exactly i end
+    exactly_at i h = let m = main_at mains i h in exact i m.main m.at
+
+    is_configuration : IsConfiguration roles locals mains w
+    is_configuration =
+        let chosen = choose (length names) Exactly exactly_at in
+        configured chosen.ends chosen.are (good.stands (record { ends = chosen.ends; walks = λ i h. as_walk i (chosen.are i h) }))
+
     module _ (rests : Rests p w) (no_zero : (r : ℕ) (role : Role) → slice_get w.roles r ≡ Some role → role.state ≢ Over endings.Zero) where
       -- where each stands, whatever its state is
       abbrev Standing : (i : ℕ) → Position → Type 0
-      Standing i e = Walk i e × ((x : Role) → slice_get w.roles i ≡ Some x → AtRest i x.state e)
+      Standing i e = Exactly i e × ((x : Role) → slice_get w.roles i ≡ Some x → AtRest i x.state e)
 
       stand : (i : ℕ) → i < length names → (e : Position) × Standing i e
       stand i h =
@@ -855,7 +768,7 @@ module _ (j : Sources) (typestates : List Typestate) (roles : List Name) (g : Gl
       chosen = choose (length names) Standing stand
 
       now : Stands roles protocols names begun.distinct listed w chosen.ends
-      now = good.stands (record { ends = chosen.ends; walks = λ i h. (chosen.are i h).0 })
+      now = good.stands (record { ends = chosen.ends; walks = λ i h. as_walk i (chosen.are i h).0 })
 
       abbrev c : System
       c = now.system
@@ -911,6 +824,9 @@ module _ (j : Sources) (typestates : List Typestate) (roles : List Name) (g : Gl
             is_complete r main at_main (all_returned r (role r main at_main) (at_role r main at_main)) o made;
       }
 
+      rest_is_configuration : (c : IsConfiguration roles locals mains w) × IsFinished roles c.system
+      rest_is_configuration = (configured chosen.ends (λ i h. (chosen.are i h).0) now, stuck_none.finished)
+
       conversed : IsGuarded g → (messages : List Passing) × conversations.Complete g messages
           × ((r : ℕ) (main : RoleMain) → slice_get mains r ≡ Some main →
           passed (deeds (events_of r w.events)) ≡ global_law.named main.role messages)
@@ -934,6 +850,14 @@ none_gets_stuck j typestates roles g locals mains cast p first begun meant taken
   all_well j typestates roles g locals mains cast p first begun meant taken,
   λ rests no_zero. all_over j typestates roles g locals mains cast p first begun meant taken rests no_zero,
 )
+
+pub turns_are_configurations : TurnsAreConfigurations
+turns_are_configurations j typestates roles g locals mains cast p first begun meant taken =
+    is_configuration j typestates roles g locals mains cast p first begun meant taken
+
+pub rest_is_finished : RestIsFinished
+rest_is_finished j typestates roles g locals mains cast p first begun meant taken rests no_zero =
+    rest_is_configuration j typestates roles g locals mains cast p first begun meant taken rests no_zero
 
 pub rest_is_conversation : RestIsConversation
 rest_is_conversation j typestates roles g locals mains cast guarded p first begun meant taken rests no_zero =

@@ -1,6 +1,6 @@
 -- What the object of a role may do next, where it waits, mismatches or is refused, and that it is at the end where the role has returned.
 use Rattle.std.proofs.Common.{◌≡◌, ℕ, suc, ◌+◌, List, [], ◌∷◌, ◌++◌, map, length, Option, Some, None, option_and_then, refl}
-use Rattle.std.proofs.Common.{sym, ap, ◌∙◌, subst, append-nil, arith}
+use Rattle.std.proofs.Common.{sym, ap, ◌∙◌, subst, append-nil, arith, ◌⊎◌, inl, inr}
 use Rattle.std.proofs.lemmas.List.{length-append, map-append}
 use Rattle.std.specs.Prelude.{Contains}
 use Rattle.std.specs.List.{AllByRecursion}
@@ -107,7 +107,8 @@ record LastIn (parts : Parts) (p : Position) (front : List Act) (last : Act) (q 
   run : RunIn parts p front at
   step : StepIn parts at last q
 
-last_in : {parts : Parts} {p q : Position} (front : List Act) {last : Act} → RunIn parts p (front ++ last ∷ []) q → LastIn parts p front last q
+last_in : {parts : Parts} {p q : Position} (front : List Act) {last : Act} → RunIn parts p (front ++ last ∷ []) q →
+    LastIn parts p front last q
 last_in {p = p} [] (goes step stays) = record { at = p; run = stays; step = step }
 last_in {p = p} (a ∷ front) (goes step run) =
     let more = last_in front run in
@@ -261,6 +262,18 @@ module _ (j : Sources) (typestates : List Typestate) (L : LocalTree) (valid : �
           go (plays p) = (p.end, walked (p.closed ++ p.last) (run_says P [] p.run says_at).0 p.are)
           go (refuses s) = (s.end, but_look s.peer s.label s.closed (run_says P [] s.run says_at).0 s.are)
 
+      -- all its acts so far are a run, or the last is a look at a label of no branch
+      pub exactly_so : (so_far later : List Event) → run_of.events ≡ so_far ++ later →
+          ((end : Position) × (all : List Act) × Run (whole (first_of L)) all end × (acts o so_far ≡ map unnumbered all))
+          ⊎ Refuses L.me parts (calls j (role_class L.me) o so_far) (open_told (told o so_far)) (acts o so_far) so_far run_of
+      exactly_so so_far later is = go (played so_far later is)
+        where
+          go : Played L.me parts (calls j (role_class L.me) o so_far) (open_told (told o so_far)) (acts o so_far) so_far run_of →
+              ((end : Position) × (all : List Act) × Run (whole (first_of L)) all end × (acts o so_far ≡ map unnumbered all))
+              ⊎ Refuses L.me parts (calls j (role_class L.me) o so_far) (open_told (told o so_far)) (acts o so_far) so_far run_of
+          go (plays p) = inl (p.end, p.closed ++ p.last, (run_says P [] p.run says_at).0, p.are)
+          go (refuses s) = inr s
+
       whole_path : (name : Name) → open_told (told o run_of.events) ≡ Some name →
           Path (typestate_of L) (calls j (role_class L.me) o run_of.events) (Some name)
       whole_path name is =
@@ -322,7 +335,8 @@ module _ (j : Sources) (typestates : List Typestate) (L : LocalTree) (valid : �
               long =
                   let a : length (acts o run_of.events) ≡ length (p.closed ++ p.last) =
                   ap length p.are ∙ map_long unnumbered (p.closed ++ p.last) in
-                  let b : length (acts o run_of.events) ≡ length x.closed + 1 = ap length x.are ∙ length-append x.closed (Looked q l ∷ []) in
+                  let b : length (acts o run_of.events) ≡ length x.closed + 1 = ap length x.are ∙
+                  length-append x.closed (Looked q l ∷ []) in
                   let c : length x.closed ≡ length (calls j (role_class L.me) o run_of.events) = x.as_many in
                   let d : length p.closed ≡ length (calls j (role_class L.me) o run_of.events) =
                   sym (map_long (names.call_of L.me) p.closed) ∙ ap length p.of_calls in
@@ -333,7 +347,8 @@ module _ (j : Sources) (typestates : List Typestate) (L : LocalTree) (valid : �
                   (acts o run_of.events) run_of.events run_of
               by_last [] e =
                   let a = long in
-                  let b : length (p.closed ++ p.last) ≡ length p.closed = ap (λ z. length (p.closed ++ z)) e ∙ ap length (append-nil p.closed)
+                  let b : length (p.closed ++ p.last) ≡ length p.closed = ap (λ z. length (p.closed ++ z)) e ∙
+                  ap length (append-nil p.closed)
                   in
                   absurd (omega (arith, a, b))
               by_last (act ∷ (other_act ∷ more)) e =

@@ -1,6 +1,7 @@
 -- A world is a system that steps reach: the roles stand at the ends of runs that have their deeds, and the lists are the messages on their
 -- way.
-use Rattle.std.proofs.Common.{◌≡◌, ◌≢◌, ◌⊎◌, inl, inr, ⊎_elim, ℕ, suc, ◌<◌, Bool, true, false, List, [], ◌∷◌, ◌++◌, map, length, Option, Some}
+use Rattle.std.proofs.Common.{◌≡◌, ◌≢◌, ◌⊎◌, inl, inr, ⊎_elim, ℕ, suc, ◌<◌, Bool, true, false, List, [], ◌∷◌, ◌++◌, map, length, Option}
+use Rattle.std.proofs.Common.{Some}
 use Rattle.std.proofs.Common.{None, refl, sym, ap, ◌∙◌, subst, position, arith, append_assoc}
 use Rattle.std.specs.Prelude.{◌==◌, if◌then◌else◌, slice_get, slice_set, Contains}
 use Rattle.std.specs.List.{IsDistinct}
@@ -37,13 +38,9 @@ use Rattle.vm_world_law.proofs.Lists.{some_is, set_long, get_within, same_name, 
 use Rattle.vm_world_law.proofs.Ways.{still_by, still_to, set_some, set_square_way, IsSquare, none_square, none_on_way, other_is}
 use Rattle.vm_world_law.proofs.Ways.{named_within, set_square}
 use Rattle.stm_acts.specs.Ends.{deeds}
-use Rattle.fit_law.specs.Conversed.{passed}
+use Rattle.fit_law.specs.Conversed.{passed, parcel_of}
 use Rattle.fit_law.proofs.Deeds.{one_more, none_more, nothing_ends, same_end, Walked, LastDeed, did, but_looked, last_deed}
 use Rattle.fit_law.proofs.Deeds.{start_walked, moved_is, looked_is}
-
--- what a message is in a system
-abbrev pub parcel_of : Sent → Parcel
-parcel_of m = parcel m.label (kind_of m.payload)
 
 quiet_deeds : (e : Option Event) → IsQuiet e → (es : List Event) → deeds (es ++ noted e) ≡ deeds es
 quiet_deeds None h es = ap deeds (Rattle.std.proofs.Common.append-nil es)
@@ -202,20 +199,24 @@ module _ (roles : List Name) (protocols : Name → Protocol) (names : List Name)
         go (inr is) = ap passed (sym (theirs i is.1))
 
     -- where the roles stood before
-    walked_before : (q : Messages) (walks : Walks (v_of q)) (at : Position) → Walked (protocols (name r)) (deeds (events_of r w.events)) at →
+    walked_before : (q : Messages) (walks : Walks (v_of q)) (at : Position) →
+        Walked (protocols (name r)) (deeds (events_of r w.events)) at →
         (i : ℕ) → i < length names → Walked (protocols (name i)) (deeds (events_of i w.events)) (if i == r then at else walks.ends i)
     walked_before q walks at x i h = go i h (eqb_tells i r)
       where
         go : (i : ℕ) → i < length names → Tells i r →
             Walked (protocols (name i)) (deeds (events_of i w.events)) (if i == r then at else walks.ends i)
         go i h (inl is) =
-            subst (Walked (protocols (name i)) (deeds (events_of i w.events))) (sym (ap (λ (b : Bool). if b then at else walks.ends i) is.0))
+            subst (Walked (protocols (name i)) (deeds (events_of i w.events)))
+            (sym (ap (λ (b : Bool). if b then at else walks.ends i) is.0))
             (subst (λ k. Walked (protocols (name k)) (deeds (events_of k w.events)) at) (sym is.1) x)
         go i h (inr is) =
-            subst (Walked (protocols (name i)) (deeds (events_of i w.events))) (sym (ap (λ (b : Bool). if b then at else walks.ends i) is.0))
+            subst (Walked (protocols (name i)) (deeds (events_of i w.events)))
+            (sym (ap (λ (b : Bool). if b then at else walks.ends i) is.0))
             (subst (λ ds. Walked (protocols (name i)) ds (walks.ends i)) (theirs i is.1) (walks.walks i h))
 
-    abbrev before : (q : Messages) (walks : Walks (v_of q)) (at : Position) → Walked (protocols (name r)) (deeds (events_of r w.events)) at →
+    abbrev before : (q : Messages) (walks : Walks (v_of q)) (at : Position) →
+        Walked (protocols (name r)) (deeds (events_of r w.events)) at →
         Walks w
     before q walks at x = record { ends = λ i. if i == r then at else walks.ends i; walks = walked_before q walks at x }
 

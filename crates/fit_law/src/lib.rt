@@ -2,7 +2,7 @@
 //! There is no running code here; the function carries a law.
 #![tactic(auto)]
 
-ghost use Rattle.fit_law.specs.Conversed.{RestIsConversation, TurnsAreInConversation, TurnsGoOnInConversation};
+ghost use Rattle.fit_law.specs.Conversed.{RestIsConversation, RestIsFinished, TurnsAreConfigurations, TurnsAreInConversation, TurnsGoOnInConversation};
 ghost use Rattle.fit_law.specs.Fit.{NoneGetsStuck};
 
 /// After every list of turns no role has ended but by its return or a zero divisor; and where the world rests, and no role
@@ -18,4 +18,11 @@ pub fn rest_is_conversation()
     ensures rest { RestIsConversation }
     ensures turns { TurnsAreInConversation }
     ensures on { TurnsGoOnInConversation }
+{}
+
+/// After every list of turns what the roles have done, with the messages on their way, is a configuration that steps of their protocols
+/// reach from the start. Where the world rests, and no role ended by a zero divisor, each has done a complete run of its protocol.
+pub fn turns_are_configurations()
+    ensures turns { TurnsAreConfigurations }
+    ensures rest { RestIsFinished }
 {}

@@ -20,10 +20,11 @@ use Rattle.stm_acts.specs.Ends.{HasRoles, IsDoneByOne}
 use Rattle.stm_acts.proofs.InCalls.{plays_alone}
 use Rattle.vm_world_law.specs.Turns.{first_turns, counted}
 use Rattle.vm_world_law.specs.World.{State, Runs, Over, Role, World, Rests}
-use Rattle.fit_law.specs.Fit.{IsCast, IsComplete}
-use Rattle.fit_law.proofs.Fit.{none_gets_stuck, rest_is_conversation, turns_are_in_conversation, turns_go_on_in_conversation}
-use Rattle.fit_law.specs.Conversed.{IsConversation}
-use Rattle.fit_play.specs.Play.{PlayIn, AllKeep, NoneGetsStuckIn, ZeroIn, RunsEndWell, TurnsConverse, TurnsGoOn}
+use Rattle.fit_law.specs.Fit.{IsCast}
+use Rattle.fit_law.proofs.Fit.{none_gets_stuck, rest_is_finished, rest_is_conversation, turns_are_configurations, turns_are_in_conversation}
+use Rattle.fit_law.proofs.Fit.{turns_go_on_in_conversation}
+use Rattle.fit_play.specs.Play.{PlayIn, AllKeep, HasEndedWell, NoneGetsStuckIn, ZeroIn, RunsEndWell, TurnsAreReached, TurnsConverse}
+use Rattle.fit_play.specs.Play.{TurnsGoOn}
 
 some_is : {A : Type 0} {a b : A} → Some a ≡ Some b → a ≡ b
 some_is e = cc
@@ -65,10 +66,11 @@ none_gets_stuck_in j typestates roles g locals mains play keeps p first begun me
     let cast = is_cast j typestates roles g locals mains play keeps in
     let law = none_gets_stuck j typestates roles g locals mains cast p first begun meant taken in (
       law.0,
-      λ rests no_zero. (
-        law.1 rests no_zero,
-        rest_is_conversation j typestates roles g locals mains cast play.guarded p first begun meant taken rests no_zero,
-      ),
+      λ rests no_zero. record {
+        complete = law.1 rests no_zero;
+        runs = rest_is_finished j typestates roles g locals mains cast p first begun meant taken rests no_zero;
+        conversation = rest_is_conversation j typestates roles g locals mains cast play.guarded p first begun meant taken rests no_zero;
+      },
     )
 
 -- ---- runs
@@ -109,10 +111,10 @@ runs_end_well j typestates roles g locals mains play keeps p first begun meant o
     (λ full. inr (inr full)) run.stops
   where
     at_rest : Rests p last → Zeros last.roles →
-        (IsComplete j locals mains last × IsConversation g mains last) ⊎ (ZeroIn last ⊎ (counted last ≡ limit))
+        HasEndedWell j roles g locals mains last ⊎ (ZeroIn last ⊎ (counted last ≡ limit))
     at_rest rests (some_zero i x at e) = inr (inl (record { number = i; role = x; there = at; zero = e }))
     at_rest rests (no_zero h) =
-        inl (subst (λ (w : World). IsComplete j locals mains w × IsConversation g mains w) (sym run.is)
+        inl (subst (λ (w : World). HasEndedWell j roles g locals mains w) (sym run.is)
         ((none_gets_stuck_in j typestates roles g locals mains play keeps p first begun meant (first_turns order run.taken)).1
         (subst (Rests p) run.is rests)
         (λ r x at. subst (λ (w : World). slice_get w.roles r ≡ Some x → x.state ≢ Over endings.Zero) run.is (λ at e. h r x at e) at)))
@@ -120,6 +122,11 @@ runs_end_well j typestates roles g locals mains play keeps p first begun meant o
 pub turns_converse : TurnsConverse
 turns_converse j typestates roles g locals mains play keeps can p first begun meant taken =
     turns_are_in_conversation j typestates roles g locals mains (is_cast j typestates roles g locals mains play keeps) can p first begun
+    meant taken
+
+pub turns_are_reached : TurnsAreReached
+turns_are_reached j typestates roles g locals mains play keeps p first begun meant taken =
+    turns_are_configurations j typestates roles g locals mains (is_cast j typestates roles g locals mains play keeps) p first begun
     meant taken
 
 pub turns_go_on : TurnsGoOn

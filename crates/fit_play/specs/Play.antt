@@ -20,11 +20,11 @@ use Rattle.vm_world_law.specs.declared.role.RoleMain.{RoleMain}
 use Rattle.vm_world_law.specs.Turns.{IsRun, counted}
 use Rattle.vm_world_law.specs.World.{Over, Role, World, turns, IsBegun, Rests}
 use Rattle.stm_acts.specs.Calm.{OnlyMainsPlay, MainPlaysOne}
-use Rattle.fit_law.specs.Conversed.{IsConversation, IsPartOfConversation, IsPartOfGoing}
+use Rattle.fit_law.specs.Conversed.{IsConfiguration, IsFinished, IsConversation, IsPartOfConversation, IsPartOfGoing}
 use Rattle.fit_law.specs.Fit.{AreLocals, IsHad, KeepsTo, AreMeant, IsWell, IsComplete}
 
--- The sources play a global protocol: each of its roles has what is generated of its projection, and the `main` of its class makes one object
--- of the generated class.
+-- The sources play a global protocol: each of its roles has what is generated of its projection, and the `main` of its class makes one
+-- object of the generated class.
 pub record PlayIn (j : Sources) (typestates : List Typestate) (roles : List Name) (g : Global) (locals : Name → LocalTree)
     (mains : List RoleMain) : Type 0 where
   pub locals_are : AreLocals roles g locals
@@ -45,8 +45,21 @@ abbrev pub AllKeep : Sources → List Typestate → List RoleMain → Type 0
 AllKeep j typestates mains = (r : ℕ) (main : RoleMain) → slice_get mains r ≡ Some main → (inputs : Inputs) (budget : ℕ) →
     KeepsTo j typestates (mean j main.class inputs budget)
 
--- After every list of turns no role has ended but by its return or a zero divisor. At rest, where none ended by a zero divisor, all is complete,
--- and what was said is a complete conversation of the global protocol.
+-- no role has ended by a zero divisor
+abbrev pub NoZero : World → Type 0
+NoZero w = (r : ℕ) (role : Role) → slice_get w.roles r ≡ Some role → role.state ≢ Over endings.Zero
+
+-- All is complete: every role has returned, every list is empty, each object is at the end of its protocol, what each role has done is a
+-- complete run of its protocol, and what all have said is a complete conversation of the global protocol.
+pub record HasEndedWell (j : Sources) (roles : List Name) (g : Global) (locals : Name → LocalTree) (mains : List RoleMain) (w : World) :
+    Type 0
+  where
+    pub complete : IsComplete j locals mains w
+    pub runs : (c : IsConfiguration roles locals mains w) × IsFinished roles c.system
+    pub conversation : IsConversation g mains w
+
+-- After every list of turns no role has ended but by its return or a zero divisor. At rest, where none ended by a zero divisor, all is
+-- complete.
 abbrev pub NoneGetsStuckIn : Type 0
 NoneGetsStuckIn =
     (j : Sources) (typestates : List Typestate) (roles : List Name) (g : Global) (locals : Name → LocalTree) (mains : List RoleMain)
@@ -54,9 +67,7 @@ NoneGetsStuckIn =
     (p : Program) (first : World) → IsBegun p mains first → ((taken : List ℕ) → AreMeant j mains p (turns p first taken)) →
     (taken : List ℕ) →
     ((r : ℕ) (role : Role) → slice_get (turns p first taken).roles r ≡ Some role → IsWell role.state)
-    × (Rests p (turns p first taken) →
-    ((r : ℕ) (role : Role) → slice_get (turns p first taken).roles r ≡ Some role → role.state ≢ Over endings.Zero) →
-    IsComplete j locals mains (turns p first taken) × IsConversation g mains (turns p first taken))
+    × (Rests p (turns p first taken) → NoZero (turns p first taken) → HasEndedWell j roles g locals mains (turns p first taken))
 
 -- a program that holds the generated files has what is generated
 abbrev pub ApiIsHad : Type 0
@@ -70,15 +81,14 @@ pub record ZeroIn (w : World) : Type 0 where
   pub there : slice_get w.roles number ≡ Some role
   pub zero : role.state ≡ Over endings.Zero
 
--- A run in an order of turns up to a limit ends with every role returned, no message left, each object at the end of its protocol, and a
--- complete conversation said; or some role has ended by a zero divisor; or the limit is reached.
+-- A run in an order of turns up to a limit ends with all complete; or some role has ended by a zero divisor; or the limit is reached.
 abbrev pub RunsEndWell : Type 0
 RunsEndWell =
     (j : Sources) (typestates : List Typestate) (roles : List Name) (g : Global) (locals : Name → LocalTree) (mains : List RoleMain)
     → PlayIn j typestates roles g locals mains → AllKeep j typestates mains →
     (p : Program) (first : World) → IsBegun p mains first → ((taken : List ℕ) → AreMeant j mains p (turns p first taken)) →
     (order : List ℕ) (limit : ℕ) (last : World) → IsRun p first order limit last →
-    (IsComplete j locals mains last × IsConversation g mains last) ⊎ (ZeroIn last ⊎ (counted last ≡ limit))
+    HasEndedWell j roles g locals mains last ⊎ (ZeroIn last ⊎ (counted last ≡ limit))
 
 -- Where each conversation of the global protocol can be brought to an end, what was said is at each moment part of a complete one.
 abbrev pub TurnsConverse : Type 0
@@ -95,3 +105,11 @@ TurnsGoOn =
     → PlayIn j typestates roles g locals mains → AllKeep j typestates mains → NoneIsForgotten roles g locals →
     (p : Program) (first : World) → IsBegun p mains first → ((taken : List ℕ) → AreMeant j mains p (turns p first taken)) →
     (taken : List ℕ) → IsPartOfGoing g mains (turns p first taken)
+
+-- What the roles have done, with the messages on their way, is at each moment a configuration that steps of their protocols reach.
+abbrev pub TurnsAreReached : Type 0
+TurnsAreReached =
+    (j : Sources) (typestates : List Typestate) (roles : List Name) (g : Global) (locals : Name → LocalTree) (mains : List RoleMain)
+    → PlayIn j typestates roles g locals mains → AllKeep j typestates mains →
+    (p : Program) (first : World) → IsBegun p mains first → ((taken : List ℕ) → AreMeant j mains p (turns p first taken)) →
+    (taken : List ℕ) → IsConfiguration roles locals mains (turns p first taken)

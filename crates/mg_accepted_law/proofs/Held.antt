@@ -79,11 +79,16 @@ holds program origins local clean numbered h = record {
   typestates_differ = typestates_apart program origins clean numbered;
 }
 
--- so the program has the role of the protocol
+-- so the program that well typed files are does, for each protocol among them
+pub holds_api : (files : List Source) (program : Program) → AreWellTyped files program → (source : Source) (local : LocalTree) →
+    Contains files source → Reads source (Protocol local) → HoldsApi program.files program.typestates local
+holds_api files program h source local among spells =
+    holds program h.sourced.origins local (no_fault program h.sourced.origins h.declarations)
+    (numbered h.are.spell ∙ ap (λ (z : Program). length z.typestates) h.is)
+    (subst (λ (z : Program). Has z local) h.is (has_of h.are.spell source local among spells))
+
+-- and has the role of the protocol
 pub has_role : HeldIsHad → (files : List Source) (program : Program) → AreWellTyped files program → (source : Source) (local : LocalTree) →
     Contains files source → Reads source (Protocol local) → HasRole program.files program.typestates local.me (protocol_of local)
 has_role had files program h source local among spells =
-    had program.files program.typestates local (valid_read source local spells)
-    (holds program h.sourced.origins local (no_fault program h.sourced.origins h.declarations)
-    (numbered h.are.spell ∙ ap (λ (z : Program). length z.typestates) h.is)
-    (subst (λ (z : Program). Has z local) h.is (has_of h.are.spell source local among spells)))
+    had program.files program.typestates local (valid_read source local spells) (holds_api files program h source local among spells)

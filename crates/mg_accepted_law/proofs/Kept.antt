@@ -1,5 +1,5 @@
 -- Accepted files are a well typed program whose core some tables solve.
-use Rattle.std.proofs.Common.{◌≡◌, List, length, ap, ◌∙◌, subst}
+use Rattle.std.proofs.Common.{List, length, ap, ◌∙◌, subst}
 use Rattle.jv_rules.specs.Faults.{IsWellTyped}
 use Rattle.jv_rules.specs.Program.{Program}
 use Rattle.jv_rules.specs.Shape.{IsShaped}
@@ -11,7 +11,7 @@ use Rattle.mg_accepted.specs.Program.{AreWellTyped}
 use Rattle.mg_accepted.proofs.Grammatical.{shaped, numbered}
 use Rattle.mg_accepted_law.specs.KeptLaws.{AcceptedKeepTypestates}
 
-well_typed : (files : List Source) (program : Program) → AreWellTyped files program → IsWellTyped program
+pub well_typed : (files : List Source) (program : Program) → AreWellTyped files program → IsWellTyped program
 well_typed files program h = record {
   origins = h.sourced.origins;
   numbered = numbered h.are.spell ∙ ap (λ (z : Program). length z.typestates) h.is;

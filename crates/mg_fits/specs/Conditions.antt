@@ -1,6 +1,6 @@
 -- The conditions under which roles that run files fit a global protocol, in the order in which they are judged: where each is at fault,
 -- and how it is refused.
-use Rattle.std.specs.Prelude.{◌≡◌, ℕ, List, [], ◌∷◌, map, codes, Option, Some, None, Contains, slice_get}
+use Rattle.std.specs.Prelude.{◌≡◌, ℕ, true, List, [], ◌∷◌, map, codes, Option, Some, None, Contains}
 use Rattle.mg_text.specs.Call.{Name}
 use Rattle.mg_text.specs.Places.{start_of}
 use Rattle.mg_read.specs.First.{Judged, with_earlier}
@@ -15,8 +15,10 @@ use Rattle.stm_acts.specs.Played.{role_class}
 use Rattle.vm_world_law.specs.declared.role.RoleMain.{RoleMain}
 use Rattle.mg_refusal.specs.Refusals.{Refusal, refusal_at, refusal_nowhere}
 use Rattle.mg_sources.specs.Reading.{Part}
-use Rattle.mg_fits.specs.Uses.{Use, Talks, Makes, uses_beside_making}
-use Rattle.mg_fits.specs.Parts.{Headed, header, protocols_in, roles_in, is_role_class, own_uses}
+use Rattle.fit_uses.specs.declared.usage.Use.{Use}
+use Rattle.fit_uses.specs.declared.usage.Use.TheVariants.{Talks, Makes}
+use Rattle.fit_uses.specs.Uses.{uses_beside_making}
+use Rattle.mg_fits.specs.Parts.{Headed, header, protocols_in, roles_in, own_uses}
 
 pub data Condition : Type 0 where
   Unplayed : Condition

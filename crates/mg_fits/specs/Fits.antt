@@ -1,5 +1,5 @@
 -- Which files fit a global protocol, run by which roles; and the first refusal of those that don't.
-use Rattle.std.specs.Prelude.{◌≡◌, ℕ, List, [], ◌∷◌, Option, Some, None}
+use Rattle.std.specs.Prelude.{ℕ, List, Some, None}
 use Rattle.mg_read.specs.First.{FirstOf}
 use Rattle.scr_tree.specs.Tree.{LocalTree}
 use Rattle.scr_global_tree.specs.Tree.{GlobalTree}

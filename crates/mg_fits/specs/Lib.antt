@@ -1,5 +1,5 @@
-pub mod Uses
 pub mod Parts
 pub mod Conditions
 pub mod Fits
 pub mod Promise
+pub mod Laws

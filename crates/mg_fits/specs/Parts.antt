@@ -1,5 +1,5 @@
 -- What conditions of fitting speak of: the roles of a header with their places, the protocols of files, the methods of a program.
-use Rattle.std.specs.Prelude.{ℕ, Bool, true, false, List, [], ◌∷◌, ◌++◌, map, flat_map, find, Option, Some, None, option_map}
+use Rattle.std.specs.Prelude.{ℕ, Bool, false, List, [], ◌∷◌, map, flat_map, find, Option, None, option_map}
 use Rattle.std.specs.Prelude.{option_and_then, unwrap_or, if◌then◌else◌}
 use Rattle.std.specs.List.{list_any}
 use Rattle.std.specs.Str.{bytes_eq}
@@ -11,7 +11,8 @@ use Rattle.jv_core.specs.Tree.{Method, Program}
 use Rattle.jv_core.specs.Lookup.{class_text, class_numbered, is_main}
 use Rattle.vm_world_law.specs.declared.role.RoleMain.{RoleMain}
 use Rattle.mg_sources.specs.Reading.{Part, Protocol, States, Classes}
-use Rattle.mg_fits.specs.Uses.{Use, uses_in_all, uses_beside_making}
+use Rattle.fit_uses.specs.declared.usage.Use.{Use}
+use Rattle.fit_uses.specs.Uses.{uses_in_all, uses_beside_making}
 
 -- a role of a header, with the place of its name
 pub record Headed : Type 0 where
@@ -35,6 +36,10 @@ protocols_in parts = flat_map protocol_in parts
 -- the roles that they are of
 abbrev pub roles_in : List Part → List Name
 roles_in parts = map (λ local. local.me) (protocols_in parts)
+
+-- the protocol that the files have of a role, or else another
+abbrev pub own_local : List Part → (otherwise : Name → LocalTree) → Name → LocalTree
+own_local parts otherwise me = unwrap_or (find (λ local. bytes_eq local.me me) (protocols_in parts)) (otherwise me)
 
 -- the name is that of the class that is generated of the protocol of one of these roles
 abbrev pub is_role_class : List Name → Name → Bool

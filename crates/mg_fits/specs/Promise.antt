@@ -1,29 +1,34 @@
 -- What is promised of a run whose roles fit a global protocol.
-use Rattle.std.specs.Prelude.{◌≡◌, ◌≢◌, ◌⊎◌, ℕ, List, Some, slice_get}
+use Rattle.std.specs.Prelude.{◌≡◌, ◌⊎◌, ℕ, List, Some, slice_get}
 use Rattle.mg_text.specs.Call.{Name}
-use Rattle.mg_text.specs.declared.event.Ending.TheVariants as endings
 use Rattle.scr_tree.specs.Tree.{LocalTree}
 use Rattle.scr_global.specs.Global.{Global}
 use Rattle.scr_faithful.specs.Faithful.{CanEnd}
 use Rattle.jv_meaning.specs.Program.{Sources}
 use Rattle.vm_model.specs.Program.{Program}
 use Rattle.vm_world_law.specs.declared.role.RoleMain.{RoleMain}
-use Rattle.vm_world_law.specs.World.{Over, Role, World, turns, Rests}
-use Rattle.fit_law.specs.Fit.{IsWell, IsComplete}
-use Rattle.fit_law.specs.Conversed.{IsConversation, IsPartOfConversation}
+use Rattle.vm_world_law.specs.Turns.{IsRun, counted}
+use Rattle.vm_world_law.specs.World.{Role, World, turns, Rests}
+use Rattle.fit_law.specs.Fit.{IsWell}
+use Rattle.fit_law.specs.Conversed.{IsConfiguration, IsPartOfConversation}
+use Rattle.fit_play.specs.Play.{NoZero, ZeroIn, HasEndedWell}
 
--- no role has ended by a zero divisor
-abbrev pub NoZero : World → Type 0
-NoZero w = (r : ℕ) (role : Role) → slice_get w.roles r ≡ Some role → role.state ≢ Over endings.Zero
+-- these sources, the roles of a global protocol with their local protocols, and the roles that run with their classes
+module _ (j : Sources) (roles : List Name) (g : Global) (locals : Name → LocalTree) (mains : List RoleMain) (program : Program) where
+  -- At a moment.
+  pub record NoneIsStuck (w : World) : Type 0 where
+    -- each role goes on, has returned, or has ended by a zero divisor: by no mismatch, no missing peer, no null and no wrong code
+    pub well : (r : ℕ) (role : Role) → slice_get w.roles r ≡ Some role → IsWell role.state
+    -- where the world rests and none has ended by a zero divisor, all is complete
+    pub at_rest : Rests program w → NoZero w → HasEndedWell j roles g locals mains w
+    -- what the roles have done, with the messages on their way, is a configuration that steps of their protocols reach
+    pub configuration : IsConfiguration roles locals mains w
+    -- where each conversation can be brought to an end, what was said so far is part of a complete one
+    pub part : CanEnd g → IsPartOfConversation g mains w
 
--- After every list of turns.
-pub record NoneGetsStuck (j : Sources) (locals : Name → LocalTree) (g : Global) (mains : List RoleMain) (program : Program)
-    (first : World) (taken : List ℕ) : Type 0 where
-  -- each role goes on, has returned, or has ended by a zero divisor: by no mismatch, no missing peer, no null and no wrong code
-  pub well : (r : ℕ) (role : Role) → slice_get (turns program first taken).roles r ≡ Some role → IsWell role.state
-  -- where the world rests and none has ended by a zero divisor, every role has returned, every list is empty, each object is at the end of
-  -- its protocol, and a complete conversation was said
-  pub complete : Rests program (turns program first taken) → NoZero (turns program first taken) →
-      IsComplete j locals mains (turns program first taken) × IsConversation g mains (turns program first taken)
-  -- where each conversation can be brought to an end, what was said so far is part of a complete one
-  pub part : CanEnd g → IsPartOfConversation g mains (turns program first taken)
+  -- After every list of turns; and a run in an order of turns up to a limit ends well, or some role has ended by a zero divisor, or the
+  -- limit is reached.
+  pub record NoneGetsStuck (first : World) : Type 0 where
+    pub always : (taken : List ℕ) → NoneIsStuck (turns program first taken)
+    pub runs : (order : List ℕ) (limit : ℕ) (last : World) → IsRun program first order limit last →
+        HasEndedWell j roles g locals mains last ⊎ (ZeroIn last ⊎ (counted last ≡ limit))

@@ -23,16 +23,19 @@ use Rattle.stm_acts.proofs.Standing as old
 use Rattle.stm_acts.proofs.Reading.{Read}
 use Rattle.stm_acts.proofs.Bodies.{Within, here_it_is, further_on, contained, in_more, is_first}
 use Rattle.stm_acts.proofs.Joined.{called_so, there, of_firsts}
-use Rattle.stm_acts.specs.Calm.{OnlyRolesCall, OnlyMainsPlay, MainPlaysOne, MakesOne, here_it_is as one_here, behind, IsNoRole, EveryInAll}
+use Rattle.stm_acts.specs.Calm.{Scope, declare, behind_it, scope_of, OnlyRolesCall, OnlyMainsPlay, MainPlaysOne, MakesOne}
+use Rattle.stm_acts.specs.Calm.{here_it_is as one_here}
+use Rattle.stm_acts.specs.Calm.{behind, IsNoRole, EveryInAll}
 use Rattle.jv_tree.specs.Source.{Stmts, Method, Class}
 use Rattle.jv_meaning.specs.Names.{is_main}
 use Rattle.std.specs.List.{AllByRecursion}
 use Rattle.stm_acts.specs.Ends.{HasRoles, EndsInCall, IsInCall, IsDoneInCall, IsOther, IsCut, EndsFitCalls, EndsAreInCalls, DeedsAreInCalls}
 use Rattle.stm_acts.specs.Ends.{DeedsAreOfOne, PlaysAlone, IsDoneByOne, not_yet, by_one, IsBusy, deeds}
 use Rattle.stm_acts.proofs.Stage.{Part, Stage, Fits}
-use Rattle.stm_acts.proofs.Everywhere.{all_calm, all_quiet, in_quiet, in_all_quiet}
+use Rattle.stm_acts.proofs.Everywhere.{Any, NoMain, on_object_no_main, all_calm, all_quiet, in_quiet, in_all_quiet}
 use Rattle.stm_acts.proofs.Mains.{Starts, here_so, behind_so, Once, none_made, one_made, nobody, it_alone, made_it, once_so}
-use Rattle.stm_acts.proofs.Moments.{At, Out, In, Did, IsOf, Goes, elsewhere, enters, does, leaves, Ran, goes, part, EndsAt, out, inside, halted}
+use Rattle.stm_acts.proofs.Moments.{At, Out, In, Did, IsOf, Goes, elsewhere, enters, does, leaves, Ran, goes, part, EndsAt, out, inside}
+use Rattle.stm_acts.proofs.Moments.{halted}
 use Rattle.stm_acts.proofs.Moments.{refused}
 use Rattle.stm_acts.proofs.Keeping.{Stops, contains_more, some_is}
 use Rattle.stm_acts.proofs.Programs.{stands}
@@ -150,9 +153,11 @@ module _ (j : Sources) (typestates : List Typestate) (roles : List Name) (protoc
   record Asking : Type 1 where
     Calm : Type 0
     Few : Type 0
-    Plain : Name → Type 0
+    Plain : Method → Type 0
+    on_object : (m : Method) → m.is_static ≡ false → Plain m
     bodies : (c : Name) (class : Class) → class_named j c ≡ Some class → role_of c ≡ None →
-        AllByRecursion (λ (m : Method). Plain m.name → EveryInAll (Fits Calm Few Plain (λ c. role_of c ≡ None)) m.body) class.methods
+        AllByRecursion (λ (m : Method). Plain m → EveryInAll (Fits j Calm Few Plain (λ c. role_of c ≡ None)) (scope_of c m) m.body)
+        class.methods
 
   abbrev stage_of : Asking → Stage
   stage_of a = record {
@@ -161,6 +166,7 @@ module _ (j : Sources) (typestates : List Typestate) (roles : List Name) (protoc
     Calm = a.Calm;
     Few = a.Few;
     Plain = a.Plain;
+    on_object = a.on_object;
     role_of = role_of;
     named = λ c k e. (known c k e).named;
     bodies = a.bodies;
@@ -303,8 +309,9 @@ module _ (j : Sources) (typestates : List Typestate) (roles : List Name) (protoc
   loosely = record {
     Calm = OnlyRolesCall j roles;
     Few = ⊥;
-    Plain = λ n. Unit {0};
-    bodies = λ c class e none. all_calm (OnlyRolesCall j roles) (λ c. role_of c ≡ None) class.methods
+    Plain = Any;
+    on_object = λ m e. tt;
+    bodies = λ c class e none. all_calm j (OnlyRolesCall j roles) (λ c. role_of c ≡ None) c class.methods
         (λ calm. calm.others c class e (unknown c none));
   }
 
@@ -319,22 +326,26 @@ module _ (j : Sources) (typestates : List Typestate) (roles : List Name) (protoc
     quietly = record {
       Calm = Unit {0};
       Few = Unit {0};
-      Plain = λ n. n ≢ codes "main";
-      bodies = λ c class e none. all_quiet roles (λ c. role_of c ≡ None) no_role class.methods (quiet.others c class e (unknown c none));
+      Plain = NoMain;
+      on_object = on_object_no_main;
+      bodies = λ c class e none. all_quiet j roles (λ c. role_of c ≡ None) no_role c class.methods
+          (quiet.others c class e (unknown c none));
     }
 
     module _ (me : Name) (p : PartOf me) where
-      starts_so : (ss : Stmts) → MakesOne roles (role_class p.k.me) ss → Starts (stage_of quietly) p.k p.is_role ss
-      starts_so _ (one_here {rest = rest} k) = here_so (in_all_quiet roles (λ c. role_of c ≡ None) no_role rest k)
-      starts_so _ (behind {s = s} {rest = rest} straight k more) =
-          behind_so straight (in_quiet roles (λ c. role_of c ≡ None) no_role s k) (starts_so rest more)
+      starts_so : (sc : Scope) (ss : Stmts) → MakesOne j roles (role_class p.k.me) sc ss → Starts (stage_of quietly) p.k p.is_role sc ss
+      starts_so sc _ (one_here {x = x} {rest = rest} k) =
+          here_so (in_all_quiet j roles (λ c. role_of c ≡ None) no_role (declare x sc) rest k)
+      starts_so sc _ (behind {s = s} {rest = rest} straight k more) =
+          behind_so straight (in_quiet j roles (λ c. role_of c ≡ None) no_role sc s k) (starts_so (behind_it s sc) rest more)
 
-      all_start : (ms : List Method) → AllByRecursion (λ (m : Method). is_main m ≡ true → MakesOne roles (role_class me) m.body) ms →
-          AllByRecursion (λ (m : Method). is_main m ≡ true → Starts (stage_of quietly) p.k p.is_role m.body) ms
-      all_start [] k = tt
-      all_start (m ∷ ms) k = (
-        (λ e. starts_so m.body (subst (λ n. MakesOne roles (role_class n) m.body) (sym p.same) (k.0 e))),
-        all_start ms k.1,
+      all_start : (c : Name) (ms : List Method) →
+          AllByRecursion (λ (m : Method). is_main m ≡ true → MakesOne j roles (role_class me) (scope_of c m) m.body) ms →
+          AllByRecursion (λ (m : Method). is_main m ≡ true → Starts (stage_of quietly) p.k p.is_role (scope_of c m) m.body) ms
+      all_start c [] k = tt
+      all_start c (m ∷ ms) k = (
+        (λ e. starts_so (scope_of c m) m.body (subst (λ n. MakesOne j roles (role_class n) (scope_of c m) m.body) (sym p.same) (k.0 e))),
+        all_start c ms k.1,
       )
 
     module _ (me : Name) (i : Contains roles me) (class : Name) (plays : MainPlaysOne j roles me class) (budget : ℕ) where
@@ -371,7 +382,7 @@ module _ (j : Sources) (typestates : List Typestate) (roles : List Name) (protoc
       alone_so =
           let p : PartOf me = its_part me i in
           done_by_one p (once_so (stage_of quietly) p.k p.is_role tt class (no_role class plays.plain)
-          (λ c e. all_start me p c.methods (plays.main c e)) budget)
+          (λ c e. all_start me p class c.methods (plays.main c e)) budget)
 
 pub ends_fit_calls : EndsFitCalls
 ends_fit_calls j typestates roles protocols has class inputs budget me i o made method is_open =

@@ -6,3 +6,6 @@ returns-clause-end c = play.turns_converse
 
 pub returns-clause-on : goal.returns-clause-on
 returns-clause-on c = play.turns_go_on
+
+pub returns-clause-reached : goal.returns-clause-reached
+returns-clause-reached c = play.turns_are_reached

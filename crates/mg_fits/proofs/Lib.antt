@@ -1,0 +1,5 @@
+mod Calm
+mod Sourced
+mod Playing
+mod Parts
+mod Fitting
