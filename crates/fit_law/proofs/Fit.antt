@@ -1,7 +1,6 @@
 -- The law: the system that a world is isn't stuck.
 use Rattle.std.proofs.Common.{◌≡◌, ◌≢◌, ◌⊎◌, inl, inr, ⊎_elim, ℕ, suc, ◌+◌, ◌<◌, true, false, List, [], ◌∷◌, ◌++◌}
-use Rattle.std.proofs.Common.{map, length}
-use Rattle.std.proofs.Common.{Some, None, refl, sym, ap, ◌∙◌, subst, arith, append-nil}
+use Rattle.std.proofs.Common.{map, length, Some, None, refl, sym, ap, ◌∙◌, subst, arith, append-nil}
 use Rattle.std.specs.Prelude.{◌==◌, slice_get, Contains}
 use Rattle.std.specs.List.{IsDistinct}
 use Rattle.std.specs.Str.{bytes_eq}
@@ -15,7 +14,7 @@ use Rattle.scr_tree.specs.declared.syntax.Payload.{Payload}
 use Rattle.scr_tree.specs.Tree.{LocalTree}
 use Rattle.scr_tree.specs.Valid.{IsValid as LocalIsValid}
 use Rattle.scr_tree.specs.Meaning.{first_of, protocol_of}
-use Rattle.scr_tree.specs.Protocol.{Message, Send, Take, Protocol}
+use Rattle.scr_tree.specs.Protocol.{Message, Take, Protocol}
 use Rattle.scr_tree.specs.Steps.{Act, Moves, Looks, Position, whole, stays}
 use Rattle.scr_tree.specs.Traces.{Complete}
 use Rattle.scr_global.specs.Alone.{Step, Run, Finished}
@@ -29,12 +28,11 @@ use Rattle.fit_next.specs.Next.{Alike}
 use Rattle.fit_next.proofs.Next.{next_is_alike, finished_stops}
 use Rattle.fit_next.proofs.Inside.{Says, IsPeer, says_projected, peer_at}
 use Rattle.ts_tree.specs.Typestate.{Typestate}
-use Rattle.stm_api.specs.Doings.{Doing, Passes, Asks}
+use Rattle.stm_api.specs.Doings.{Doing, Passes}
 use Rattle.stm_acts.specs.Acts.{unnumbered, kind_of, acts}
 use Rattle.stm_acts.specs.Played.{role_class, Refuses}
-use Rattle.stm_acts.proofs.Standing.{Of}
 use Rattle.jv_values.specs.Alike.{Prefix}
-use Rattle.jv_values.specs.Values.{Inputs, Ended, Finish, Done, Zero, Null, Mismatch, NoPeer, Wait, More, Wrong}
+use Rattle.jv_values.specs.Values.{Inputs, Ended, Finish, Done, Mismatch, NoPeer, Wait}
 use Rattle.jv_values.specs.Messages.{messages_of, taken}
 use Rattle.jv_values.specs.Seen.{IsMade, told, open_told}
 use Rattle.jv_meaning.specs.Program.{Sources}
@@ -57,7 +55,7 @@ use Rattle.vm_world_law.proofs.Begun.{begun_is_fresh}
 use Rattle.vm_world_law.proofs.Inputs.{its_inputs}
 use Rattle.vm_world_law.proofs.Alone.{kept_by}
 use Rattle.vm_world_law.proofs.Lists.{some_is, got_within}
-use Rattle.stm_acts.specs.Ends.{deeds, peer_in, Wants, IsOther, IsCut, IsBusy, Halts, waits, misses, mismatches, StandsAt, EndsInCall, cut}
+use Rattle.stm_acts.specs.Ends.{deeds, peer_in, IsOther, IsCut, IsBusy, Halts, waits, misses, mismatches, StandsAt, EndsInCall, cut}
 use Rattle.stm_acts.specs.Ends.{halts, refuses, IsDoneByOne, not_yet, by_one}
 use Rattle.scr_faithful.specs.Guarded.{IsGuarded}
 use Rattle.scr_faithful.specs.Faithful.{CanEnd}
@@ -71,6 +69,8 @@ use Rattle.fit_law.proofs.Deeds.{deeds-append, Walked, walked, but_look}
 use Rattle.fit_law.proofs.Worlds.{Stands, Good, fresh_is_good, turns_good}
 use Rattle.fit_law.proofs.Objects.{label_known, runs_so, exactly_so, Ahead, ahead, refusal, refused_ahead, completes, at_end}
 use Rattle.fit_law.proofs.Moves.{moved_step, moved_finds, alike_waits, alike_take, alike_look, map_nothing, heads, labels_are, taken_long}
+use Rattle.fit_law.proofs.Wanted.{nothing_first, take_act, look_act, act_wants, peer_same, found_taken, found_looked, wait_is, cut_other}
+use Rattle.fit_law.proofs.Wanted.{not_busy}
 use Rattle.fit_law.proofs.Moves.{got_behind, Emptied, step_waits, Chosen, choose, main_at, name_at}
 
 module _ (j : Sources) (typestates : List Typestate) (roles : List Name) (g : Global) (locals : Name → LocalTree)
@@ -202,10 +202,6 @@ module _ (j : Sources) (typestates : List Typestate) (roles : List Name) (g : Gl
             as_named (walked [] stays (nothing_first (deeds es) (deeds shown.later)
                 (sym (deeds-append es shown.later) ∙ ap deeds (sym shown.is) ∙ none))),
           )
-            where
-              nothing_first : {A : Type 0} (xs ys : List A) → xs ++ ys ≡ [] → xs ≡ []
-              nothing_first [] ys e = refl
-              nothing_first (x ∷ xs) ys e = absurd (cc e)
           go (by_one o made alone acting ends) =
               let x = runs_so j typestates L valid had P says main.class inputs (suc role.count) keeps o made es shown.later shown.is in
               (x.0, as_named (subst (λ ds. Walked (first_of L) ds x.0) (sym (acting es shown.later shown.is)) x.1))
@@ -410,23 +406,7 @@ module _ (j : Sources) (typestates : List Typestate) (roles : List Name) (g : Gl
             let f = finds a.next.at (as_named (walked a.closed a.next.run a.are)) a.next.act a.next.to a.next.step peer
             (ap waits_for act_is) k.number k.lower k.named message front.0 front.1 in
             let other_is_it : f.other_act ≡ Moves (Take peer label kind) = alike_take act_is f.alike in
-            differs (found_is f.label f.kind f.is_label f.is_kind f.other_act other_is_it f.is)
-          where
-            take_act : (act : Act) → Of (Passes (Take peer label kind)) act → act ≡ Moves (Take peer label kind)
-            take_act (Moves m) h = ap Moves (sym h)
-            take_act (Looks n q k) h = absurd h
-
-            found_is : (l1 : Name) (k1 : Payload) → message.label ≡ l1 → kind_of message.payload ≡ k1 → (act : Act) →
-                act ≡ Moves (Take peer label kind) → (act ≡ Moves (Take peer l1 k1)) ⊎ ((n : ℕ) × (act ≡ Looks n peer l1)) →
-                (message.label ≡ label) × (kind_of message.payload ≡ kind)
-            found_is l1 k1 e f act is (inl h) = (e ∙ labels (sym h ∙ is), f ∙ kinds (sym h ∙ is))
-              where
-                labels : {p q l k : Name} {a b : Payload} → Moves (Take p l a) ≡ Moves (Take q k b) → l ≡ k
-                labels e = cc
-
-                kinds : {p q l k : Name} {a b : Payload} → Moves (Take p l a) ≡ Moves (Take q k b) → a ≡ b
-                kinds e = cc
-            found_is l1 k1 e f act is (inr h) = absurd (let x = sym h.1 ∙ is in cc)
+            differs (found_taken f.is_label f.is_kind other_is_it f.is)
 
         -- no label is refused
         no_refusal : Refuses (L r main at_main).me (protocol_of (L r main at_main)) (calls j (role_class (L r main at_main).me) o E)
@@ -434,43 +414,24 @@ module _ (j : Sources) (typestates : List Typestate) (roles : List Name) (g : Gl
         no_refusal s =
             let next = refused_ahead j typestates (L r main at_main) (valid r main at_main) (had r main at_main) (P r main at_main)
             (says r main at_main) main.class (inputs r main at_main) (suc (role r main at_main).count) (keeps r main at_main) o made s in
-            let look = look_act next.act next.of in
+            let look = look_act s.labels next.act next.of in
             let hd = good.looked r (within r main at_main) (map unnumbered s.closed) s.peer s.label (deeds_are ∙ s.are) in
             let f = finds next.at (as_named (but_look s.peer s.label s.closed next.run s.are)) next.act next.to next.step s.peer
             (ap waits_for look.1) hd.from hd.within hd.named hd.message hd.more hd.is in
             let other_is_it = alike_look look.1 f.alike in
-            let label_is : other_is_it.0 ≡ s.label = found_is f.label f.other_act other_is_it.0 other_is_it.1 f.is ∙ sym f.is_label ∙
-            hd.labelled in
+            let label_is : other_is_it.0 ≡ s.label = found_looked other_is_it.1 f.is ∙ sym f.is_label ∙ hd.labelled in
             s.no_branch (label_known j typestates (L r main at_main) (valid r main at_main) (had r main at_main) (P r main at_main)
             (says r main at_main) s.closed next.run
             (subst (λ a. Step next.at a f.to) (other_is_it.1 ∙ ap (Looks s.number s.peer) label_is) f.step) s.asked)
-          where
-            look_act : (act : Act) → Of (Asks s.number s.peer s.labels) act → (k : Name) × (act ≡ Looks s.number s.peer k)
-            look_act (Moves m) h = absurd h
-            look_act (Looks n q k) h = (k, ap (λ x. Looks x q k) (sym h.0) ∙ ap (λ x. Looks s.number x k) (sym h.1))
-
-            found_is : {n : ℕ} {q : Name} (l1 : Name) {k1 : Payload} (act : Act) (k : Name) → act ≡ Looks n q k →
-                (act ≡ Moves (Take q l1 k1)) ⊎ ((m : ℕ) × (act ≡ Looks m q l1)) → k ≡ l1
-            found_is l1 act k is (inl h) = absurd (let x = sym h ∙ is in cc)
-            found_is l1 act k is (inr h) = labels (sym is ∙ h.1)
-              where
-                labels : {m n : ℕ} {p q l k : Name} → Looks m p l ≡ Looks n q k → l ≡ k
-                labels e = cc
 
         -- each peer is there
         no_miss : (doing : Doing) → StandsAt j (L r main at_main).me (protocol_of (L r main at_main)) o E doing →
             messages_of (inputs r main at_main) (peer_in doing) ≡ None → ⊥
         no_miss doing st none =
             let a = ahead_of doing st in
-            let k = peer_is (peer_in doing) (subst (P r main at_main) (peer_same doing a.next.act a.next.of) a.next.peer) in
+            let k = peer_is (peer_in doing) (subst (P r main at_main) (peer_same (P r main at_main) doing a.next.act a.next.of) a.next.peer) in
             let e : None ≡ Some (sent w k.number r) = sym none ∙ k.inputs_are in
             cc
-          where
-            peer_same : (d : Doing) (act : Act) → Of d act → peer_at (P r main at_main) act ≡ peer_in d
-            peer_same (Passes m) (Moves x) h = ap (peer_at (P r main at_main)) (ap Moves (sym h))
-            peer_same (Passes m) (Looks n q k) h = absurd h
-            peer_same (Asks n q ls) (Moves x) h = absurd h
-            peer_same (Asks n q ls) (Looks m p k) h = sym h.1
 
       -- no role ends at a message, or without a peer
       not_bad : (finish : Finish) → Means (mean j main.class (inputs r main at_main)) (suc (role r main at_main).count) (es r main at_main)
@@ -482,26 +443,6 @@ module _ (j : Sources) (typestates : List Typestate) (roles : List Name) (g : Gl
 
           finish_is : (run r main at_main).finish ≡ finish
           finish_is = ap (λ (x : Ended). x.finish) is
-
-          cut_other : (f : Finish) → IsCut f → IsOther f
-          cut_other More h = tt
-          cut_other Wrong h = tt
-          cut_other Done h = tt
-          cut_other Zero h = tt
-          cut_other Null h = tt
-          cut_other (Mismatch p f) h = h
-          cut_other (NoPeer p) h = h
-          cut_other (Wait p) h = h
-
-          not_busy : (f : Finish) → IsBusy f → IsOther f
-          not_busy Done h = absurd h
-          not_busy Zero h = tt
-          not_busy Null h = tt
-          not_busy (Mismatch p f) h = absurd h
-          not_busy (NoPeer p) h = absurd h
-          not_busy (Wait p) h = absurd h
-          not_busy More h = tt
-          not_busy Wrong h = tt
 
           halted : (o : ℕ) → IsMade E o (role_class (L r main at_main).me) → ((so : List Event) → Prefix so E → deeds so ≡ acts o so) →
               {d : Doing} {f : Finish} → StandsAt j (L r main at_main).me (protocol_of (L r main at_main)) o E d →
@@ -535,10 +476,6 @@ module _ (j : Sources) (typestates : List Typestate) (roles : List Name) (g : Gl
               deeds (es r main at_main) ≡ map unnumbered all → Exactly r end
           as_named {end} all run e =
               (all, subst (λ n. Run (whole (protocols n)) all end) (sym (name_is r main at_main)) run, e)
-
-          nothing_first : {A : Type 0} (xs ys : List A) → xs ++ ys ≡ [] → xs ≡ []
-          nothing_first [] ys e = refl
-          nothing_first (x ∷ xs) ys e = absurd (cc e)
 
           go : IsDoneByOne j (roles ++ cast.idle) (L r main at_main).me (protocol_of (L r main at_main)) (inputs r main at_main)
               (run r main at_main) → (end : Position) × Exactly r end
@@ -613,16 +550,6 @@ module _ (j : Sources) (typestates : List Typestate) (roles : List Name) (g : Gl
 
           named_k : name k ≡ name_of w k
           named_k = ap (λ (x : List Name). or_nothing (slice_get x k)) (sym good.named)
-
-          wait_is : {q s : Name} → Wait q ≡ Wait s → q ≡ s
-          wait_is e = cc
-
-          act_wants : (d : Doing) (act : Act) → Of d act → Wants d → waits_for act ≡ Some (peer_in d)
-          act_wants (Passes (Send p l c)) (Moves m) h u = absurd u
-          act_wants (Passes (Take p l c)) (Moves m) h u = ap waits_for (ap Moves (sym h))
-          act_wants (Passes m) (Looks n q x) h u = absurd h
-          act_wants (Asks n q ls) (Moves m) h u = absurd h
-          act_wants (Asks n q ls) (Looks x p y) h u = ap Some (sym h.1)
 
           halted : (o : ℕ) → (made : IsMade (run r main at_main).events o (role_class (L r main at_main).me)) →
               ((so : List Event) → Prefix so (run r main at_main).events → deeds so ≡ acts o so) →

@@ -3,6 +3,7 @@ pub mod Reading
 pub mod Roles
 pub mod Keeping
 pub mod Playing
+pub mod Fitting
 pub mod Protocols
 pub mod Shown
 pub mod Apart

@@ -24,7 +24,7 @@ use Rattle.mg_runs.specs.declared.going.Gone.{Gone}
 use Rattle.mg_runs.specs.Going.{IsGone}
 use Rattle.mg_runs.specs.Runs.{HaveMains, IsLoaded, messages_in}
 use Rattle.mg_runs.specs.Commanded.{no_main, FirstRefusal}
-use Rattle.mg_runs.specs.Laws.{RolesAreMeant, RolesKeep, RolesPlay, AllProtocolsAgree}
+use Rattle.mg_runs.specs.Laws.{RolesAreMeant, RolesKeep, RolesPlay, RolesFit, AllProtocolsAgree}
 use Rattle.mg_runs.specs.View.{IsOfRun}
 use Rattle.mg_runs.specs.inner.Mains.{IsWithout}
 use Rattle.mg_runs.specs.inner.Going.{IsRunOf, told}
@@ -63,11 +63,11 @@ gone_shown core files mains order limit named traced program gone trace messages
 
 module _ (files : List Source) (mains : List RoleMain) (order : List ℕ) (limit : ℕ) (named traced : Bool) where
   -- the run of class files is that of their files
-  pub shown : RolesAreMeant → RolesKeep → RolesPlay → AllProtocolsAgree → (core : Core.Program) (written : List ClassFile) (ran : Ran) →
+  pub shown : RolesAreMeant → RolesKeep → RolesPlay → RolesFit → AllProtocolsAgree → (core : Core.Program) (written : List ClassFile) (ran : Ran) →
       AreAccepted files core →
       HaveMains core mains → AreClassFiles core written → IsRunOf core written mains order limit named traced ran →
       IsOfRun files mains order limit named traced ran
-  shown law keep play agree core written ran a have made r =
+  shown law keep play fit agree core written ran a have made r =
       let meant = law files core written a.have made mains have r.program r.loaded in
       let kept = keep files core a mains have in
       record {
@@ -85,6 +85,7 @@ module _ (files : List Source) (mains : List RoleMain) (order : List ℕ) (limit
           meanings = kept.0;
           parts = λ taken. play files core a mains have r.program (turns r.program r.first taken)
               (from_there a.have.program mains r.program r.first (meant.1 r.first r.begins) taken);
+          fitting = fit files core a mains have r.program r.first r.begins (meant.1 r.first r.begins);
           orders = any_order r.program mains r.first r.begins;
           protocols = agree files;
         };

@@ -20,6 +20,7 @@ use Rattle.gen_rules.specs.Linked.{linked_program}
 use Rattle.mg_sources.specs.Files.{Source}
 use Rattle.mg_accepted.specs.Program.{HaveCore}
 use Rattle.mg_accepted.specs.Accepted.{AreAccepted}
+use Rattle.mg_fits.specs.Laws.{NoneIsStuckWhereFit}
 use Rattle.mg_compile.specs.declared.files.ClassFile.{ClassFile}
 use Rattle.mg_compile.specs.Files.{AreClassFiles}
 use Rattle.mg_runs.specs.Runs.{AreSpelled, IsLoaded, HaveMains}
@@ -63,6 +64,14 @@ abbrev pub RolesPlay : Type 0
 RolesPlay = (files : List Source) (core : Core.Program) (accepted : AreAccepted files core) (mains : List RoleMain) → HaveMains core mains →
     (program : Program) (w : World) → ((more : List ℕ) → AreMeant accepted.have.program mains program (turns program w more)) →
     ObjectsDoTheirPart files accepted.have.program mains program w
+
+-- Roles of accepted files that begin at their `main`s and did what is meant after every list of turns don't get stuck, where they fit a
+-- global protocol.
+abbrev pub RolesFit : Type 0
+RolesFit = (files : List Source) (core : Core.Program) (accepted : AreAccepted files core) (mains : List RoleMain) → HaveMains core mains →
+    (program : Program) (first : World) → IsBegun program mains first →
+    ((taken : List ℕ) → AreMeant accepted.have.program mains program (turns program first taken)) →
+    NoneIsStuckWhereFit files core accepted mains program first
 
 -- What is said of protocols holds of those of all files.
 abbrev pub AllProtocolsAgree : Type 0

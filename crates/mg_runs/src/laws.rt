@@ -1,7 +1,7 @@
 //! What holds of the class files of sources, also of those whose usages aren't right.
 //! There is no running code here; each function carries a law.
 
-ghost use Rattle.mg_runs.specs.Laws.{AllProtocolsAgree, RolesAreMeant, RolesKeep, RolesPlay, RunsAreMeant, WrittenClassesLink};
+ghost use Rattle.mg_runs.specs.Laws.{AllProtocolsAgree, RolesAreMeant, RolesFit, RolesKeep, RolesPlay, RunsAreMeant, WrittenClassesLink};
 
 use gen_held::written_cores_are_held;
 use gen_links::files_link;
@@ -9,6 +9,7 @@ use gen_sound::mains_run_as_meant;
 use jv_names::{core_is_kept, types_are_enough};
 use jv_resolve_law::spelled_is_shaped;
 use mg_accepted_law::{accepted_keep_typestates, accepted_objects_play};
+use mg_fits::roles_that_fit;
 use vm_world_law::{begun_is_fresh, turns_deliver, worlds_are_meant};
 
 /// The bytes of the class files that are written of the core of some files are read back, and what
@@ -65,6 +66,16 @@ pub fn roles_play()
     ensures { RolesPlay }
 {
     accepted_objects_play();
+}
+
+/// Roles of accepted files that fit a global protocol, and do what is meant after every list of turns,
+/// don't get stuck on one another: at each moment each goes on, has returned or has ended by a zero
+/// divisor, and a run that ends by no zero divisor ends with a complete conversation of the global
+/// protocol.
+pub fn roles_fit()
+    ensures { RolesFit }
+{
+    roles_that_fit();
 }
 
 /// The typestate of each protocol that a file spells allows exactly the protocol's traces.

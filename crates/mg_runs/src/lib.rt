@@ -12,7 +12,8 @@ mod sent;
 
 pub use going::{Gone, go};
 pub use laws::{
-    protocols_agree, roles_are_meant, roles_keep, roles_play, runs_are_meant, written_classes_link,
+    protocols_agree, roles_are_meant, roles_fit, roles_keep, roles_play, runs_are_meant,
+    written_classes_link,
 };
 pub use ran::Ran;
 pub use running::{no_main, run_roles};

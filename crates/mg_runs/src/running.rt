@@ -17,7 +17,9 @@ ghost use Rattle.mg_runs.specs.View.{IsOfRun, Shows};
 ghost use Rattle.mg_runs.specs.inner.Going.{IsRunOf, told};
 
 use crate::going::{Gone, go};
-use crate::laws::{protocols_agree, roles_are_meant, roles_keep, roles_play, runs_are_meant};
+use crate::laws::{
+    protocols_agree, roles_are_meant, roles_fit, roles_keep, roles_play, runs_are_meant,
+};
 use crate::loading::load_back;
 use crate::mains::first_without;
 use crate::ran::Ran;
@@ -113,6 +115,7 @@ fn ran_by(
     roles_are_meant();
     roles_keep();
     roles_play();
+    roles_fit();
     protocols_agree();
     if let Some(number) = first_without(core, mains) {
         let refusal = no_main(&mains[number].class)?;
