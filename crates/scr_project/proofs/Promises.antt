@@ -47,7 +47,7 @@ mutual
   branches_in_once NoBranch a b = refl
   branches_in_once (Branch b more) a c = λ i. (branches_once b a.0 c.0 i, branches_in_once more a.1 c.1 i)
 
-clean_of : (g : GlobalTree) → ∥ IsValid g ∥₁ → AreClean g.roles g.body
+pub clean_of : (g : GlobalTree) → ∥ IsValid g ∥₁ → AreClean g.roles g.body
 clean_of g valid = record {
   written = ∥∥₁_elim valid (branches_once g.body) (λ v. v.clean.written);
   roles_listed = ∥∥₁_elim valid (clean_once (UnknownRole g.roles) (spots [] g.body)) (λ v. v.clean.roles_listed);
