@@ -28,13 +28,13 @@ valid_of file bytes a (reads.found {w = w} spells fault) g e =
 -- ---- what is answered for a role
 
 -- the statements, or none
-abbrev body_of : Option Statements → Statements
+abbrev pub body_of : Option Statements → Statements
 body_of None = Nothing
 body_of (Some s) = s
 
 module _ (g : GlobalTree) where
   -- what a role does
-  abbrev does : Name → LocalTree
+  abbrev pub does : Name → LocalTree
   does me = projection_of g me (body_of (projected me g.body))
 
   does_so : (me : Name) (a : projects.Answer) → projects.Outcome g me a → (local : LocalTree) → a ≡ projects.Protocol local →
@@ -44,7 +44,7 @@ module _ (g : GlobalTree) where
   does_so me a (projects.found {body = body} some fault) local e =
       sym (protocol_is (projection_of g me body) local e) ∙ ap (λ (o : Option Statements). projection_of g me (body_of o)) (sym some)
 
-  role_does : (me : Name) (local : LocalTree) → projects.Outcome g me (projects.Protocol local) → local ≡ does me
+  pub role_does : (me : Name) (local : LocalTree) → projects.Outcome g me (projects.Protocol local) → local ≡ does me
   role_does me local h = does_so me (projects.Protocol local) h local refl
 
   files_are : (roles : List Name) (files : List RoleFile) → AreFiles g roles files → files ≡ map (λ role. file_of role (does role)) roles

@@ -5,3 +5,4 @@ pub mod Followed
 pub mod Telling
 pub mod Alike
 pub mod Stops
+pub mod Located

@@ -70,17 +70,17 @@ told_said (Unprojected (projects.Protocol local)) r u h = h
 told_said (Unprojected (projects.NotMergeable place role)) r u h = h
 told_said (Unprojected (projects.Unprojected place role b)) r u h = unmet_said place role b r u h
 
-pub told_refused : (s : Source) (fault : ProjectedFault) (stop : Stop) → IsStopBy IsTold (fault_answer fault) stop →
-    ((a : Answer) → fault_answer fault ≡ Some a → Outcome s.number s.bytes a) →
-    Answers (λ (files : Row RoleFile). AreWritten (s ∷ []) files.items) (FirstRefusal (s ∷ [])) (Err (stop_in s.number stop))
-told_refused s fault (stops.Refused r) (a, e, told) h = record {
+pub told_refused : {A : Type 0} (Right : A → Type 0) (s : Source) (fault : ProjectedFault) (stop : Stop) →
+    IsStopBy IsTold (fault_answer fault) stop → ((a : Answer) → fault_answer fault ≡ Some a → Outcome s.number s.bytes a) →
+    Answers Right (FirstRefusal (s ∷ [])) (Err (stop_in s.number stop))
+told_refused Right s fault (stops.Refused r) (a, e, told) h = record {
   source = s;
   one = refl;
   answer = a;
   gives = h a e;
   said = (r, told_said a r (outcome_unmet s.number s.bytes a (h a e)) told, refl);
 }
-told_refused s fault stops.Memory told h = tt
+told_refused Right s fault stops.Memory told h = tt
 
 pub written_so : (s : Source) (files : Row RoleFile) → Outcome s.number s.bytes (Files files.items) → AreWritten (s ∷ []) files.items
 written_so s files h =

@@ -1,11 +1,14 @@
 -- What is told of a file whose global protocol is projected: the files of its roles, or the first refusal.
-use Rattle.std.specs.Prelude.{◌≡◌, ℕ, List, [], ◌∷◌, ◌++◌, codes}
+use Rattle.std.specs.Prelude.{◌≡◌, ℕ, List, [], ◌∷◌, ◌++◌, codes, map}
+use Rattle.mg_text.specs.Call.{Name}
 use Rattle.mg_text.specs.declared.place.Place.{Place}
+use Rattle.scr_tree.specs.Tree.{LocalTree}
 use Rattle.scr_read.specs.Outcome as scr
 use Rattle.scr_global_tree.specs.declared.condition.GlobalCondition.{GlobalCondition}
 use Rattle.scr_global_tree.specs.declared.condition.GlobalCondition.TheVariants as conditions
 use Rattle.scr_global_tree.specs.Tree.{GlobalTree}
 use Rattle.scr_global_read.specs.Outcome as reads
+use Rattle.scr_project.specs.Laws.{AreProjected}
 use Rattle.scr_project.specs.Outcome as projects
 use Rattle.mg_refusal.specs.Refusals.{Refusal, refusal_at, name_or_none}
 use Rattle.mg_refusal.specs.Order.{InFile}
@@ -59,6 +62,13 @@ pub record AreWritten (files : List Source) (written : List RoleFile) : Type 0 w
   pub global : GlobalTree
   pub reads : reads.Outcome source.number source.bytes (reads.Protocol global)
   pub projected : IsProjected global written
+
+-- The file spells a global protocol, and these are the local protocols of its roles, in the order of the header.
+pub record AreLocals (source : Source) (global : GlobalTree) (locals : List LocalTree) : Type 0 where
+  pub reads : reads.Outcome source.number source.bytes (reads.Protocol global)
+  pub each : Name → LocalTree
+  pub projected : AreProjected global each
+  pub are : locals ≡ map each global.roles
 
 -- The one file spells none, or a role of it has no local protocol, and this is the first refusal.
 pub record FirstRefusal (files : List Source) (r : Refusal) : Type 0 where

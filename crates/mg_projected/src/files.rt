@@ -1,19 +1,14 @@
 //! From the bytes of a file to the texts of its roles' local protocols.
 
-ghost use Rattle.std.specs.Prelude.{◌≡◌, Some, None, Err, IfOk, Contains};
-ghost use Rattle.scr_global_tree.specs.Global.{tree_of};
+ghost use Rattle.std.specs.Prelude.{◌≡◌, Some, None, Err, IfOk, map};
 ghost use Rattle.scr_tree.specs.Local.{tree_of as local_of};
 ghost use Rattle.mg_projected.specs.Projected.{file_of, Answer, Outcome, answer_of, IsAnswered};
-ghost use Rattle.mg_projected.specs.inner.Stages.{FileStage, FilesStage, Stage, IsTold};
+ghost use Rattle.mg_projected.specs.inner.Stages.{Stage, role_file};
 ghost use Rattle.mg_projected.specs.declared.fault.ProjectedFault.TheVariants as faults;
-ghost use Rattle.scr_project.specs.declared.fault.ProjectFault.TheVariants as project_faults;
-ghost use Rattle.scr_global_read.specs.declared.fault.GlobalFault.TheVariants as global_faults;
 
 use crate::fault::ProjectedFault;
+use crate::locals::found_in;
 use mg_text::{List, Memory, Text};
-use scr_global_read::{GlobalFault, read_global};
-use scr_global_tree::Global as GlobalProtocol;
-use scr_project::{ProjectFault, project};
 use scr_read::print_local;
 use scr_tree::Local;
 use std::alloc::Global;
@@ -38,61 +33,28 @@ fn file_with(alloc: Global, role: &Text, local: &Local) -> Result<RoleFile, Memo
     })
 }
 
-// The file of a role.
-fn file_of(alloc: Global, global: &GlobalProtocol, role: &Text) -> Result<RoleFile, ProjectFault>
-    requires { Contains (tree_of global.now).roles role.now }
-    ensures { FileStage (tree_of global.now) role.now result }
-{
-    match project(alloc, global, role.as_str()) {
-        Ok(local) => Ok(file_with(alloc, role, &local)?),
-        Err(fault) => Err(fault),
-    }
-}
-
-// The files of all roles, in their order, or why the first that has none has none.
-fn files_of(alloc: Global, global: &GlobalProtocol) -> Result<List<RoleFile>, ProjectFault>
-    ensures { FilesStage (tree_of global.now) (tree_of global.now).roles result }
+// The files of the roles of these local protocols, in their order.
+fn files_of(alloc: Global, locals: &[Local]) -> Result<List<RoleFile>, Memory>
+    ensures { IfOk result (λ fs. fs.items ≡ map (λ l. role_file (local_of l)) locals.now) }
 {
     let mut files = List::new(alloc);
-    for role in global.roles().as_slice() {
-        match file_of(alloc, global, role) {
-            Ok(file) => files.push(file)?,
-            Err(fault) => return Err(fault),
-        }
+    for local in locals {
+        files.push(file_with(alloc, local.me(), local)?)?;
     }
     Ok(files)
 }
 
-// The fault of roles that have no files.
-fn unprojected(fault: ProjectFault) -> ProjectedFault
-    ensures { IsTold fault project_faults.Memory (faults.Unprojected fault) result }
-{
-    match fault {
-        ProjectFault::Memory => ProjectedFault::Memory,
-        _ => ProjectedFault::Unprojected(fault),
-    }
-}
-
-// The fault of a file that holds no global protocol.
-fn unread(fault: GlobalFault) -> ProjectedFault
-    ensures { IsTold fault global_faults.Memory (faults.Unread fault) result }
-{
-    match fault {
-        GlobalFault::Memory => ProjectedFault::Memory,
-        _ => ProjectedFault::Unread(fault),
-    }
-}
-
 // The files of a file's global protocol.
+#[tactic(auto, using(crate::proofs::Staged::stage_memory))]
 fn projected_of(alloc: Global, file: u32, bytes: &[u8]) -> Result<List<RoleFile>, ProjectedFault>
     ensures { Stage file bytes.now result }
 {
-    match read_global(alloc, file, bytes) {
-        Ok(global) => match files_of(alloc, &global) {
+    match found_in(alloc, file, bytes) {
+        Ok(found) => match files_of(alloc, found.locals.as_slice()) {
             Ok(files) => Ok(files),
-            Err(fault) => Err(unprojected(fault)),
+            Err(Memory) => Err(ProjectedFault::Memory),
         },
-        Err(fault) => Err(unread(fault)),
+        Err(fault) => Err(fault),
     }
 }
 

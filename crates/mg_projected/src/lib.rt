@@ -5,9 +5,11 @@
 mod fault;
 mod files;
 mod laws;
+mod locals;
 mod told;
 
 pub use fault::ProjectedFault;
 pub use files::{RoleFile, projected};
 pub use laws::{files_are_followed, runs_are_followed};
-pub use told::project;
+pub use locals::Locals;
+pub use told::{project, project_locals};

@@ -1,19 +1,25 @@
-//! The files of a global protocol's roles, or the first refusal of a file without them.
+//! The files of a global protocol's roles, or their local protocols, or the first refusal of a file
+//! without them.
 
-ghost use Rattle.std.specs.Prelude.{◌≡◌, ◌++◌, codes, length, List as Seq, ℕ, IfOk, OnOk, option_map};
+ghost use Rattle.std.specs.Prelude.{◌≡◌, [], ◌∷◌, ◌++◌, codes, length, List as Seq, ℕ, IfOk, OnOk, map, option_map};
+ghost use Rattle.scr_tree.specs.Tree.{LocalTree};
+ghost use Rattle.scr_tree.specs.Local.{tree_of as local_of};
+ghost use Rattle.scr_global_tree.specs.Tree.{GlobalTree};
+ghost use Rattle.scr_global_tree.specs.Global.{tree_of};
 ghost use Rattle.scr_read.specs.Outcome.{fault_answer as scr_answer};
 ghost use Rattle.scr_global_read.specs.Outcome.{fault_answer as global_answer};
 ghost use Rattle.scr_project.specs.Outcome as projects;
 ghost use Rattle.mg_refusal.specs.Refusals.{Refusal as Told};
 ghost use Rattle.mg_refusal.specs.Order.{Answers, AnswersOnly, IsStopOf, IsStopBy};
-ghost use Rattle.mg_sources.specs.Files.{sources};
+ghost use Rattle.mg_sources.specs.Files.{source_of, sources};
 ghost use Rattle.mg_projected.specs.Projected.{fault_answer};
-ghost use Rattle.mg_projected.specs.Told.{IsSaidOfGlobal, AreWritten, FirstRefusal};
+ghost use Rattle.mg_projected.specs.Told.{IsSaidOfGlobal, AreWritten, AreLocals, FirstRefusal};
 ghost use Rattle.mg_projected.specs.inner.Saying.{IsToldOfProjection, IsTold, written_alone};
 ghost use Rattle.mg_projected.specs.declared.files.RoleFile.{RoleFile as File};
 
 use crate::fault::ProjectedFault;
 use crate::files::{RoleFile, projected};
+use crate::locals::{Locals, found_in};
 use mg_refusal::Stop;
 use mg_sources::stop_of_protocol;
 use mg_text::{Bytes, List, Memory, Place, Text};
@@ -42,7 +48,37 @@ pub fn project(alloc: Global, contents: &[Bytes]) -> Result<List<RoleFile>, Stop
     written_of(alloc, contents[0].as_slice())
 }
 
-// The same of the bytes of the file, without what follows from its being one answer.
+/// The global protocol that the bytes of the file of this number spell, with the local protocols of
+/// its roles in the order of the header.
+///
+/// # Errors
+/// Those of `project`, with places in the file of this number.
+pub fn project_locals(alloc: Global, file: u32, bytes: &[u8]) -> Result<Locals, Stop>
+    // Whatever the file is called, what is answered are the local protocols of the roles, or the first refusal.
+    ensures answered { (name : Seq ℕ) →
+        Answers (λ l. AreLocals (source_of file name bytes.now) (tree_of l.global) (map local_of l.locals.items))
+        (FirstRefusal (source_of file name bytes.now ∷ [])) result }
+    // The local protocols of the roles are answered, unless memory runs out.
+    ensures only { (name : Seq ℕ) (g : GlobalTree) (locals : Seq LocalTree) → AreLocals (source_of file name bytes.now) g locals →
+        AnswersOnly (λ l. (tree_of l.global ≡ g) × (map local_of l.locals.items ≡ locals)) result }
+    // Of a file that is refused nothing is answered.
+    ensures refused { (name : Seq ℕ) (r : Told) → FirstRefusal (source_of file name bytes.now ∷ []) r → OnOk result ⊥ }
+{
+    locals_told(alloc, file, bytes)
+}
+
+// The same, without what follows from its being one answer.
+fn locals_told(alloc: Global, file: u32, bytes: &[u8]) -> Result<Locals, Stop>
+    ensures { (name : Seq ℕ) → Answers (λ l. AreLocals (source_of file name bytes.now) (tree_of l.global) (map local_of l.locals.items))
+        (FirstRefusal (source_of file name bytes.now ∷ [])) result }
+{
+    match found_in(alloc, file, bytes) {
+        Ok(found) => Ok(found),
+        Err(fault) => Err(stop_of(alloc, fault).in_file(file)),
+    }
+}
+
+// The files of the bytes of the file, without what follows from their being one answer.
 fn written_of(alloc: Global, bytes: &[u8]) -> Result<List<RoleFile>, Stop>
     ensures { (name : Seq ℕ) → Answers (λ files. AreWritten (written_alone name bytes.now) files.items)
         (FirstRefusal (written_alone name bytes.now)) result }
