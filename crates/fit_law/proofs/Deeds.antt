@@ -1,5 +1,5 @@
 -- Deeds, and runs of acts that have them.
-use Rattle.std.proofs.Common.{◌≡◌, ℕ, List, [], ◌∷◌, ◌++◌, map, refl, sym, ap, ap₂, ◌∙◌, subst}
+use Rattle.std.proofs.Common.{◌≡◌, ℕ, Bool, false, List, [], ◌∷◌, ◌++◌, map, refl, sym, ap, ap₂, ◌∙◌, subst}
 use Rattle.std.proofs.Common.{append_assoc, append-nil}
 use Rattle.mg_text.specs.Call.{Name}
 use Rattle.mg_text.specs.declared.event.Event.{Event}
@@ -81,31 +81,33 @@ last_step {p = p} (a ∷ front) (goes step run) =
     let more = last_step front run in
     record { at = more.at; run = goes step more.run; step = more.step }
 
--- Deeds of a run from the start of a protocol; where one more is seen, it is a look.
-pub data Walked (protocol : Protocol) (ds : List Deed) (end : Position) : Type 0 where
-  walked : (acts : List Act) → Run (whole protocol) acts end → ds ≡ map unnumbered acts → Walked protocol ds end
-  but_look : (peer label : Name) (acts : List Act) → Run (whole protocol) acts end →
+-- Deeds of a run from the start of a protocol; where it isn't exact, one more may be seen, a look.
+pub data Walked (exact : Bool) (protocol : Protocol) (ds : List Deed) (end : Position) : Type 0 where
+  walked : (acts : List Act) → Run (whole protocol) acts end → ds ≡ map unnumbered acts → Walked exact protocol ds end
+  but_look : exact ≡ false → (peer label : Name) (acts : List Act) → Run (whole protocol) acts end →
       ds ≡ map unnumbered acts ++ Looked peer label ∷ [] →
-      Walked protocol ds end
+      Walked exact protocol ds end
 
-pub data LastDeed (protocol : Protocol) (ds : List Deed) (d : Deed) (end : Position) : Type 0 where
-  did : (at : Position) (act : Act) → unnumbered act ≡ d → Walked protocol ds at → Step at act end → LastDeed protocol ds d end
-  but_looked : (peer label : Name) → d ≡ Looked peer label → Walked protocol ds end → LastDeed protocol ds d end
+pub data LastDeed (exact : Bool) (protocol : Protocol) (ds : List Deed) (d : Deed) (end : Position) : Type 0 where
+  did : (at : Position) (act : Act) → unnumbered act ≡ d → Walked exact protocol ds at → Step at act end →
+      LastDeed exact protocol ds d end
+  but_looked : exact ≡ false → (peer label : Name) → d ≡ Looked peer label → Walked exact protocol ds end →
+      LastDeed exact protocol ds d end
 
-pub last_deed : {protocol : Protocol} {ds : List Deed} {d : Deed} {end : Position} → Walked protocol (ds ++ d ∷ []) end →
-    LastDeed protocol ds d end
+pub last_deed : {exact : Bool} {protocol : Protocol} {ds : List Deed} {d : Deed} {end : Position} →
+    Walked exact protocol (ds ++ d ∷ []) end → LastDeed exact protocol ds d end
 last_deed {protocol = protocol} {ds = ds} {d = d} {end = end} (walked acts run e) =
     let b = ends_by acts ds d (sym e) in
     let l = last_step b.front (subst (λ xs. Run (whole protocol) xs end) b.is run) in
     did l.at b.last b.deed (walked b.front l.run b.before) l.step
-last_deed {ds = ds} {d = d} (but_look peer label acts run e) =
+last_deed {ds = ds} {d = d} (but_look not_exact peer label acts run e) =
     let s = same_end ds (map unnumbered acts) d (Looked peer label) e in
-    but_looked peer label s.last (walked acts run s.front)
+    but_looked not_exact peer label s.last (walked acts run s.front)
 
-pub start_walked : (protocol : Protocol) {end : Position} → Walked protocol [] end → end ≡ whole protocol
+pub start_walked : {exact : Bool} (protocol : Protocol) {end : Position} → Walked exact protocol [] end → end ≡ whole protocol
 start_walked protocol (walked [] stays e) = refl
 start_walked protocol (walked (a ∷ acts) run e) = absurd (cc e)
-start_walked protocol (but_look peer label acts run e) = absurd (not_nothing (map unnumbered acts) (Looked peer label) e)
+start_walked protocol (but_look not_exact peer label acts run e) = absurd (not_nothing (map unnumbered acts) (Looked peer label) e)
 
 pub moved_is : (act : Act) (m : Message) → unnumbered act ≡ Moved m → act ≡ Moves m
 moved_is (Moves n) m e = let f : n ≡ m = cc in ap Moves f

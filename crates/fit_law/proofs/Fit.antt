@@ -14,7 +14,7 @@ use Rattle.scr_tree.specs.declared.syntax.Payload.{Payload}
 use Rattle.scr_tree.specs.Tree.{LocalTree}
 use Rattle.scr_tree.specs.Valid.{IsValid as LocalIsValid}
 use Rattle.scr_tree.specs.Meaning.{first_of, protocol_of}
-use Rattle.scr_tree.specs.Protocol.{Message, Take, Protocol}
+use Rattle.scr_tree.specs.Protocol.{Take, Protocol}
 use Rattle.scr_tree.specs.Steps.{Act, Moves, Looks, Position, whole, stays}
 use Rattle.scr_tree.specs.Traces.{Complete}
 use Rattle.scr_global.specs.Alone.{Step, Run, Finished}
@@ -58,19 +58,19 @@ use Rattle.vm_world_law.proofs.Lists.{some_is, got_within}
 use Rattle.stm_acts.specs.Ends.{deeds, peer_in, IsOther, IsCut, IsBusy, Halts, waits, misses, mismatches, StandsAt, EndsInCall, cut}
 use Rattle.stm_acts.specs.Ends.{halts, refuses, IsDoneByOne, not_yet, by_one}
 use Rattle.scr_faithful.specs.Guarded.{IsGuarded}
-use Rattle.scr_faithful.specs.Faithful.{CanEnd}
+use Rattle.scr_faithful.specs.Faithful.{CanEnd, CanDoRest, acts_on}
 use Rattle.scr_faithful.proofs.Faithful.{complete_is_conversation, each_has_done_its_part}
-use Rattle.scr_faithful.specs.Heard.{NoneIsForgotten}
+use Rattle.scr_faithful.specs.Heard.{NoneIsForgotten, CanDoMore}
 use Rattle.scr_faithful.proofs.Heard.{each_has_done_a_part}
 use Rattle.fit_law.specs.Conversed.{TurnsGoOnInConversation, passed, parcel_of, RestIsConversation, TurnsAreInConversation}
-use Rattle.fit_law.specs.Conversed.{IsConfiguration, IsFinished, TurnsAreConfigurations, RestIsFinished}
-use Rattle.fit_law.specs.Fit.{IsHad, KeepsTo, IsCast, AreMeant, IsWell, IsComplete, NoneGetsStuck}
+use Rattle.fit_law.specs.Conversed.{IsConfiguration, IsFinished, TurnsAreConfigurations, RestIsFinished, IsPartOfConversation, IsPartOfGoing}
+use Rattle.fit_law.specs.Fit.{IsHad, KeepsTo, IsCast, AreMeant, IsWell, IsOfOne, IsComplete, NoneGetsStuck}
 use Rattle.fit_law.proofs.Deeds.{deeds-append, Walked, walked, but_look}
 use Rattle.fit_law.proofs.Worlds.{Stands, Good, fresh_is_good, turns_good}
 use Rattle.fit_law.proofs.Objects.{label_known, runs_so, exactly_so, Ahead, ahead, refusal, refused_ahead, completes, at_end}
 use Rattle.fit_law.proofs.Moves.{moved_step, moved_finds, alike_waits, alike_take, alike_look, map_nothing, heads, labels_are, taken_long}
 use Rattle.fit_law.proofs.Wanted.{nothing_first, take_act, look_act, act_wants, peer_same, found_taken, found_looked, wait_is, cut_other}
-use Rattle.fit_law.proofs.Wanted.{not_busy}
+use Rattle.fit_law.proofs.Wanted.{not_busy, of_one}
 use Rattle.fit_law.proofs.Moves.{got_behind, Emptied, step_waits, Chosen, choose, main_at, name_at}
 
 module _ (j : Sources) (typestates : List Typestate) (roles : List Name) (g : Global) (locals : Name → LocalTree)
@@ -121,13 +121,13 @@ module _ (j : Sources) (typestates : List Typestate) (roles : List Name) (g : Gl
     delivers = (kept_by p first fresh so_far).delivers
 
     abbrev Walk : ℕ → Position → Type 0
-    Walk i end = Walked (protocols (name i)) (deeds (events_of i w.events)) end
+    Walk i end = Walked false (protocols (name i)) (deeds (events_of i w.events)) end
 
     -- a run of the role's protocol that has just its deeds
     abbrev Exactly : ℕ → Position → Type 0
     Exactly i end = (all : List Act) × Run (whole (protocols (name i))) all end × (deeds (events_of i w.events) ≡ map unnumbered all)
 
-    as_walk : (i : ℕ) {end : Position} → Exactly i end → Walk i end
+    as_walk : (i : ℕ) {end : Position} → Exactly i end → Walked true (protocols (name i)) (deeds (events_of i w.events)) end
     as_walk i x = walked x.0 x.1 x.2
 
     -- ---- one role
@@ -193,8 +193,8 @@ module _ (j : Sources) (typestates : List Typestate) (roles : List Name) (g : Gl
       somewhere : (end : Position) × Walk r end
       somewhere = go done_so
         where
-          as_named : {end : Position} → Walked (first_of L) (deeds es) end → Walk r end
-          as_named {end} x = subst (λ n. Walked (protocols n) (deeds es) end) (sym (name_is r main at_main)) x
+          as_named : {end : Position} → Walked false (first_of L) (deeds es) end → Walk r end
+          as_named {end} x = subst (λ n. Walked false (protocols n) (deeds es) end) (sym (name_is r main at_main)) x
 
           go : IsDoneByOne j (roles ++ cast.idle) L.me (protocol_of L) inputs run → (end : Position) × Walk r end
           go (not_yet nobody none busy) = (
@@ -204,51 +204,11 @@ module _ (j : Sources) (typestates : List Typestate) (roles : List Name) (g : Gl
           )
           go (by_one o made alone acting ends) =
               let x = runs_so j typestates L valid had P says main.class inputs (suc role.count) keeps o made es shown.later shown.is in
-              (x.0, as_named (subst (λ ds. Walked (first_of L) ds x.0) (sym (acting es shown.later shown.is)) x.1))
+              (x.0, as_named (subst (λ ds. Walked false (first_of L) ds x.0) (sym (acting es shown.later shown.is)) x.1))
 
     -- the walk of each role of a number
     anywhere : (i : ℕ) → i < length names → (end : Position) × Walk i end
     anywhere i h = let m = main_at mains i h in somewhere i m.main m.at
-
-    -- what was said so far
-    started : CanEnd g → (messages : List Passing) × conversations.Complete g messages
-        × ((r : ℕ) (main : RoleMain) → slice_get mains r ≡ Some main → (rest : List Message)
-        × (global_law.named main.role messages ≡ passed (deeds (events_of r w.events)) ++ rest))
-    started can =
-        let chosen = choose (length names) Walk anywhere in
-        let s = good.stands (record { ends = chosen.ends; walks = chosen.are }) in
-        let m = each_has_done_its_part roles g locals are can s.system s.reached in (
-          m.0,
-          m.1,
-          λ r main at.
-              let h : r < length names = got_within names r main.role (name_at mains r main at) in
-              let d = m.2 (name r) (listed r h) in (
-                global_law.messages_of d.acts,
-                ap (λ n. global_law.named n m.0) (sym (name_is r main at)) ∙ d.are
-                    ∙ ap (λ ms. ms ++ global_law.messages_of d.acts) (s.said r h),
-              ),
-        )
-
-    -- the same where a conversation needn't come to an end
-    gone_on : NoneIsForgotten roles g locals → (messages : List Passing) × (point : conversations.Point)
-        × conversations.Goes (conversations.start g) messages point
-        × ((r : ℕ) (main : RoleMain) → slice_get mains r ≡ Some main → (rest : List Message)
-        × (global_law.named main.role messages ≡ passed (deeds (events_of r w.events)) ++ rest))
-    gone_on heard =
-        let chosen = choose (length names) Walk anywhere in
-        let s = good.stands (record { ends = chosen.ends; walks = chosen.are }) in
-        let m = each_has_done_a_part roles g locals are heard s.system s.reached in (
-          m.0,
-          m.1,
-          m.2,
-          λ r main at.
-              let h : r < length names = got_within names r main.role (name_at mains r main at) in
-              let d = m.3 (name r) (listed r h) in (
-                global_law.messages_of d.acts,
-                ap (λ n. global_law.named n m.0) (sym (name_is r main at)) ∙ d.are
-                    ∙ ap (λ ms. ms ++ global_law.messages_of d.acts) (s.said r h),
-              ),
-        )
 
     -- ---- a role that ended badly
 
@@ -271,7 +231,7 @@ module _ (j : Sources) (typestates : List Typestate) (roles : List Name) (g : Gl
 
       world_is : (end : Position) → Walk r end → World_is end
       world_is end x =
-          let s = good.stands (record { ends = chosen.ends; walks = λ i h. (chosen.are i h).0 }) in
+          let s = good.stands false (record { ends = chosen.ends; walks = λ i h. (chosen.are i h).0 }) in
           record {
             system = s.system;
             reached = s.reached;
@@ -341,10 +301,10 @@ module _ (j : Sources) (typestates : List Typestate) (roles : List Name) (g : Gl
         deeds_are : deeds (es r main at_main) ≡ acts o E
         deeds_are = ap deeds (sym settled) ∙ only E all_of_it
 
-        as_named : {end : Position} → Walked (first_of (L r main at_main)) (acts o E) end → Walk r end
+        as_named : {end : Position} → Walked false (first_of (L r main at_main)) (acts o E) end → Walk r end
         as_named {end} x =
-            subst (λ n. Walked (protocols n) (deeds (es r main at_main)) end) (sym (name_is r main at_main))
-            (subst (λ ds. Walked (first_of (L r main at_main)) ds end) (sym deeds_are) x)
+            subst (λ n. Walked false (protocols n) (deeds (es r main at_main)) end) (sym (name_is r main at_main))
+            (subst (λ ds. Walked false (first_of (L r main at_main)) ds end) (sym deeds_are) x)
 
         exactly_named : {end : Position} (all : List Act) → Run (whole (first_of (L r main at_main))) all end →
             acts o E ≡ map unnumbered all → Exactly r end
@@ -416,7 +376,7 @@ module _ (j : Sources) (typestates : List Typestate) (roles : List Name) (g : Gl
             (says r main at_main) main.class (inputs r main at_main) (suc (role r main at_main).count) (keeps r main at_main) o made s in
             let look = look_act s.labels next.act next.of in
             let hd = good.looked r (within r main at_main) (map unnumbered s.closed) s.peer s.label (deeds_are ∙ s.are) in
-            let f = finds next.at (as_named (but_look s.peer s.label s.closed next.run s.are)) next.act next.to next.step s.peer
+            let f = finds next.at (as_named (but_look refl s.peer s.label s.closed next.run s.are)) next.act next.to next.step s.peer
             (ap waits_for look.1) hd.from hd.within hd.named hd.message hd.more hd.is in
             let other_is_it = alike_look look.1 f.alike in
             let label_is : other_is_it.0 ≡ s.label = found_looked other_is_it.1 f.is ∙ sym f.is_label ∙ hd.labelled in
@@ -617,6 +577,12 @@ module _ (j : Sources) (typestates : List Typestate) (roles : List Name) (g : Gl
                   ),
                 )
 
+        -- one object has done all
+        is_of_one : IsOfOne roles main.role (es r main at_main)
+        is_of_one =
+            subst (λ n. IsOfOne roles n (es r main at_main)) (cast.locals_are.own main.role (l r main at_main))
+            (subst (IsOfOne roles (L r main at_main).me) done_settled (of_one roles cast.idle (done_so r main at_main) done_finish))
+
         -- its objects are at the end
         is_complete : (o : ℕ) → IsMade (es r main at_main) o (role_class (L r main at_main).me) →
             Complete (L r main at_main).me (protocol_of (L r main at_main))
@@ -645,21 +611,15 @@ module _ (j : Sources) (typestates : List Typestate) (roles : List Name) (g : Gl
           go (Over (endings.Bad _)) e still h = absurd (subst IsWell e h)
 
     -- a configuration, by where each role stands
-    abbrev configured : (ends : ℕ → Position) → ((i : ℕ) → i < length names → Exactly i (ends i)) →
-        Stands roles protocols names begun.distinct listed w ends → IsConfiguration roles locals mains w
-    configured ends are s =
+    abbrev configured : (ends : ℕ → Position) → Stands roles protocols names begun.distinct listed true w ends →
+        IsConfiguration roles locals mains w
+    configured ends s =
         record {
           system = s.system;
           reached = s.reached;
           done = λ r main at.
               let h : r < length names = got_within names r main.role (name_at mains r main at) in
-              let x = are r h in
-              let place : s.system.at main.role ≡ ends r = ap (λ n. s.system.at n) (sym (name_is r main at)) ∙ s.at r h in (
-                x.0,
-                subst (λ q. Run (whole (protocols main.role)) x.0 q) (sym place)
-                    (subst (λ n. Run (whole (protocols n)) x.0 (ends r)) (name_is r main at) x.1),
-                x.2,
-              );
+              sym (s.did refl r h) ∙ ap (λ n. map unnumbered (acts_on s.reached n)) (name_is r main at);
           lists = λ from to sender receiver at_from at_to.
               let hf : from < length names = got_within names from sender.role (name_at mains from sender at_from) in
               let ht : to < length names = got_within names to receiver.role (name_at mains to receiver at_to) in
@@ -670,10 +630,43 @@ module _ (j : Sources) (typestates : List Typestate) (roles : List Name) (g : Gl
     exactly_at : (i : ℕ) → i < length names → (end : Position) × Exactly i end
     exactly_at i h = let m = main_at mains i h in exact i m.main m.at
 
-    is_configuration : IsConfiguration roles locals mains w
-    is_configuration =
-        let chosen = choose (length names) Exactly exactly_at in
-        configured chosen.ends chosen.are (good.stands (record { ends = chosen.ends; walks = λ i h. as_walk i (chosen.are i h) }))
+    at_once : Chosen (length names) Exactly
+    at_once = choose (length names) Exactly exactly_at
+
+    stood : Stands roles protocols names begun.distinct listed true w at_once.ends
+    stood = good.stands true (record { ends = at_once.ends; walks = λ i h. as_walk i (at_once.are i h) })
+
+    abbrev is_configuration : IsConfiguration roles locals mains w
+    is_configuration = configured at_once.ends stood
+
+    -- what was said so far, and can be said
+    started : CanEnd g → IsPartOfConversation roles locals g mains w
+    started can =
+        let m = each_has_done_its_part roles g locals are can stood.system stood.reached in (
+          is_configuration,
+          m.0,
+          m.1,
+          λ r main at.
+              let h : r < length names = got_within names r main.role (name_at mains r main at) in
+              subst (λ n. CanDoRest (stood.system.at n) (passed (deeds (events_of r w.events))) (global_law.named n m.0)) (name_is r main at)
+              (subst (λ ms. CanDoRest (stood.system.at (name r)) ms (global_law.named (name r) m.0)) (stood.said r h)
+              (m.2 (name r) (listed r h))),
+        )
+
+    -- the same where a conversation needn't come to an end
+    gone_on : NoneIsForgotten roles g locals → IsPartOfGoing roles locals g mains w
+    gone_on heard =
+        let m = each_has_done_a_part roles g locals are heard stood.system stood.reached in (
+          is_configuration,
+          m.0,
+          m.1,
+          m.2,
+          λ r main at.
+              let h : r < length names = got_within names r main.role (name_at mains r main at) in
+              subst (λ n. CanDoMore (stood.system.at n) (passed (deeds (events_of r w.events))) (global_law.named n m.0)) (name_is r main at)
+              (subst (λ ms. CanDoMore (stood.system.at (name r)) ms (global_law.named (name r) m.0)) (stood.said r h)
+              (m.3 (name r) (listed r h))),
+        )
 
     module _ (rests : Rests p w) (no_zero : (r : ℕ) (role : Role) → slice_get w.roles r ≡ Some role → role.state ≢ Over endings.Zero) where
       -- where each stands, whatever its state is
@@ -694,8 +687,8 @@ module _ (j : Sources) (typestates : List Typestate) (roles : List Name) (g : Gl
       chosen : Chosen (length names) Standing
       chosen = choose (length names) Standing stand
 
-      now : Stands roles protocols names begun.distinct listed w chosen.ends
-      now = good.stands (record { ends = chosen.ends; walks = λ i h. as_walk i (chosen.are i h).0 })
+      now : Stands roles protocols names begun.distinct listed true w chosen.ends
+      now = good.stands true (record { ends = chosen.ends; walks = λ i h. as_walk i (chosen.are i h).0 })
 
       abbrev c : System
       c = now.system
@@ -739,7 +732,7 @@ module _ (j : Sources) (typestates : List Typestate) (roles : List Name) (g : Gl
           go h (returned e f) = e
           go h (blocked act to peer k step wants lt is empty) = absurd (finished_stops (stuck_none.finished (name r) (listed r h)) step)
 
-      all_over : IsComplete j locals mains w
+      all_over : IsComplete j roles locals mains w
       all_over = record {
         returned = all_returned;
         empty = λ from to lf lt.
@@ -747,12 +740,14 @@ module _ (j : Sources) (typestates : List Typestate) (roles : List Name) (g : Gl
             let ht : to < length names = subst (λ (x : List Name). to < length x) good.named lt in
             map_nothing parcel_of (on_way w.messages from to)
             (sym (now.lists from to hf ht) ∙ stuck_none.empty (name from) (name to) (listed from hf) (listed to ht));
+        by_one = λ r main at_main.
+            is_of_one r main at_main (all_returned r (role r main at_main) (at_role r main at_main));
         ends = λ r main at_main o made.
             is_complete r main at_main (all_returned r (role r main at_main) (at_role r main at_main)) o made;
       }
 
       rest_is_configuration : (c : IsConfiguration roles locals mains w) × IsFinished roles c.system
-      rest_is_configuration = (configured chosen.ends (λ i h. (chosen.are i h).0) now, stuck_none.finished)
+      rest_is_configuration = (configured chosen.ends now, stuck_none.finished)
 
       conversed : IsGuarded g → (messages : List Passing) × conversations.Complete g messages
           × ((r : ℕ) (main : RoleMain) → slice_get mains r ≡ Some main →

@@ -1,5 +1,5 @@
 -- What the object of a role may do next, where it waits, mismatches or is refused, and that it is at the end where the role has returned.
-use Rattle.std.proofs.Common.{◌≡◌, ℕ, suc, ◌+◌, List, [], ◌∷◌, ◌++◌, map, length, Option, Some, None, option_and_then, refl}
+use Rattle.std.proofs.Common.{◌≡◌, false, ℕ, suc, ◌+◌, List, [], ◌∷◌, ◌++◌, map, length, Option, Some, None, option_and_then, refl}
 use Rattle.std.proofs.Common.{sym, ap, ◌∙◌, subst, append-nil, arith, ◌⊎◌, inl, inr}
 use Rattle.std.proofs.lemmas.List.{length-append, map-append}
 use Rattle.std.specs.Prelude.{Contains}
@@ -254,13 +254,13 @@ module _ (j : Sources) (typestates : List Typestate) (L : LocalTree) (valid : �
 
       -- a run of its acts so far
       pub runs_so : (so_far later : List Event) → run_of.events ≡ so_far ++ later →
-          (end : Position) × Walked (first_of L) (acts o so_far) end
+          (end : Position) × Walked false (first_of L) (acts o so_far) end
       runs_so so_far later is = go (played so_far later is)
         where
           go : Played L.me parts (calls j (role_class L.me) o so_far) (open_told (told o so_far)) (acts o so_far) so_far run_of →
-              (end : Position) × Walked (first_of L) (acts o so_far) end
+              (end : Position) × Walked false (first_of L) (acts o so_far) end
           go (plays p) = (p.end, walked (p.closed ++ p.last) (run_says P [] p.run says_at).0 p.are)
-          go (refuses s) = (s.end, but_look s.peer s.label s.closed (run_says P [] s.run says_at).0 s.are)
+          go (refuses s) = (s.end, but_look refl s.peer s.label s.closed (run_says P [] s.run says_at).0 s.are)
 
       -- all its acts so far are a run, or the last is a look at a label of no branch
       pub exactly_so : (so_far later : List Event) → run_of.events ≡ so_far ++ later →

@@ -1,15 +1,18 @@
 -- What acts of a doing want, which of those that are alike finds what it wants, and how ends sort.
-use Rattle.std.proofs.Common.{◌≡◌, ◌⊎◌, inl, inr, ℕ, List, [], ◌∷◌, ◌++◌, Some, refl, sym, ap, ◌∙◌}
+use Rattle.std.proofs.Common.{◌≡◌, ◌⊎◌, inl, inr, ℕ, List, [], ◌∷◌, ◌++◌, Some, refl, sym, ap, ◌∙◌, subst, append-nil}
+use Rattle.std.proofs.lemmas.List.Elements.{Contains-append_left}
 use Rattle.mg_text.specs.Call.{Name}
 use Rattle.scr_tree.specs.declared.syntax.Payload.{Payload}
-use Rattle.scr_tree.specs.Protocol.{Send, Take}
+use Rattle.scr_tree.specs.Protocol.{Parts, Send, Take}
 use Rattle.scr_tree.specs.Steps.{Act, Moves, Looks}
 use Rattle.scr_global.specs.Systems.{waits_for}
 use Rattle.fit_next.proofs.Inside.{peer_at}
 use Rattle.stm_api.specs.Doings.{Doing, Passes, Asks}
-use Rattle.stm_acts.specs.Ends.{peer_in, Wants, IsOther, IsCut, IsBusy}
+use Rattle.stm_acts.specs.Ends.{peer_in, Wants, IsOther, IsCut, IsBusy, IsDoneByOne, not_yet, by_one}
 use Rattle.stm_acts.proofs.Standing.{Of}
-use Rattle.jv_values.specs.Values.{Finish, Done, Zero, Null, Mismatch, NoPeer, Wait, More, Wrong}
+use Rattle.jv_meaning.specs.Program.{Sources}
+use Rattle.fit_law.specs.Fit.{IsOfOne}
+use Rattle.jv_values.specs.Values.{Inputs, Ended, Finish, Done, Zero, Null, Mismatch, NoPeer, Wait, More, Wrong}
 
 -- the front of nothing is nothing
 pub nothing_first : {A : Type 0} (xs ys : List A) → xs ++ ys ≡ [] → xs ≡ []
@@ -88,3 +91,14 @@ not_busy (NoPeer p) h = absurd h
 not_busy (Wait p) h = absurd h
 not_busy More h = tt
 not_busy Wrong h = tt
+
+-- where a run has returned, one object has done all
+pub of_one : {j : Sources} (roles idle : List Name) {me : Name} {protocol : Parts} {inputs : Inputs} {run : Ended} →
+    IsDoneByOne j (roles ++ idle) me protocol inputs run → run.finish ≡ Done → IsOfOne roles me run.events
+of_one roles idle (not_yet nobody none busy) e = absurd (subst IsBusy e busy)
+of_one roles idle {run = run} (by_one o made alone acting ends) e = record {
+  object = o;
+  made = made;
+  only = λ you other has made_so. alone you other (Contains-append_left roles idle you has) made_so;
+  acting = acting run.events [] (sym (append-nil run.events));
+}

@@ -1,8 +1,7 @@
 -- A world is a system that steps reach: the roles stand at the ends of runs that have their deeds, and the lists are the messages on their
 -- way.
-use Rattle.std.proofs.Common.{◌≡◌, ◌≢◌, ◌⊎◌, inl, inr, ⊎_elim, ℕ, suc, ◌<◌, Bool, true, false, List, [], ◌∷◌, ◌++◌, map, length, Option}
-use Rattle.std.proofs.Common.{Some}
-use Rattle.std.proofs.Common.{None, refl, sym, ap, ◌∙◌, subst, position, arith, append_assoc}
+use Rattle.std.proofs.Common.{◌≡◌, ◌≢◌, ◌⊎◌, inl, inr, ⊎_elim, ℕ, suc, ◌<◌, Bool, true, false, true≢false, List, [], ◌∷◌, ◌++◌, map, length}
+use Rattle.std.proofs.Common.{Option, Some, None, refl, sym, ap, ◌∙◌, subst, position, arith, append_assoc}
 use Rattle.std.specs.Prelude.{◌==◌, if◌then◌else◌, slice_get, slice_set, Contains}
 use Rattle.std.specs.List.{IsDistinct}
 use Rattle.std.specs.Str.{bytes_eq}
@@ -76,17 +75,19 @@ module _ (roles : List Name) (protocols : Name → Protocol) (names : List Name)
       (λ e. n (one_place names i k (name i) distinct (name_at i hi) (name_at k hk ∙ ap Some (sym e))))
 
   -- where each role stands
-  pub record Walks (w : World) : Type 0 where
+  pub record Walks (exact : Bool) (w : World) : Type 0 where
     pub ends : ℕ → Position
-    pub walks : (i : ℕ) → i < length names → Walked (protocols (name i)) (deeds (events_of i w.events)) (ends i)
+    pub walks : (i : ℕ) → i < length names → Walked exact (protocols (name i)) (deeds (events_of i w.events)) (ends i)
 
-  pub record Stands (w : World) (ends : ℕ → Position) : Type 0 where
+  pub record Stands (exact : Bool) (w : World) (ends : ℕ → Position) : Type 0 where
     pub system : System
     pub reached : Reaches roles (initial protocols) system
     pub at : (i : ℕ) → i < length names → system.at (name i) ≡ ends i
     pub lists : (i k : ℕ) → i < length names → k < length names → system.lists (name i) (name k) ≡ map parcel_of (on_way w.messages i k)
     -- the messages of each role are those on the path
     pub said : (i : ℕ) → i < length names → global_law.messages_of (acts_on reached (name i)) ≡ passed (deeds (events_of i w.events))
+    -- so are all its deeds, where the walks have them all
+    pub did : exact ≡ true → (i : ℕ) → i < length names → map unnumbered (acts_on reached (name i)) ≡ deeds (events_of i w.events)
 
   -- the first message from a peer has this label
   pub record Heads (w : World) (i : ℕ) (peer label : Name) : Type 0 where
@@ -106,7 +107,7 @@ module _ (roles : List Name) (protocols : Name → Protocol) (names : List Name)
     pub named : w.messages.roles ≡ names
     pub as_many : length w.roles ≡ length names
     pub square : IsSquare w.messages
-    pub stands : (walks : Walks w) → Stands w walks.ends
+    pub stands : (exact : Bool) (walks : Walks exact w) → Stands exact w walks.ends
     -- where the last deed was a look, the message is still there
     pub looked : Looked_is w
 
@@ -117,13 +118,14 @@ module _ (roles : List Name) (protocols : Name → Protocol) (names : List Name)
     named = e;
     as_many = fresh.as_many ∙ ap length e;
     square = subst IsSquare (sym fresh.no_message) (none_square w.messages.roles);
-    stands = λ walks. record {
+    stands = λ exact walks. record {
       system = initial protocols;
       reached = here;
-      at = λ i h. sym (start_walked (protocols (name i)) (subst (λ ds. Walked (protocols (name i)) ds (walks.ends i)) (none i)
+      at = λ i h. sym (start_walked (protocols (name i)) (subst (λ ds. Walked exact (protocols (name i)) ds (walks.ends i)) (none i)
           (walks.walks i h)));
       lists = λ i k hi hk. sym (ap (map parcel_of) (ap (λ q. on_way q i k) fresh.no_message ∙ none_on_way w.messages.roles i k));
       said = λ i h. sym (ap passed (none i));
+      did = λ is_exact i h. sym (none i);
     };
     looked = λ i h ds peer label f. absurd (nothing_ends ds (Looked peer label) (sym f ∙ none i));
   }
@@ -139,12 +141,19 @@ module _ (roles : List Name) (protocols : Name → Protocol) (names : List Name)
     named = g.named;
     as_many = long ∙ g.as_many;
     square = g.square;
-    stands = λ walks.
-        let s = g.stands (record {
+    stands = λ exact walks.
+        let s = g.stands exact (record {
           ends = walks.ends;
-          walks = λ i h. subst (λ ds. Walked (protocols (name i)) ds (walks.ends i)) (e i) (walks.walks i h);
+          walks = λ i h. subst (λ ds. Walked exact (protocols (name i)) ds (walks.ends i)) (e i) (walks.walks i h);
         }) in
-        record { system = s.system; reached = s.reached; at = s.at; lists = s.lists; said = λ i h. s.said i h ∙ ap passed (sym (e i)) };
+        record {
+          system = s.system;
+          reached = s.reached;
+          at = s.at;
+          lists = s.lists;
+          said = λ i h. s.said i h ∙ ap passed (sym (e i));
+          did = λ is_exact i h. s.did is_exact i h ∙ sym (e i);
+        };
     looked = λ i h ds peer label f.
         let l = g.looked i h ds peer label (sym (e i) ∙ f) in
         record { from = l.from; within = l.within; named = l.named; message = l.message; more = l.more; is = l.is; labelled = l.labelled };
@@ -184,6 +193,26 @@ module _ (roles : List Name) (protocols : Name → Protocol) (names : List Name)
             ap (λ (b : Bool). global_law.messages_of (if_same b (acts (name r) ++ a ∷ []) (acts (name i)))) (other_names i r h within is.1)
             ∙ said i h ∙ ap passed (sym (theirs i is.1))
 
+    -- the acts on the path
+    did_at : (acts : Name → List Act) (a : Act) → unnumbered a ≡ d →
+        ((i : ℕ) → i < length names → map unnumbered (acts (name i)) ≡ deeds (events_of i w.events)) →
+        (i : ℕ) → i < length names → map unnumbered (put (name r) (acts (name r) ++ a ∷ []) acts (name i)) ≡
+        deeds (events_of i (w.events ++ of_role r e ∷ []))
+    did_at acts a f before_it i h = go (eqb_tells i r)
+      where
+        go : Tells i r → map unnumbered (if_same (bytes_eq (name i) (name r)) (acts (name r) ++ a ∷ []) (acts (name i))) ≡
+            deeds (events_of i (w.events ++ of_role r e ∷ []))
+        go (inl is) =
+            ap (λ (b : Bool). map unnumbered (if_same b (acts (name r) ++ a ∷ []) (acts (name i)))) (same_names i r is.1)
+            ∙ map-append unnumbered (acts (name r)) (a ∷ [])
+            ∙ ap (λ ds. ds ++ unnumbered a ∷ []) (before_it r within)
+            ∙ ap (λ x. deeds (events_of r w.events) ++ x ∷ []) f
+            ∙ sym mine
+            ∙ ap (λ x. deeds (events_of x (w.events ++ of_role r e ∷ []))) (sym is.1)
+        go (inr is) =
+            ap (λ (b : Bool). map unnumbered (if_same b (acts (name r) ++ a ∷ []) (acts (name i)))) (other_names i r h within is.1)
+            ∙ before_it i h ∙ sym (theirs i is.1)
+
     said_no_more : passed (d ∷ []) ≡ [] → (i : ℕ) → i < length names → passed (deeds (events_of i w.events)) ≡
         passed (deeds (events_of i (w.events ++ of_role r e ∷ [])))
     said_no_more f i h = go (eqb_tells i r)
@@ -199,32 +228,32 @@ module _ (roles : List Name) (protocols : Name → Protocol) (names : List Name)
         go (inr is) = ap passed (sym (theirs i is.1))
 
     -- where the roles stood before
-    walked_before : (q : Messages) (walks : Walks (v_of q)) (at : Position) →
-        Walked (protocols (name r)) (deeds (events_of r w.events)) at →
-        (i : ℕ) → i < length names → Walked (protocols (name i)) (deeds (events_of i w.events)) (if i == r then at else walks.ends i)
-    walked_before q walks at x i h = go i h (eqb_tells i r)
+    walked_before : (exact : Bool) (q : Messages) (walks : Walks exact (v_of q)) (at : Position) →
+        Walked exact (protocols (name r)) (deeds (events_of r w.events)) at →
+        (i : ℕ) → i < length names → Walked exact (protocols (name i)) (deeds (events_of i w.events)) (if i == r then at else walks.ends i)
+    walked_before exact q walks at x i h = go i h (eqb_tells i r)
       where
         go : (i : ℕ) → i < length names → Tells i r →
-            Walked (protocols (name i)) (deeds (events_of i w.events)) (if i == r then at else walks.ends i)
+            Walked exact (protocols (name i)) (deeds (events_of i w.events)) (if i == r then at else walks.ends i)
         go i h (inl is) =
-            subst (Walked (protocols (name i)) (deeds (events_of i w.events)))
+            subst (Walked exact (protocols (name i)) (deeds (events_of i w.events)))
             (sym (ap (λ (b : Bool). if b then at else walks.ends i) is.0))
-            (subst (λ k. Walked (protocols (name k)) (deeds (events_of k w.events)) at) (sym is.1) x)
+            (subst (λ k. Walked exact (protocols (name k)) (deeds (events_of k w.events)) at) (sym is.1) x)
         go i h (inr is) =
-            subst (Walked (protocols (name i)) (deeds (events_of i w.events)))
+            subst (Walked exact (protocols (name i)) (deeds (events_of i w.events)))
             (sym (ap (λ (b : Bool). if b then at else walks.ends i) is.0))
-            (subst (λ ds. Walked (protocols (name i)) ds (walks.ends i)) (theirs i is.1) (walks.walks i h))
+            (subst (λ ds. Walked exact (protocols (name i)) ds (walks.ends i)) (theirs i is.1) (walks.walks i h))
 
-    abbrev before : (q : Messages) (walks : Walks (v_of q)) (at : Position) →
-        Walked (protocols (name r)) (deeds (events_of r w.events)) at →
-        Walks w
-    before q walks at x = record { ends = λ i. if i == r then at else walks.ends i; walks = walked_before q walks at x }
+    abbrev before : (exact : Bool) (q : Messages) (walks : Walks exact (v_of q)) (at : Position) →
+        Walked exact (protocols (name r)) (deeds (events_of r w.events)) at →
+        Walks exact w
+    before exact q walks at x = record { ends = λ i. if i == r then at else walks.ends i; walks = walked_before exact q walks at x }
 
     -- the position of the role that did it, and those of the others
-    moved_at : (q : Messages) (walks : Walks (v_of q)) (at : Position) (c : System) →
+    moved_at : (exact : Bool) (q : Messages) (walks : Walks exact (v_of q)) (at : Position) (c : System) →
         ((i : ℕ) → i < length names → c.at (name i) ≡ (if i == r then at else walks.ends i)) →
         (i : ℕ) → i < length names → put (name r) (walks.ends r) c.at (name i) ≡ walks.ends i
-    moved_at q walks at c stood i h = go (eqb_tells i r)
+    moved_at exact q walks at c stood i h = go (eqb_tells i r)
       where
         go : Tells i r → put (name r) (walks.ends r) c.at (name i) ≡ walks.ends i
         go (inl is) =
@@ -233,9 +262,9 @@ module _ (roles : List Name) (protocols : Name → Protocol) (names : List Name)
             ap (λ (b : Bool). if_same b (walks.ends r) (c.at (name i))) (other_names i r h within is.1)
             ∙ stood i h ∙ ap (λ (b : Bool). if b then at else walks.ends i) is.0
 
-    stood_at : (q : Messages) (walks : Walks (v_of q)) (at : Position) (c : System) →
+    stood_at : (exact : Bool) (q : Messages) (walks : Walks exact (v_of q)) (at : Position) (c : System) →
         ((i : ℕ) → i < length names → c.at (name i) ≡ (if i == r then at else walks.ends i)) → c.at (name r) ≡ at
-    stood_at q walks at c stood = stood r within ∙ ap (λ (b : Bool). if b then at else walks.ends r) (self (eqb_tells r r))
+    stood_at exact q walks at c stood = stood r within ∙ ap (λ (b : Bool). if b then at else walks.ends r) (self (eqb_tells r r))
       where
         self : Tells r r → (r == r) ≡ true
         self (inl is) = is.0
@@ -307,14 +336,14 @@ module _ (roles : List Name) (protocols : Name → Protocol) (names : List Name)
       set_sent = set_square_way w.messages r to sent_list g.square
           (subst (λ (l : List Name). r < length l) (sym g.named) within) (subst (λ (l : List Name). to < length l) (sym g.named) to_within)
 
-      sent_stands : (walks : Walks (behind w r rs behind_sent (Some sent_event))) →
-          LastDeed (protocols (name r)) (deeds (events_of r w.events)) sent_deed (walks.ends r) →
-          Stands (behind w r rs behind_sent (Some sent_event)) walks.ends
-      sent_stands walks (but_looked pk lk h x) = absurd (let f : sent_deed ≡ Looked pk lk = h in cc)
-      sent_stands walks (did at a u x did_step) =
-          let s = g.stands (before w g r within rs long sent_event sent_deed refl behind_sent walks at x) in
+      sent_stands : (exact : Bool) (walks : Walks exact (behind w r rs behind_sent (Some sent_event))) →
+          LastDeed exact (protocols (name r)) (deeds (events_of r w.events)) sent_deed (walks.ends r) →
+          Stands exact (behind w r rs behind_sent (Some sent_event)) walks.ends
+      sent_stands exact walks (but_looked not_exact pk lk h x) = absurd (let f : sent_deed ≡ Looked pk lk = h in cc)
+      sent_stands exact walks (did at a u x did_step) =
+          let s = g.stands exact (before w g r within rs long sent_event sent_deed refl exact behind_sent walks at x) in
           let c = s.system in
-          let stood = stood_at w g r within rs long sent_event sent_deed refl behind_sent walks at c s.at in
+          let stood = stood_at w g r within rs long sent_event sent_deed refl exact behind_sent walks at c s.at in
           let is : a ≡ Moves (Send (name to) message.label kind) =
           moved_is a (Send peer message.label kind) u ∙ ap (λ q. Moves (Send q message.label kind)) (sym (named_so to other).0) in
           let st : Step (c.at (name r)) (Moves (Send (name to) message.label kind)) (walks.ends r) =
@@ -326,7 +355,7 @@ module _ (roles : List Name) (protocols : Name → Protocol) (names : List Name)
               lists = put_list (name r) (name to) (c.lists (name r) (name to) ++ parcel message.label kind ∷ []) c.lists;
             };
             reached = after s.reached (listed r within) (systems.sends st);
-            at = moved_at w g r within rs long sent_event sent_deed refl behind_sent walks at c s.at;
+            at = moved_at w g r within rs long sent_event sent_deed refl exact behind_sent walks at c s.at;
             lists = λ i k hi hk.
                 ap (λ xs. put_list (name r) (name to) xs c.lists (name i) (name k))
                 (ap (λ xs. xs ++ parcel message.label kind ∷ []) (s.lists r to within to_within)
@@ -334,6 +363,9 @@ module _ (roles : List Name) (protocols : Name → Protocol) (names : List Name)
                 ∙ put_way w g r within rs long sent_event sent_deed refl c r to sent_list within to_within s.lists set_sent i k hi hk;
             said = said_at w g r within rs long sent_event sent_deed refl (acts_on s.reached) (Moves (Send (name to) message.label kind))
                 (ap (λ q. Send q message.label kind ∷ []) (named_so to other).0) s.said;
+            did = λ is_exact. did_at w g r within rs long sent_event sent_deed refl (acts_on s.reached)
+                (Moves (Send (name to) message.label kind)) (ap (λ q. act.Moved (Send q message.label kind)) (named_so to other).0)
+                (s.did is_exact);
           }
 
       sent_looked : Looked_is (behind w r rs behind_sent (Some sent_event))
@@ -387,8 +419,8 @@ module _ (roles : List Name) (protocols : Name → Protocol) (names : List Name)
         named = g.named;
         as_many = long ∙ g.as_many;
         square = set_square w.messages r to sent_list g.square;
-        stands = λ walks. sent_stands walks
-            (last_deed (subst (λ ds. Walked (protocols (name r)) ds (walks.ends r)) (mine w g r within rs long sent_event sent_deed refl)
+        stands = λ exact walks. sent_stands exact walks
+            (last_deed (subst (λ ds. Walked exact (protocols (name r)) ds (walks.ends r)) (mine w g r within rs long sent_event sent_deed refl)
             (walks.walks r within)));
         looked = sent_looked;
       }
@@ -414,14 +446,14 @@ module _ (roles : List Name) (protocols : Name → Protocol) (names : List Name)
       abbrev behind_taken : Messages
       behind_taken = with_list w.messages from r rest
 
-      taken_stands : (walks : Walks (behind w r rs behind_taken (Some taken_event))) →
-          LastDeed (protocols (name r)) (deeds (events_of r w.events)) taken_deed (walks.ends r) →
-          Stands (behind w r rs behind_taken (Some taken_event)) walks.ends
-      taken_stands walks (but_looked pk lk h x) = absurd (let f : taken_deed ≡ Looked pk lk = h in cc)
-      taken_stands walks (did at a u x did_step) =
-          let s = g.stands (before w g r within rs long taken_event taken_deed refl behind_taken walks at x) in
+      taken_stands : (exact : Bool) (walks : Walks exact (behind w r rs behind_taken (Some taken_event))) →
+          LastDeed exact (protocols (name r)) (deeds (events_of r w.events)) taken_deed (walks.ends r) →
+          Stands exact (behind w r rs behind_taken (Some taken_event)) walks.ends
+      taken_stands exact walks (but_looked not_exact pk lk h x) = absurd (let f : taken_deed ≡ Looked pk lk = h in cc)
+      taken_stands exact walks (did at a u x did_step) =
+          let s = g.stands exact (before w g r within rs long taken_event taken_deed refl exact behind_taken walks at x) in
           let c = s.system in
-          let stood = stood_at w g r within rs long taken_event taken_deed refl behind_taken walks at c s.at in
+          let stood = stood_at w g r within rs long taken_event taken_deed refl exact behind_taken walks at c s.at in
           let is : a ≡ Moves (Take (name from) message.label kind) =
           moved_is a (Take peer message.label kind) u ∙ ap (λ q. Moves (Take q message.label kind)) (sym (named_so from other).0) in
           let st : Step (c.at (name r)) (Moves (Take (name from) message.label kind)) (walks.ends r) =
@@ -433,11 +465,14 @@ module _ (roles : List Name) (protocols : Name → Protocol) (names : List Name)
               lists = put_list (name from) (name r) (map parcel_of rest) c.lists;
             };
             reached = after s.reached (listed r within) (systems.takes st (in_front c s.lists));
-            at = moved_at w g r within rs long taken_event taken_deed refl behind_taken walks at c s.at;
+            at = moved_at w g r within rs long taken_event taken_deed refl exact behind_taken walks at c s.at;
             lists = put_way w g r within rs long taken_event taken_deed refl c from r rest from_within within s.lists
                 (set_some w.messages from r rest message rest way);
             said = said_at w g r within rs long taken_event taken_deed refl (acts_on s.reached)
                 (Moves (Take (name from) message.label kind)) (ap (λ q. Take q message.label kind ∷ []) (named_so from other).0) s.said;
+            did = λ is_exact. did_at w g r within rs long taken_event taken_deed refl (acts_on s.reached)
+                (Moves (Take (name from) message.label kind)) (ap (λ q. act.Moved (Take q message.label kind)) (named_so from other).0)
+                (s.did is_exact);
           }
 
       taken_looked : Looked_is (behind w r rs behind_taken (Some taken_event))
@@ -467,8 +502,8 @@ module _ (roles : List Name) (protocols : Name → Protocol) (names : List Name)
         named = g.named;
         as_many = long ∙ g.as_many;
         square = set_square w.messages from r rest g.square;
-        stands = λ walks. taken_stands walks
-            (last_deed (subst (λ ds. Walked (protocols (name r)) ds (walks.ends r)) (mine w g r within rs long taken_event taken_deed refl)
+        stands = λ exact walks. taken_stands exact walks
+            (last_deed (subst (λ ds. Walked exact (protocols (name r)) ds (walks.ends r)) (mine w g r within rs long taken_event taken_deed refl)
             (walks.walks r within)));
         looked = taken_looked;
       }
@@ -479,26 +514,27 @@ module _ (roles : List Name) (protocols : Name → Protocol) (names : List Name)
       abbrev look_deed : Deed
       look_deed = Looked peer message.label
 
-      look_stands : (walks : Walks (behind w r rs w.messages (Some look_event))) →
-          LastDeed (protocols (name r)) (deeds (events_of r w.events)) look_deed (walks.ends r) →
-          Stands (behind w r rs w.messages (Some look_event)) walks.ends
-      look_stands walks (but_looked pk lk h x) =
-          let s = g.stands (before w g r within rs long look_event look_deed refl w.messages walks (walks.ends r) x) in
+      look_stands : (exact : Bool) (walks : Walks exact (behind w r rs w.messages (Some look_event))) →
+          LastDeed exact (protocols (name r)) (deeds (events_of r w.events)) look_deed (walks.ends r) →
+          Stands exact (behind w r rs w.messages (Some look_event)) walks.ends
+      look_stands exact walks (but_looked not_exact pk lk h x) =
+          let s = g.stands exact (before w g r within rs long look_event look_deed refl exact w.messages walks (walks.ends r) x) in
           record {
             system = s.system;
             reached = s.reached;
             at = λ i h. s.at i h ∙ either i (eqb_tells i r);
             lists = s.lists;
             said = λ i h. s.said i h ∙ said_no_more w g r within rs long look_event look_deed refl refl i h;
+            did = λ is_exact. absurd (true≢false (sym is_exact ∙ not_exact));
           }
         where
           either : (i : ℕ) → Tells i r → (if i == r then walks.ends r else walks.ends i) ≡ walks.ends i
           either i (inl is) = ap (λ (b : Bool). if b then walks.ends r else walks.ends i) is.0 ∙ ap walks.ends (sym is.1)
           either i (inr is) = ap (λ (b : Bool). if b then walks.ends r else walks.ends i) is.0
-      look_stands walks (did at a u x did_step) =
-          let s = g.stands (before w g r within rs long look_event look_deed refl w.messages walks at x) in
+      look_stands exact walks (did at a u x did_step) =
+          let s = g.stands exact (before w g r within rs long look_event look_deed refl exact w.messages walks at x) in
           let c = s.system in
-          let stood = stood_at w g r within rs long look_event look_deed refl w.messages walks at c s.at in
+          let stood = stood_at w g r within rs long look_event look_deed refl exact w.messages walks at c s.at in
           let n = looked_is a peer message.label u in
           let is : a ≡ Looks n.0 (name from) message.label = n.1 ∙ ap (λ q. Looks n.0 q message.label) (sym (named_so from other).0) in
           let st : Step (c.at (name r)) (Looks n.0 (name from) message.label) (walks.ends r) =
@@ -507,10 +543,12 @@ module _ (roles : List Name) (protocols : Name → Protocol) (names : List Name)
           record {
             system = record { at = put (name r) (walks.ends r) c.at; lists = c.lists };
             reached = after s.reached (listed r within) (systems.looks st (in_front c s.lists));
-            at = moved_at w g r within rs long look_event look_deed refl w.messages walks at c s.at;
+            at = moved_at w g r within rs long look_event look_deed refl exact w.messages walks at c s.at;
             lists = s.lists;
             said = said_at w g r within rs long look_event look_deed refl (acts_on s.reached) (Looks n.0 (name from) message.label) refl
                 s.said;
+            did = λ is_exact. did_at w g r within rs long look_event look_deed refl (acts_on s.reached)
+                (Looks n.0 (name from) message.label) (ap (λ q. Looked q message.label) (named_so from other).0) (s.did is_exact);
           }
 
       look_looked : Looked_is (behind w r rs w.messages (Some look_event))
@@ -554,8 +592,8 @@ module _ (roles : List Name) (protocols : Name → Protocol) (names : List Name)
         named = g.named;
         as_many = long ∙ g.as_many;
         square = g.square;
-        stands = λ walks. look_stands walks
-            (last_deed (subst (λ ds. Walked (protocols (name r)) ds (walks.ends r)) (mine w g r within rs long look_event look_deed refl)
+        stands = λ exact walks. look_stands exact walks
+            (last_deed (subst (λ ds. Walked exact (protocols (name r)) ds (walks.ends r)) (mine w g r within rs long look_event look_deed refl)
             (walks.walks r within)));
         looked = look_looked;
       }

@@ -1,20 +1,18 @@
 -- What roles that play a global protocol have said to each other when they rest is a conversation of it.
-use Rattle.std.specs.Prelude.{◌≡◌, ◌≢◌, ℕ, List, [], ◌∷◌, ◌++◌, map, Some, Contains, slice_get}
+use Rattle.std.specs.Prelude.{◌≡◌, ◌≢◌, ℕ, List, [], ◌∷◌, map, Some, Contains, slice_get}
 use Rattle.mg_text.specs.Call.{Name}
 use Rattle.mg_text.specs.declared.event.Ending.TheVariants as endings
 use Rattle.mg_text.specs.declared.event.Sent.{Sent}
-use Rattle.scr_tree.specs.Meaning.{first_of}
 use Rattle.scr_tree.specs.Protocol.{Message}
-use Rattle.scr_tree.specs.Steps.{Act, whole}
 use Rattle.scr_tree.specs.Tree.{LocalTree}
 use Rattle.scr_global.specs.Global.{Passing, Global}
-use Rattle.scr_global.specs.Alone.{Run, Finished}
+use Rattle.scr_global.specs.Alone.{Finished}
 use Rattle.scr_global.specs.Points.{Point, start, Goes, Complete}
 use Rattle.scr_global.specs.Systems.{Parcel, parcel, System}
 use Rattle.scr_global.specs.Laws.{named, IsReached}
-use Rattle.scr_faithful.specs.Faithful.{CanEnd}
+use Rattle.scr_faithful.specs.Faithful.{CanEnd, CanDoRest, acts_on}
 use Rattle.scr_faithful.specs.Guarded.{IsGuarded}
-use Rattle.scr_faithful.specs.Heard.{NoneIsForgotten}
+use Rattle.scr_faithful.specs.Heard.{NoneIsForgotten, CanDoMore}
 use Rattle.ts_tree.specs.Typestate.{Typestate}
 use Rattle.stm_acts.specs.Acts.{Deed, Moved, Looked, unnumbered, kind_of}
 use Rattle.jv_meaning.specs.Program.{Sources}
@@ -39,10 +37,9 @@ parcel_of m = parcel m.label (kind_of m.payload)
 pub record IsConfiguration (roles : List Name) (locals : Name → LocalTree) (mains : List RoleMain) (w : World) : Type 0 where
   pub system : System
   pub reached : IsReached roles locals system
-  -- each role has done the acts of a run of its protocol, the numbers of choices aside, and stands at its end
+  -- on the way each role does what it has done, the numbers of choices aside
   pub done : (r : ℕ) (main : RoleMain) → slice_get mains r ≡ Some main →
-      (acts : List Act) × Run (whole (first_of (locals main.role))) acts (system.at main.role)
-      × (deeds (events_of r w.events) ≡ map unnumbered acts)
+      deeds (events_of r w.events) ≡ map unnumbered (acts_on reached main.role)
   -- the messages from each role to each other one are those that were sent and not yet taken
   pub lists : (from to : ℕ) (sender receiver : RoleMain) → slice_get mains from ≡ Some sender → slice_get mains to ≡ Some receiver →
       system.lists sender.role receiver.role ≡ map parcel_of (on_way w.messages from to)
@@ -57,19 +54,20 @@ IsConversation g mains w =
     (messages : List Passing) × Complete g messages
     × ((r : ℕ) (main : RoleMain) → slice_get mains r ≡ Some main → passed (deeds (events_of r w.events)) ≡ named main.role messages)
 
--- In a complete conversation, each role has sent and taken the first of the messages that name it.
-abbrev pub IsPartOfConversation : Global → List RoleMain → World → Type 0
-IsPartOfConversation g mains w =
-    (messages : List Passing) × Complete g messages
-    × ((r : ℕ) (main : RoleMain) → slice_get mains r ≡ Some main → (rest : List Message)
-    × (named main.role messages ≡ passed (deeds (events_of r w.events)) ++ rest))
+-- In a complete conversation, each role has sent and taken the first of the messages that name it, and can do the others from where it
+-- stands in the configuration that the world is.
+abbrev pub IsPartOfConversation : List Name → (Name → LocalTree) → Global → List RoleMain → World → Type 0
+IsPartOfConversation roles locals g mains w =
+    (c : IsConfiguration roles locals mains w) × (messages : List Passing) × Complete g messages
+    × ((r : ℕ) (main : RoleMain) → slice_get mains r ≡ Some main →
+    CanDoRest (c.system.at main.role) (passed (deeds (events_of r w.events))) (named main.role messages))
 
 -- The same in a conversation that needn't come to an end.
-abbrev pub IsPartOfGoing : Global → List RoleMain → World → Type 0
-IsPartOfGoing g mains w =
-    (messages : List Passing) × (point : Point) × Goes (start g) messages point
-    × ((r : ℕ) (main : RoleMain) → slice_get mains r ≡ Some main → (rest : List Message)
-    × (named main.role messages ≡ passed (deeds (events_of r w.events)) ++ rest))
+abbrev pub IsPartOfGoing : List Name → (Name → LocalTree) → Global → List RoleMain → World → Type 0
+IsPartOfGoing roles locals g mains w =
+    (c : IsConfiguration roles locals mains w) × (messages : List Passing) × (point : Point) × Goes (start g) messages point
+    × ((r : ℕ) (main : RoleMain) → slice_get mains r ≡ Some main →
+    CanDoMore (c.system.at main.role) (passed (deeds (events_of r w.events))) (named main.role messages))
 
 -- After every list of turns the world is such a configuration.
 abbrev pub TurnsAreConfigurations : Type 0
@@ -106,7 +104,7 @@ TurnsAreInConversation =
     (j : Sources) (typestates : List Typestate) (roles : List Name) (g : Global) (locals : Name → LocalTree) (mains : List RoleMain)
     → IsCast j typestates roles g locals mains → CanEnd g →
     (p : Program) (first : World) → IsBegun p mains first → ((taken : List ℕ) → AreMeant j mains p (turns p first taken)) →
-    (taken : List ℕ) → IsPartOfConversation g mains (turns p first taken)
+    (taken : List ℕ) → IsPartOfConversation roles locals g mains (turns p first taken)
 
 -- Where no role is forgotten, it is part of a conversation that needn't come to an end.
 abbrev pub TurnsGoOnInConversation : Type 0
@@ -114,4 +112,4 @@ TurnsGoOnInConversation =
     (j : Sources) (typestates : List Typestate) (roles : List Name) (g : Global) (locals : Name → LocalTree) (mains : List RoleMain)
     → IsCast j typestates roles g locals mains → NoneIsForgotten roles g locals →
     (p : Program) (first : World) → IsBegun p mains first → ((taken : List ℕ) → AreMeant j mains p (turns p first taken)) →
-    (taken : List ℕ) → IsPartOfGoing g mains (turns p first taken)
+    (taken : List ℕ) → IsPartOfGoing roles locals g mains (turns p first taken)

@@ -23,7 +23,8 @@ use Rattle.vm_model.specs.Program.{Program}
 use Rattle.vm_world_law.specs.declared.role.RoleMain.{RoleMain}
 use Rattle.vm_world_law.specs.World.{State, Runs, Over, Role, World, turns, IsBegun, events_of, Rests}
 use Rattle.vm_world_law.specs.Worlds.{IsMeant}
-use Rattle.stm_acts.specs.Ends.{IsDoneByOne}
+use Rattle.stm_acts.specs.Acts.{acts}
+use Rattle.stm_acts.specs.Ends.{IsDoneByOne, deeds}
 
 -- The program has what is generated of a local protocol, and its typestate is the generated one.
 pub record IsHad (j : Sources) (typestates : List Typestate) (local : LocalTree) : Type 0 where
@@ -71,10 +72,20 @@ IsWell (Over endings.Done) = Unit {0}
 IsWell (Over endings.Zero) = Unit {0}
 IsWell (Over _) = ⊥
 
--- Every role has returned, no message is left, and each object of a role's class is at the end of its protocol.
-pub record IsComplete (j : Sources) (locals : Name → LocalTree) (mains : List RoleMain) (w : World) : Type 0 where
+-- One object of the class of a role has done all that the role has sent, looked at and taken, and no other of a class of these roles was
+-- made.
+pub record IsOfOne (roles : List Name) (me : Name) (events : List Event) : Type 0 where
+  pub object : ℕ
+  pub made : IsMade events object (role_class me)
+  pub only : (you : Name) (other : ℕ) → Contains roles you → IsMade events other (role_class you) → other ≡ object
+  pub acting : deeds events ≡ acts object events
+
+-- Every role has returned, no message is left, each role has acted by one object, and each object of a role's class is at the end of its
+-- protocol.
+pub record IsComplete (j : Sources) (roles : List Name) (locals : Name → LocalTree) (mains : List RoleMain) (w : World) : Type 0 where
   pub returned : (r : ℕ) (role : Role) → slice_get w.roles r ≡ Some role → role.state ≡ Over endings.Done
   pub empty : (from to : ℕ) → from < length w.messages.roles → to < length w.messages.roles → on_way w.messages from to ≡ []
+  pub by_one : (r : ℕ) (main : RoleMain) → slice_get mains r ≡ Some main → IsOfOne roles main.role (events_of r w.events)
   pub ends : (r : ℕ) (main : RoleMain) → slice_get mains r ≡ Some main → (o : ℕ) →
       IsMade (events_of r w.events) o (role_class (locals main.role).me) →
       Complete (locals main.role).me (protocol_of (locals main.role)) (calls j (role_class (locals main.role).me) o (events_of r w.events))
@@ -88,4 +99,4 @@ NoneGetsStuck =
     ((r : ℕ) (role : Role) → slice_get (turns p first taken).roles r ≡ Some role → IsWell role.state)
     × (Rests p (turns p first taken) →
     ((r : ℕ) (role : Role) → slice_get (turns p first taken).roles r ≡ Some role → role.state ≢ Over endings.Zero) →
-    IsComplete j locals mains (turns p first taken))
+    IsComplete j roles locals mains (turns p first taken))

@@ -1,6 +1,7 @@
 -- Sources that play a global protocol do so by one object a role.
-use Rattle.std.proofs.Common.{◌≡◌, ◌≢◌, ◌⊎◌, inl, inr, ⊎_elim, ℕ, zero, suc, List, [], ◌∷◌, ◌++◌, Some, refl, sym, ap, ◌∙◌, subst}
+use Rattle.std.proofs.Common.{◌≡◌, ◌≢◌, ◌⊎◌, inl, inr, ⊎_elim, ℕ, zero, suc, Bool, true, false, true≢false, List, [], ◌∷◌, ◌++◌, Some, refl, sym, ap, ◌∙◌, subst}
 use Rattle.std.specs.Prelude.{Contains, slice_get}
+use Rattle.std.specs.List.{list_any}
 use Rattle.mg_text.specs.Call.{Name}
 use Rattle.mg_text.specs.declared.event.Ending.{Ending}
 use Rattle.mg_text.specs.declared.event.Ending.TheVariants as endings
@@ -18,8 +19,9 @@ use Rattle.stm_acts.proofs.Valid.{there, parted}
 use Rattle.vm_world_law.specs.declared.role.RoleMain.{RoleMain}
 use Rattle.stm_acts.specs.Ends.{HasRoles, IsDoneByOne}
 use Rattle.stm_acts.proofs.InCalls.{plays_alone}
-use Rattle.vm_world_law.specs.Turns.{first_turns, counted}
+use Rattle.vm_world_law.specs.Turns.{first_turns, counted, is_bound, stands_in}
 use Rattle.vm_world_law.specs.World.{State, Runs, Over, Role, World, Rests}
+use Rattle.vm_world_law.proofs.Turns.{rest_is_no_bound}
 use Rattle.fit_law.specs.Fit.{IsCast}
 use Rattle.fit_law.proofs.Fit.{none_gets_stuck, rest_is_finished, rest_is_conversation, turns_are_configurations, turns_are_in_conversation}
 use Rattle.fit_law.proofs.Fit.{turns_go_on_in_conversation}
@@ -108,16 +110,21 @@ pub runs_end_well : RunsEndWell
 runs_end_well j typestates roles g locals mains play keeps p first begun meant order limit last run =
     ⊎_elim
     (λ rests. at_rest rests (zeros last.roles))
-    (λ full. inr (inr full)) run.stops
+    (λ full. at_limit full (list_any is_bound (stands_in p last)) refl) run.stops
   where
     at_rest : Rests p last → Zeros last.roles →
-        HasEndedWell j roles g locals mains last ⊎ (ZeroIn last ⊎ (counted last ≡ limit))
+        HasEndedWell j roles g locals mains last ⊎ (ZeroIn last ⊎ ((Rests p last → ⊥) × (counted last ≡ limit)))
     at_rest rests (some_zero i x at e) = inr (inl (record { number = i; role = x; there = at; zero = e }))
     at_rest rests (no_zero h) =
         inl (subst (λ (w : World). HasEndedWell j roles g locals mains w) (sym run.is)
         ((none_gets_stuck_in j typestates roles g locals mains play keeps p first begun meant (first_turns order run.taken)).1
         (subst (Rests p) run.is rests)
         (λ r x at. subst (λ (w : World). slice_get w.roles r ≡ Some x → x.state ≢ Over endings.Zero) run.is (λ at e. h r x at e) at)))
+
+    at_limit : counted last ≡ limit → (b : Bool) → list_any is_bound (stands_in p last) ≡ b →
+        HasEndedWell j roles g locals mains last ⊎ (ZeroIn last ⊎ ((Rests p last → ⊥) × (counted last ≡ limit)))
+    at_limit full true e = inr (inr ((λ rests. true≢false (sym e ∙ (rest_is_no_bound p last).0 rests)), full))
+    at_limit full false e = at_rest ((rest_is_no_bound p last).1 e) (zeros last.roles)
 
 pub turns_converse : TurnsConverse
 turns_converse j typestates roles g locals mains play keeps can p first begun meant taken =

@@ -49,12 +49,12 @@ AllKeep j typestates mains = (r : ℕ) (main : RoleMain) → slice_get mains r �
 abbrev pub NoZero : World → Type 0
 NoZero w = (r : ℕ) (role : Role) → slice_get w.roles r ≡ Some role → role.state ≢ Over endings.Zero
 
--- All is complete: every role has returned, every list is empty, each object is at the end of its protocol, what each role has done is a
--- complete run of its protocol, and what all have said is a complete conversation of the global protocol.
+-- All is complete: every role has returned, every list is empty, each role has acted by one object, which is at the end of its protocol,
+-- what each role has done is a complete run of its protocol, and what all have said is a complete conversation of the global protocol.
 pub record HasEndedWell (j : Sources) (roles : List Name) (g : Global) (locals : Name → LocalTree) (mains : List RoleMain) (w : World) :
     Type 0
   where
-    pub complete : IsComplete j locals mains w
+    pub complete : IsComplete j roles locals mains w
     pub runs : (c : IsConfiguration roles locals mains w) × IsFinished roles c.system
     pub conversation : IsConversation g mains w
 
@@ -81,14 +81,15 @@ pub record ZeroIn (w : World) : Type 0 where
   pub there : slice_get w.roles number ≡ Some role
   pub zero : role.state ≡ Over endings.Zero
 
--- A run in an order of turns up to a limit ends with all complete; or some role has ended by a zero divisor; or the limit is reached.
+-- A run in an order of turns up to a limit ends with all complete; or some role has ended by a zero divisor; or the limit is reached before
+-- the world rests.
 abbrev pub RunsEndWell : Type 0
 RunsEndWell =
     (j : Sources) (typestates : List Typestate) (roles : List Name) (g : Global) (locals : Name → LocalTree) (mains : List RoleMain)
     → PlayIn j typestates roles g locals mains → AllKeep j typestates mains →
     (p : Program) (first : World) → IsBegun p mains first → ((taken : List ℕ) → AreMeant j mains p (turns p first taken)) →
     (order : List ℕ) (limit : ℕ) (last : World) → IsRun p first order limit last →
-    HasEndedWell j roles g locals mains last ⊎ (ZeroIn last ⊎ (counted last ≡ limit))
+    HasEndedWell j roles g locals mains last ⊎ (ZeroIn last ⊎ ((Rests p last → ⊥) × (counted last ≡ limit)))
 
 -- Where each conversation of the global protocol can be brought to an end, what was said is at each moment part of a complete one.
 abbrev pub TurnsConverse : Type 0
@@ -96,7 +97,7 @@ TurnsConverse =
     (j : Sources) (typestates : List Typestate) (roles : List Name) (g : Global) (locals : Name → LocalTree) (mains : List RoleMain)
     → PlayIn j typestates roles g locals mains → AllKeep j typestates mains → CanEnd g →
     (p : Program) (first : World) → IsBegun p mains first → ((taken : List ℕ) → AreMeant j mains p (turns p first taken)) →
-    (taken : List ℕ) → IsPartOfConversation g mains (turns p first taken)
+    (taken : List ℕ) → IsPartOfConversation roles locals g mains (turns p first taken)
 
 -- Where no role is forgotten, it is part of a conversation that needn't come to an end.
 abbrev pub TurnsGoOn : Type 0
@@ -104,7 +105,7 @@ TurnsGoOn =
     (j : Sources) (typestates : List Typestate) (roles : List Name) (g : Global) (locals : Name → LocalTree) (mains : List RoleMain)
     → PlayIn j typestates roles g locals mains → AllKeep j typestates mains → NoneIsForgotten roles g locals →
     (p : Program) (first : World) → IsBegun p mains first → ((taken : List ℕ) → AreMeant j mains p (turns p first taken)) →
-    (taken : List ℕ) → IsPartOfGoing g mains (turns p first taken)
+    (taken : List ℕ) → IsPartOfGoing roles locals g mains (turns p first taken)
 
 -- What the roles have done, with the messages on their way, is at each moment a configuration that steps of their protocols reach.
 abbrev pub TurnsAreReached : Type 0

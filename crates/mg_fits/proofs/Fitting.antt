@@ -70,18 +70,18 @@ answered_so g me a (projects.found {body = s} e j) t f =
 
 -- ---- no condition is at fault
 
-module _ (number : ℕ) (g : GlobalTree) (parts : List Part) (core : Core.Program) (mains : List RoleMain) where
+module _ (g : GlobalTree) (parts : List Part) (core : Core.Program) (mains : List RoleMain) where
   record NoFault : Type 0 where
-    unplayed : Clean (conditions.IsUnplayed number g parts core mains) (header g.roles g.places)
-    strangers : Clean (conditions.IsStranger number g parts core mains) mains
-    shared : Clean (conditions.SharesMain number g parts core mains) (with_earlier mains)
-    without : Clean (conditions.HasNoProtocol number g parts core mains) (header g.roles g.places)
-    others : Clean (conditions.HasOther number g parts core mains) (header g.roles g.places)
-    talks : Clean (conditions.IsOwnSession number g parts core mains) (own_uses (roles_in parts) core mains)
-    makes : Clean (conditions.IsMadeElsewhere number g parts core mains) (own_uses (roles_in parts) core mains)
-    makings : Clean (conditions.MakesNone number g parts core mains) mains
+    unplayed : Clean (conditions.IsUnplayed g parts core mains) (header g.roles g.places)
+    strangers : Clean (conditions.IsStranger g parts core mains) mains
+    shared : Clean (conditions.SharesMain g parts core mains) (with_earlier mains)
+    without : Clean (conditions.HasNoProtocol g parts core mains) (header g.roles g.places)
+    others : Clean (conditions.HasOther g parts core mains) (header g.roles g.places)
+    talks : Clean (conditions.IsOwnSession g parts core mains) (own_uses (roles_in parts) core mains)
+    makes : Clean (conditions.IsMadeElsewhere g parts core mains) (own_uses (roles_in parts) core mains)
+    makings : Clean (conditions.MakesNone g parts core mains) mains
 
-  no_fault : FirstOf (conditions.Of number g parts core mains) conditions.conditions None → NoFault
+  no_fault : FirstOf (conditions.Of g parts core mains) conditions.conditions None → NoFault
   no_fault (next a (next b (next c (next d (next e (next f (next h (next i none)))))))) = record {
     unplayed = judged_clean _ _ a;
     strangers = judged_clean _ _ b;
@@ -93,7 +93,7 @@ module _ (number : ℕ) (g : GlobalTree) (parts : List Part) (core : Core.Progra
     makings = judged_clean _ _ i;
   }
 
-  differ : (qs : List (List RoleMain × RoleMain)) → Clean (conditions.SharesMain number g parts core mains) qs → Differ qs
+  differ : (qs : List (List RoleMain × RoleMain)) → Clean (conditions.SharesMain g parts core mains) qs → Differ qs
   differ [] h = tt
   differ ((earlier, main) ∷ qs) h = ((λ shares. h.0 _ (shares, refl)), differ qs h.1)
 
@@ -112,8 +112,8 @@ module _ (global : Source) (files : List Source) (mains : List RoleMain) (core :
   abbrev among : List Name
   among = g.roles ++ roles_in parts
 
-  clean : NoFault global.number g parts core mains
-  clean = no_fault global.number g parts core mains fits.clean
+  clean : NoFault g parts core mains
+  clean = no_fault g parts core mains fits.clean
 
   placed : length g.places ≡ length g.roles
   placed = surely_equal (length g.places) (length g.roles)
@@ -129,7 +129,7 @@ module _ (global : Source) (files : List Source) (mains : List RoleMain) (core :
       let h = of_header me has in
       subst (Contains (map (λ (main : RoleMain). main.role) mains)) h.2
       (surely_in (map (λ (main : RoleMain). main.role) mains) h.0.role
-      (λ n. clean_at (conditions.IsUnplayed global.number g parts core mains) (header g.roles g.places) clean.unplayed h.0 h.1 _ (n, refl)))
+      (λ n. clean_at (conditions.IsUnplayed g parts core mains) (header g.roles g.places) clean.unplayed h.0 h.1 _ (n, refl)))
 
   played : (me : Name) → Contains g.roles me → (r : ℕ) × (main : RoleMain) × (slice_get mains r ≡ Some main) × (main.role ≡ me)
   played me has =
@@ -138,7 +138,7 @@ module _ (global : Source) (files : List Source) (mains : List RoleMain) (core :
 
   known : (r : ℕ) (main : RoleMain) → slice_get mains r ≡ Some main → Contains g.roles main.role
   known r main at = surely_in g.roles main.role
-      (λ n. clean_at (conditions.IsStranger global.number g parts core mains) mains clean.strangers main (got_in mains r main at) _
+      (λ n. clean_at (conditions.IsStranger g parts core mains) mains clean.strangers main (got_in mains r main at) _
       (n, refl))
 
   in_files : (me : Name) → Contains g.roles me → Contains (roles_in parts) me
@@ -146,7 +146,7 @@ module _ (global : Source) (files : List Source) (mains : List RoleMain) (core :
       let h = of_header me has in
       subst (Contains (roles_in parts)) h.2
       (surely_in (roles_in parts) h.0.role
-      (λ n. clean_at (conditions.HasNoProtocol global.number g parts core mains) (header g.roles g.places) clean.without h.0 h.1 _
+      (λ n. clean_at (conditions.HasNoProtocol g parts core mains) (header g.roles g.places) clean.without h.0 h.1 _
       (n, refl)))
 
   within : (me : Name) → Contains among me → Contains (roles_in parts) me
@@ -182,7 +182,7 @@ module _ (global : Source) (files : List Source) (mains : List RoleMain) (core :
   same_body me has = surely_same (fits.locals me).body (own me).body (λ n.
       let h = of_header me has in
       let k = has_own parts fits.locals me (in_files me has) in
-      clean_at (conditions.HasOther global.number g parts core mains) (header g.roles g.places) clean.others h.0 h.1 _ (record {
+      clean_at (conditions.HasOther g parts core mains) (header g.roles g.places) clean.others h.0 h.1 _ (record {
         local = own me;
         there = k.there;
         of_role = k.own ∙ sym h.2;
@@ -211,8 +211,8 @@ module _ (global : Source) (files : List Source) (mains : List RoleMain) (core :
   is_core : IsCore core
   is_core = core_is_kept program core (well_typed files program are) (subst IsShaped are.is (shaped law are.are.spell)) res
 
-  free_all : (us : List Use) → Clean (conditions.IsOwnSession global.number g parts core mains) us →
-      Clean (conditions.IsMadeElsewhere global.number g parts core mains) us → AreFree core (NoRole program core res among) us
+  free_all : (us : List Use) → Clean (conditions.IsOwnSession g parts core mains) us →
+      Clean (conditions.IsMadeElsewhere g parts core mains) us → AreFree core (NoRole program core res among) us
   free_all [] h k = tt
   free_all (Talks p call ∷ us) h k = (h.0 _ refl, free_all us h.1 k.1)
   free_all (Makes p c ∷ us) h k = (
@@ -236,8 +236,8 @@ module _ (global : Source) (files : List Source) (mains : List RoleMain) (core :
       known = known;
       quiet = only_mains_play program core res is_core among (roles_in parts) within wider mains free;
       makes = λ r main at. main_plays_one program core res is_core among (roles_in parts) within wider mains free
-          (differ global.number g parts core mains (with_earlier mains) clean.shared) has_role r main at (have r main at)
-          (λ k there is_one of_class nothing. clean_at (conditions.MakesNone global.number g parts core mains) mains clean.makings main
+          (differ g parts core mains (with_earlier mains) clean.shared) has_role r main at (have r main at)
+          (λ k there is_one of_class nothing. clean_at (conditions.MakesNone g parts core mains) mains clean.makings main
           (got_in mains r main at) _
           (record { method = k; is = record { there = there; main = is_one; class = of_class }; none = nothing; said = refl }));
     }

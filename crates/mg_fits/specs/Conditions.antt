@@ -33,8 +33,8 @@ pub data Condition : Type 0 where
 abbrev pub conditions : List Condition
 conditions = Unplayed ∷ Stranger ∷ SharedMain ∷ NoProtocol ∷ OtherProtocol ∷ OwnSession ∷ MadeElsewhere ∷ NotMade ∷ []
 
--- a global protocol with the number of its file, what the other files spell, their core, and the roles with their classes
-module _ (number : ℕ) (global : GlobalTree) (parts : List Part) (core : Program) (mains : List RoleMain) where
+-- a global protocol, what the other files spell, their core, and the roles with their classes
+module _ (global : GlobalTree) (parts : List Part) (core : Program) (mains : List RoleMain) where
   -- the roles that the global protocol lists
   abbrev pub listed : List Headed
   listed = header global.roles global.places
@@ -83,7 +83,7 @@ module _ (number : ℕ) (global : GlobalTree) (parts : List Part) (core : Progra
   IsOwnSession (Talks place call) r = r ≡ refusal_at (codes "OwnSession") place (session_method call).name
   IsOwnSession (Makes place class) r = ⊥
 
-  -- the making of an object of the class of a role that is none of the makings
+  -- an object of the class of a role is made, and not by the making of its role
   pub data IsMadeElsewhere : Use → Refusal → Type 0 where
     elsewhere : {name : Name} {class : ℕ} {r : Refusal} {place : Rattle.mg_text.specs.declared.place.Place.Place} →
         class_text core class ≡ Some name → Contains (map role_class (roles_in parts)) name →
@@ -95,7 +95,7 @@ module _ (number : ℕ) (global : GlobalTree) (parts : List Part) (core : Progra
     pub main : is_main method.kind ≡ true
     pub class : class_text core method.class ≡ Some name
 
-  -- a role whose `main` makes no object of its class
+  -- a role whose `main` has no making of its role
   pub record MakesNone (main : RoleMain) (r : Refusal) : Type 0 where
     pub method : Method
     pub is : IsMainOf main.class method

@@ -1,5 +1,5 @@
 -- Which files fit a global protocol, run by which roles; and the first refusal of those that don't.
-use Rattle.std.specs.Prelude.{ℕ, List, Some, None}
+use Rattle.std.specs.Prelude.{List, Some, None}
 use Rattle.mg_read.specs.First.{FirstOf}
 use Rattle.scr_tree.specs.Tree.{LocalTree}
 use Rattle.scr_global_tree.specs.Tree.{GlobalTree}
@@ -22,13 +22,13 @@ pub record Fits (global : Source) (files : List Source) (mains : List RoleMain) 
   pub accepted : AreAccepted files core
   pub parts : List Part
   pub spell : EachSpells files parts
-  pub clean : FirstOf (Of global.number tree parts core mains) conditions None
+  pub clean : FirstOf (Of tree parts core mains) conditions None
 
 -- Of those that have all that but meet not all conditions, the first refusal: by the condition that is the first at fault.
-pub record IsUnfit (global : GlobalTree) (number : ℕ) (files : List Source) (mains : List RoleMain) (core : Core.Program) (r : Refusal) :
+pub record IsUnfit (global : GlobalTree) (files : List Source) (mains : List RoleMain) (core : Core.Program) (r : Refusal) :
     Type 0
   where
     pub parts : List Part
     pub spell : EachSpells files parts
     pub condition : Condition
-    pub first : FirstOf (Of number global parts core mains) conditions (Some (condition, r))
+    pub first : FirstOf (Of global parts core mains) conditions (Some (condition, r))

@@ -23,12 +23,12 @@ module _ (j : Sources) (roles : List Name) (g : Global) (locals : Name → Local
     pub at_rest : Rests program w → NoZero w → HasEndedWell j roles g locals mains w
     -- what the roles have done, with the messages on their way, is a configuration that steps of their protocols reach
     pub configuration : IsConfiguration roles locals mains w
-    -- where each conversation can be brought to an end, what was said so far is part of a complete one
-    pub part : CanEnd g → IsPartOfConversation g mains w
+    -- where each conversation can be brought to an end, what was said so far is part of a complete one, and each role can say the rest
+    pub part : CanEnd g → IsPartOfConversation roles locals g mains w
 
   -- After every list of turns; and a run in an order of turns up to a limit ends well, or some role has ended by a zero divisor, or the
-  -- limit is reached.
+  -- limit is reached before the world rests.
   pub record NoneGetsStuck (first : World) : Type 0 where
     pub always : (taken : List ℕ) → NoneIsStuck (turns program first taken)
     pub runs : (order : List ℕ) (limit : ℕ) (last : World) → IsRun program first order limit last →
-        HasEndedWell j roles g locals mains last ⊎ (ZeroIn last ⊎ (counted last ≡ limit))
+        HasEndedWell j roles g locals mains last ⊎ (ZeroIn last ⊎ ((Rests program last → ⊥) × (counted last ≡ limit)))
