@@ -12,6 +12,7 @@ close, reset    ends the connection
 strangers:N     connects N times more to the port, and says nothing there
 greet:ME,PEER   says the names with which a role begins its line
 prove:ME,PEER,SECRET   the same by a secret, and wants to see that the other side has it
+reflect:ME,PEER        the same without the secret: it sends back the proof of the other side
 text:TEXT       sends a text behind its length, as a role does
 told:LENGTH     sends the length of a text
 """
@@ -25,7 +26,7 @@ import struct
 import sys
 import time
 
-LIMIT = 60
+LIMIT = 200
 
 
 def told(text):
@@ -51,6 +52,12 @@ def proves(peer, heard, me, other, secret):
     seal = lambda whose: hmac.new(secret, told(whose) + names + mine + theirs, hashlib.sha256).digest()
     print("proof", "right" if proof == seal(b"answer") else "wrong", flush=True)
     peer.sendall(seal(b"call"))
+
+
+def reflects(peer, heard, me, other):
+    peer.sendall(b"mungo 2\n" + told(me) + told(other) + os.urandom(16))
+    heard.read(16)
+    peer.sendall(heard.read(32))
 
 
 def floods(peer, data):
@@ -101,6 +108,8 @@ def acts(peer, heard, port, action, data, kept):
         peer.sendall(b"mungo 1\n" + told(me) + told(other))
     elif action == "prove":
         proves(peer, heard, *data.split(b","))
+    elif action == "reflect":
+        reflects(peer, heard, *data.split(b","))
     elif action == "text":
         peer.sendall(told(data))
     elif action == "told":

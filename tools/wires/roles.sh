@@ -153,7 +153,7 @@ part_play() {
     is "play" $? 0 "$room/err"
     says "play: what is answered" "$room/out" "both: done 25 times
 both, no threads are left
-interrupted: waits S
+interrupted: waits A
 thrown on: IllegalStateException: mine
 nobody: no peer S
 zero divisor
