@@ -17,6 +17,7 @@ import java.util.ArrayList;
 import java.util.Collections;
 import java.util.Deque;
 import java.util.List;
+import java.util.regex.Pattern;
 
 /**
  * A wire of lines of text, as those of SMTP, POP3, Redis and HTTP, which a wire file describes. Nothing here is proved.
@@ -104,7 +105,7 @@ public final class Lines implements Wire {
             throw new Unfit(script.name + " has no lines for this message");
         }
         String text = value == null ? "" : value.toString();
-        if (rule.fits != null && !rule.fits.matcher(text).matches()) {
+        if (rule.fits != null && !fits(rule.fits, text)) {
             throw new Unfit("the value " + Texts.quoted(text) + " doesn't fit the pattern " + rule.fits);
         }
         List<byte[]> parts = new ArrayList<>();
@@ -122,6 +123,15 @@ public final class Lines implements Wire {
             if (!answer.items.isEmpty()) {
                 read(Collections.singletonList(answer));
             }
+        }
+    }
+
+    /** Whether a value fits a pattern; one that is too long for it, or takes too long, doesn't. */
+    private boolean fits(Pattern pattern, String text) {
+        try {
+            return Walk.match(pattern, text, Connection.in(script.limit)) != null;
+        } catch (Walk.TooSlow | StackOverflowError hard) {
+            return false;
         }
     }
 

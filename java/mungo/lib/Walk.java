@@ -84,11 +84,16 @@ final class Walk {
     /** The match of a whole line, or null. */
     private Matcher fitting(Pattern pattern, String line) throws Wire.Mismatch {
         try {
-            Matcher matcher = pattern.matcher(new Limited(line, reader.until));
-            return matcher.matches() ? matcher : null;
+            return match(pattern, line, reader.until);
         } catch (StackOverflowError deep) {
             throw reader.wrong("it is too long for the pattern " + pattern);
         }
+    }
+
+    /** The match of a whole text, or null. Throws TooSlow where it isn't found up to a moment. */
+    static Matcher match(Pattern pattern, String text, long until) {
+        Matcher matcher = pattern.matcher(new Limited(text, until));
+        return matcher.matches() ? matcher : null;
     }
 
     private void tell(String text) throws Wire.Mismatch {
