@@ -65,6 +65,7 @@ part_roles() {
 secrets() {
     options=(-Dmungo.secret=sesame)
     duel "a secret" 0 "heard there" prove:S,C,sesame text:hi send:S text:there close
+    last_ends
     says "a secret: the other side" "$room/peer" "proof right"
     options=(-Dmungo.secret=sesame -Dmungo.patience=2)
     duel "another secret" 7 "C: no peer S" prove:S,C,simsim text:hi send:S text:there close
@@ -129,6 +130,7 @@ floods() {
         -cp "$room/flooded/class:$room/lib" CMain >"$room/out" 2>"$room/err"
     is "a flood" $? 0 "$room/err"
     says "a flood: what is printed" "$room/out" "heard 7"
+    last_ends
     grep -q '^flooded' "$room/peer"
     count "a flood: sending waits" $? "$room/peer"
 }

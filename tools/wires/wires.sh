@@ -19,7 +19,6 @@ odd_programs() {
 odd() {
     local name=$1 program=$2 status=$3 line=$4 begun=$SECONDS at was
     shift 4
-    : >"$room/peer"
     start "$room/peer" peer "$@"
     at=$(first_line "$room/peer")
     plays "$room/$program/class" CMain "$at" "lines:$odd_wire"
@@ -45,7 +44,7 @@ part_wires() {
     odd "a label that isn't expected" odd 7 'C: mismatch S other' read 'send:OTHER\r\n' close
     why "a label that isn't expected" 'C: S sent "OTHER"'
     odd "the peer ends" odd 8 'C: waits S' read close
-    odd "the peer ends at once" odd 8 'C: waits S' reset
+    odd "the peer resets the connection" odd 8 'C: waits S' read reset
     odd "the peer ends in a line" odd 7 'C: mismatch S ""' read send:YES close
     odd "the peer ends in bytes" odd 7 'C: mismatch S "M5"' read 'send:M5\r\nab' close
     odd "the peer is silent" odd 8 'C: waits S' read wait
@@ -61,7 +60,7 @@ part_wires() {
     odd "letters that end a line elsewhere" odd 0 $'no a\u2028b\u0085c' read 'send:NO a\xe2\x80\xa8b\xc2\x85c\r\n' close
     odd "a slow pattern" odd 8 'C: waits S' read 'send:Saaaaaaaaaaaaaaaaaaaaaaaaaaaaaa\r\n' close
     odd "a value with a line feed" injected 7 'C: unfit S hi' rest
-    sleep 0.3
+    last_ends
     says "a value with a line feed: what was sent" <(tail -n +2 "$room/peer") "b''"
     odd "a peer that doesn't read" long 8 'C: waits S' wait
     sed 's/^limit/charset US-ASCII\nlimit/; s/HI {value}/HI größer {value}/' "$odd_wire" >"$room/ascii.wire"
@@ -84,7 +83,6 @@ part_mixed() {
         System.out.println("S says " + said); r.send_numberStringToB(said);'
     program edge B "$all" 'line(String) to C; number(String) from C;' \
         'r.send_lineStringToC("by way of C"); System.out.println("C says " + r.receive_numberStringFromC());'
-    : >"$room/peer"
     start "$room/peer" peer read 'send:NO 7\r\n' close
     at=$(first_line "$room/peer")
     jvm -Dmungo.roles=S=127.0.0.1:"$at" -Dmungo.wire=S="lines:$wire" -cp "$room/middle/class:$room/edge/class:$room/lib" \
@@ -92,8 +90,8 @@ part_mixed() {
     is "mixed, one process" $? 0 "$room/err"
     says "mixed, one process: what is printed" <(sort "$room/out") "B: C says 7
 C: S says 7"
+    last_ends
     says "mixed, one process: what S heard" <(tail -1 "$room/peer") "b'HI by way of C\\r\\n'"
-    : >"$room/peer"
     start "$room/peer" peer read 'send:NO 7\r\n' close
     at=$(first_line "$room/peer")
     b=$(port)
