@@ -49,7 +49,7 @@ part_settings() {
     wrong "bad patience" 70 "mungo: mungo.patience has soon, and not seconds from 0 to 1000000" -Dmungo.patience=soon
     wrong "bad limit" 70 "mungo: mungo.limit has 0, and not seconds from 1 to 1000000" -Dmungo.limit=0
     wrong "bad port" 70 "mungo: mungo.roles has S=127.0.0.1:70000, and not ROLE=HOST:PORT" -Dmungo.roles=S=127.0.0.1:70000
-    wrong "no port" 70 'mungo: mungo.roles has S=127.0.0.1\x0a, and not ROLE=HOST:PORT' -Dmungo.roles=$'S=127.0.0.1\n,'"$here"
+    wrong "no port" 70 'mungo: mungo.roles has S\x1b=127.0.0.1, and not ROLE=HOST:PORT' -Dmungo.roles=$'S\x1b=127.0.0.1,'"$here"
     wrong "no host" 70 "mungo: mungo.roles has S=:4, and not ROLE=HOST:PORT" -Dmungo.roles="$here,S=:4"
     wrong "no name" 70 "mungo: mungo.roles has S 1, and not the name of a role" -Dmungo.roles="S 1=127.0.0.1:4"
     wrong "two addresses" 70 "mungo: mungo.roles has two addresses of C" -Dmungo.roles="$here,C=127.0.0.1:2"
