@@ -13,7 +13,7 @@ duel() {
     shift 3
     at=$(port)
     start "$room/peer" peer to:"$at" "$@"
-    jvm -Dmungo.role=C -Dmungo.roles=C=127.0.0.1:"$at",S=127.0.0.1:1 -Dmungo.patience=20 -Dmungo.limit=20 "${options[@]}" \
+    jvm -Dmungo.role=C -Dmungo.roles=C=127.0.0.1:"$at",S=127.0.0.1:1 -Dmungo.patience=120 -Dmungo.limit=120 "${options[@]}" \
         -cp "$room/taker/class:$room/lib" CMain >"$room/out" 2>"$room/err"
     was=$?
     is "$name" $was "$status" "$room/err"

@@ -15,7 +15,7 @@ odd_programs() {
 }
 
 # Plays a program by tools/wires/odd.wire against a peer that does ACTIONS, and wants the status and the last line on standard
-# error, or what is printed where the status is 0, within 20 seconds: NAME PROGRAM STATUS LINE ACTIONS..
+# error, or what is printed where the status is 0, within 120 seconds, since the machine may be busy: NAME PROGRAM STATUS LINE ACTIONS..
 odd() {
     local name=$1 program=$2 status=$3 line=$4 begun=$SECONDS at was
     shift 4
@@ -26,7 +26,7 @@ odd() {
     is "$name" $was "$status" "$room/err"
     if [ "$status" -eq 0 ]; then tail -1 "$room/out"; else tail -1 "$room/err"; fi >"$room/last"
     says "$name: the line" "$room/last" "$line"
-    [ $((SECONDS - begun)) -lt 20 ]
+    [ $((SECONDS - begun)) -lt 120 ]
     count "$name: $((SECONDS - begun)) seconds" $?
 }
 
