@@ -63,7 +63,7 @@ part_settings() {
     wrong "nobody there" 7 "T: no peer S" -Dmungo.role=T -Dmungo.roles=S=127.0.0.1:"$at" -Dmungo.patience=1
     says "nobody there: why" <(head -1 "$room/err") "T: S at 127.0.0.1:$at: Connection refused"
     wrong "nobody comes" 7 "C: no peer S" -Dmungo.role=C -Dmungo.roles=S=127.0.0.1:4,C=127.0.0.1:"$at" -Dmungo.patience=1
-    start "$room/holder" peer wait
+    start "$room/holder" "${peer[@]}" wait
     at=$(first_line "$room/holder")
     wrong "a port that is taken" 70 "mungo: C can't listen at 127.0.0.1:$at: Address already in use" -Dmungo.role=C \
         -Dmungo.roles=S=127.0.0.1:4,C=127.0.0.1:"$at"

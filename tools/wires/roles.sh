@@ -12,7 +12,7 @@ duel() {
     local name=$1 status=$2 line=$3 at was
     shift 3
     at=$(port)
-    start "$room/peer" peer to:"$at" "$@"
+    start "$room/peer" "${peer[@]}" to:"$at" "$@"
     jvm -Dmungo.role=C -Dmungo.roles=C=127.0.0.1:"$at",S=127.0.0.1:1 -Dmungo.patience=120 -Dmungo.limit=120 "${options[@]}" \
         -cp "$room/taker/class:$room/lib" CMain >"$room/out" 2>"$room/err"
     was=$?
@@ -101,7 +101,7 @@ pair() {
 strangers() {
     local at role
     at=$(port)
-    start "$room/strangers" peer to:"$at" strangers:120 send:'' sleep:60
+    start "$room/strangers" "${peer[@]}" to:"$at" strangers:120 send:'' sleep:60
     java "${short[@]}" -Dmungo.role=C -Dmungo.roles=C=127.0.0.1:"$at",S=127.0.0.1:1 -cp "$room/taker/class:$room/lib" CMain \
         >"$room/out" 2>"$room/err" </dev/null &
     role=$!
@@ -112,7 +112,7 @@ strangers() {
         [ "$(sed -n 's/^Threads:[^0-9]*//p' "/proc/$role/status")" -lt 70 ]
         count "strangers who say nothing: threads" $? "/proc/$role/status"
     fi
-    start "$room/peer" peer to:"$at" greet:S,C text:hi send:S text:there close
+    start "$room/peer" "${peer[@]}" to:"$at" greet:S,C text:hi send:S text:there close
     wait $role
     is "strangers who say nothing" $? 0 "$room/err"
     says "strangers who say nothing: what is printed" "$room/out" "heard there"
@@ -123,9 +123,9 @@ floods() {
     local at b
     program flooded C 'role B, role C, role S' 'a() from B; hi(int) from S;' 'r.receive_aFromB(); System.out.println("heard " + r.receive_hiIntFromS());'
     at=$(port)
-    start "$room/B" peer sleep:6 text:a send:- close
+    start "$room/B" "${peer[@]}" sleep:6 text:a send:- close
     b=$(first_line "$room/B")
-    start "$room/peer" peer to:"$at" greet:S,C flood:'\0\0\0\2hiI\0\0\0\7'
+    start "$room/peer" "${peer[@]}" to:"$at" greet:S,C flood:'\0\0\0\2hiI\0\0\0\7'
     jvm -Xmx48m -Dmungo.role=C -Dmungo.roles=B=127.0.0.1:"$b",C=127.0.0.1:"$at",S=127.0.0.1:1 \
         -cp "$room/flooded/class:$room/lib" CMain >"$room/out" 2>"$room/err"
     is "a flood" $? 0 "$room/err"
@@ -141,7 +141,7 @@ unread() {
     program sender C 'role C, role S' 'rec X { a(String) to S; continue X; }' \
         'String t = "0123456789abcdef"; int i = 0; while (i < 12) { t = t + t; i++; } do { r.send_aStringToS(t); } while (true);'
     at=$(port)
-    start "$room/peer" peer to:"$at" greet:S,C wait
+    start "$room/peer" "${peer[@]}" to:"$at" greet:S,C wait
     jvm -Dmungo.role=C -Dmungo.roles=C=127.0.0.1:"$at",S=127.0.0.1:1 -Dmungo.limit=2 -cp "$room/sender/class:$room/lib" CMain \
         >"$room/out" 2>"$room/err"
     is "a peer that reads nothing" $? 8 "$room/err"

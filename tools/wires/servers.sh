@@ -1,14 +1,10 @@
 # Parts of tools/java-wires: real servers, and real clients of a server of mungo.
 
 # Servers run as the user nobody where root starts them, and else as the user who does.
-if [ "$(id -u)" = 0 ]; then user=nobody group=nogroup; else user=$(id -un) group=$(id -gn); fi
-as_user() {
-    if [ "$(id -u)" = 0 ]; then
-        setpriv --reuid "$user" --regid "$group" --clear-groups "$@"
-    else
-        "$@"
-    fi
-}
+user=$(id -un) group=$(id -gn) as_user=()
+if [ "$(id -u)" = 0 ]; then
+    user=nobody group=nogroup as_user=(setpriv --reuid nobody --regid nogroup --clear-groups)
+fi
 
 # Writes the settings of tools/wires/FILE for a server: FILE PORT FOLDER.
 settings() {
@@ -85,8 +81,8 @@ part_smtp() {
     if command -v exim4 >/dev/null && command -v setpriv >/dev/null; then
         at=$(port)
         settings exim.conf "$at" "$room/exim"
-        as_user mkdir "$room/exim/mail" "$room/exim/spool"
-        start "$room/exim.said" as_user exim4 -C "$room/exim/conf" -bdf
+        "${as_user[@]}" mkdir "$room/exim/mail" "$room/exim/spool"
+        start "$room/exim.said" "${as_user[@]}" exim4 -C "$room/exim/conf" -bdf
         listens "$at"
         count "exim is there" $? "$room/exim.said"
         delivers exim "$at" "$room/exim/mail"
@@ -172,13 +168,13 @@ part_pop3() {
     fi
     at=$(port)
     settings dovecot.conf "$at" "$room/dove"
-    as_user mkdir -p "$room/dove"/{run,state,mail/new,mail/cur,mail/tmp}
-    start "$room/dove.said" as_user dovecot -F -c "$room/dove/conf"
+    "${as_user[@]}" mkdir -p "$room/dove"/{run,state,mail/new,mail/cur,mail/tmp}
+    start "$room/dove.said" "${as_user[@]}" dovecot -F -c "$room/dove/conf"
     listens "$at"
     count "dovecot is there" $? "$room/dove.said"
     for way in class javac; do
         for n in 1 2; do
-            printf 'Subject: mail %d\n\nline of %d\n.dotted\n' $n $n | as_user tee "$room/dove/mail/new/100$n.$way.host" >/dev/null
+            printf 'Subject: mail %d\n\nline of %d\n.dotted\n' $n $n | "${as_user[@]}" tee "$room/dove/mail/new/100$n.$way.host" >/dev/null
         done
         plays "$room/pop3/$way" CMain "$at" "lines:$top/examples/pop3/wire"
         is "pop3, $way" $? 0 "$room/err"

@@ -19,7 +19,7 @@ odd_programs() {
 odd() {
     local name=$1 program=$2 status=$3 line=$4 begun=$SECONDS at was
     shift 4
-    start "$room/peer" peer "$@"
+    start "$room/peer" "${peer[@]}" "$@"
     at=$(first_line "$room/peer")
     plays "$room/$program/class" CMain "$at" "lines:$odd_wire"
     was=$?
@@ -83,7 +83,7 @@ part_mixed() {
         System.out.println("S says " + said); r.send_numberStringToB(said);'
     program edge B "$all" 'line(String) to C; number(String) from C;' \
         'r.send_lineStringToC("by way of C"); System.out.println("C says " + r.receive_numberStringFromC());'
-    start "$room/peer" peer read 'send:NO 7\r\n' close
+    start "$room/peer" "${peer[@]}" read 'send:NO 7\r\n' close
     at=$(first_line "$room/peer")
     jvm -Dmungo.roles=S=127.0.0.1:"$at" -Dmungo.wire=S="lines:$wire" -cp "$room/middle/class:$room/edge/class:$room/lib" \
         mungo.lib.Session B=BMain C=CMain >"$room/out" 2>"$room/err"
@@ -92,7 +92,7 @@ part_mixed() {
 C: S says 7"
     last_ends
     says "mixed, one process: what S heard" <(tail -1 "$room/peer") "b'HI by way of C\\r\\n'"
-    start "$room/peer" peer read 'send:NO 7\r\n' close
+    start "$room/peer" "${peer[@]}" read 'send:NO 7\r\n' close
     at=$(first_line "$room/peer")
     b=$(port)
     jvm -Dmungo.role=B -Dmungo.roles=B=127.0.0.1:"$b",C=127.0.0.1:1 -cp "$room/edge/class:$room/lib" BMain >"$room/B.out" 2>&1 &
