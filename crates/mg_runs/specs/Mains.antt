@@ -1,4 +1,4 @@
--- For private clauses: the first role whose class has no `main`.
+-- The first role whose class has no `main`.
 use Rattle.std.specs.Prelude.{◌≡◌, ℕ, List, take, Option, Some, None, slice_get}
 use Rattle.jv_core.specs.Tree as Core
 use Rattle.jv_core.specs.Meaning.{main_of}
