@@ -36,7 +36,7 @@ use std::alloc::Global;
 use std::rt::Files;
 
 /// The files of cases of commands, in the order in which they are answered.
-const FILES: [&str; 15] = [
+const FILES: [&str; 16] = [
     "translate.txt",
     "conform.txt",
     "check.txt",
@@ -49,6 +49,7 @@ const FILES: [&str; 15] = [
     "faults.txt",
     "refine.txt",
     "project.txt",
+    "fit.txt",
     "load.txt",
     "verify.txt",
     "words.txt",
