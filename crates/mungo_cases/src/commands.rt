@@ -36,7 +36,7 @@ use std::alloc::Global;
 use std::rt::Files;
 
 /// The files of cases of commands, in the order in which they are answered.
-const FILES: [&str; 16] = [
+const FILES: [&str; 17] = [
     "translate.txt",
     "conform.txt",
     "check.txt",
@@ -50,6 +50,7 @@ const FILES: [&str; 16] = [
     "refine.txt",
     "project.txt",
     "fit.txt",
+    "fitting.txt",
     "load.txt",
     "verify.txt",
     "words.txt",
