@@ -1,11 +1,12 @@
 -- Two first refusals of roles and files that don't fit a global protocol are one, but for the place of Syntax.
-use Rattle.std.proofs.Common.{◌≡◌, List, [], ◌∷◌, Some, inl, subst}
+use Rattle.std.proofs.Common.{◌≡◌, List, [], ◌∷◌, Option, Some, ap, inl, subst}
 use Rattle.mg_read.specs.First.{FirstOf}
 use Rattle.mg_read.proofs.Judging.{one_first}
 use Rattle.scr_global_tree.specs.Tree.{GlobalTree}
 use Rattle.jv_core.specs.Tree as Core
 use Rattle.jv_resolve_law.specs.ShapedLaws.{SpelledIsShaped}
 use Rattle.jv_names.specs.KeptLaws.{CoreIsKept}
+use Rattle.jv_names.proofs.Tables.{some_is}
 use Rattle.vm_world_law.specs.declared.role.RoleMain.{RoleMain}
 use Rattle.mg_refusal.specs.Refusals.{Refusal, AreAlike}
 use Rattle.mg_refusal.proofs.Orders.{then_alike}
@@ -24,8 +25,8 @@ use Rattle.mg_fitted.proofs.Apart.{one_list, runs_not_refused}
 use Rattle.mg_fitted.proofs.Distinct.{roles_differ}
 use Rattle.mg_fitted.proofs.Single.{single}
 
-same_told : (j k : Condition) (r q : Refusal) → Some (j, r) ≡ Some (k, q) → r ≡ q
-same_told j k r q e = cc
+same_told : (j k : Condition) (r q : Refusal) → ◌≡◌ {A = Option (Condition × Refusal)} (Some (j, r)) (Some (k, q)) → r ≡ q
+same_told j k r q e = ap (λ (told : Condition × Refusal). told.1) (some_is e)
 
 module _ (law : SpelledIsShaped) (keeps : CoreIsKept) (tree : GlobalTree) (files : List Source) (mains : List RoleMain)
     (core : Core.Program) (accepted : AreAccepted files core) where

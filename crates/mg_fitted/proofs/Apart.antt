@@ -62,7 +62,7 @@ module _ (files : List Source) (mains : List RoleMain) (core : Core.Program) (ca
       (subst (λ (z : Core.Program). IsFirstExcess z (Some found.0)) same found.1)))
 
 module _ (global : Source) (files : List Source) (mains : List RoleMain) (f : AreFitted global files mains) where
-  locals : List LocalTree
+  abbrev locals : List LocalTree
   locals = map f.fits.locals f.fits.tree.roles
 
   projected : AreLocals global f.fits.tree locals

@@ -1,5 +1,5 @@
 -- What each step of the work answers, as an answer of the whole.
-use Rattle.std.proofs.Common.{zero, suc, List, [], ◌∷◌, map, Contains, Some, None, Result, Ok, Err, refl, sym, subst, arith}
+use Rattle.std.proofs.Common.{◌≡◌, ℕ, zero, suc, List, [], ◌∷◌, map, Contains, Some, None, Result, Ok, Err, refl, sym, subst, arith}
 use Rattle.mg_text.specs.Call.{Name}
 use Rattle.mg_text.specs.Row.{Row}
 use Rattle.mg_read.proofs.Judging.{no_both}
@@ -12,7 +12,7 @@ use Rattle.mg_refusal.specs.Refusals.{Refusal}
 use Rattle.mg_refusal.specs.Order.{Answers, at_first, at_next}
 use Rattle.mg_refusal.specs.declared.stop.Stop.{Stop}
 use Rattle.mg_refusal.specs.declared.stop.Stop.TheVariants as stops
-use Rattle.mg_sources.specs.Files.{Source}
+use Rattle.mg_sources.specs.Files.{Source, source_of}
 use Rattle.mg_sources.specs.Reading.{Part, EachSpells, Refuses}
 use Rattle.mg_sources.proofs.Together.{none_refused_of}
 use Rattle.mg_read.specs.First.{Judged}
@@ -41,7 +41,7 @@ module _ (global : Source) (files : List Source) (mains : List RoleMain) where
   abbrev Answer : Result (Unit {0}) Stop → Type 0
   Answer = Answers (λ (done : Unit {0}). AreFitted global files mains) (FirstRefusal global files mains)
 
-  pub unprojected : {A : Type 0} (Right : A → Type 0) (stop : Stop) → Answers Right (projecting.FirstRefusal (global ∷ [])) (Err stop) →
+  unprojected : {A : Type 0} (Right : A → Type 0) (stop : Stop) → Answers Right (projecting.FirstRefusal (global ∷ [])) (Err stop) →
       Answer (Err stop)
   unprojected Right (stops.Refused r) h = at_first h
   unprojected Right stops.Memory h = tt
@@ -76,6 +76,15 @@ module _ (global : Source) (files : List Source) (mains : List RoleMain) where
     }
     judged core can (Err (stops.Refused r)) unfit = at_next tree (locals, are) (at_next core can unfit)
     judged core can (Err stops.Memory) h = tt
+
+-- of a file whose number is that of the global protocol
+pub unprojected_as : {A : Type 0} (Right : Source → A → Type 0) (n number : ℕ) (name bytes : List ℕ) (files : List Source)
+    (mains : List RoleMain) (stop : Stop) → n ≡ number →
+    Answers (Right (source_of n name bytes)) (projecting.FirstRefusal (source_of n name bytes ∷ [])) (Err stop) →
+    Answer (source_of number name bytes) files mains (Err stop)
+unprojected_as Right n number name bytes files mains stop e h =
+    unprojected (source_of number name bytes) files mains (Right (source_of number name bytes)) stop
+    (subst (λ (m : ℕ). Answers (Right (source_of m name bytes)) (projecting.FirstRefusal (source_of m name bytes ∷ [])) (Err stop)) e h)
 
 -- ---- the conditions
 

@@ -123,7 +123,8 @@ fn judged(
     let parts = read_parts(alloc, names, contents)?;
     let global = &projected.global;
     let locals = projected.locals.as_slice();
-    match first_unfit(alloc, global, locals, parts.as_slice(), core, mains)? {
+    let unfit = first_unfit(alloc, global, locals, parts.as_slice(), core, mains)?;
+    match unfit {
         Some(refusal) => Err(Stop::Refused(refusal)),
         None => Ok(()),
     }

@@ -1,27 +1,24 @@
-use Rattle.std.proofs.Common.{ℕ, ◌<◌, ◌^◌, [], ◌∷◌, Err, map, length, sym, subst}
+use Rattle.std.proofs.Common.{ℕ, ◌<◌, ◌^◌, [], map, length, sym, subst}
 use Rattle.std.proofs.lemmas.Result.{err_from_is_err_and}
 use Rattle.scr_tree.specs.Local.{tree_of as local_of}
 use Rattle.scr_global_tree.specs.Global.{tree_of}
-use Rattle.mg_refusal.specs.Order.{Answers}
 use Rattle.mg_sources.specs.Files.{source_of, sources}
-use Rattle.mg_projected.specs.Told.{FirstRefusal}
 use Rattle.mg_projected.proofs.Located.{IsLocals}
 use Rattle.mg_accepted.specs.View.{IsProgramOf}
 use Rattle.mg_fitted.specs.Fitted.{CanRun}
-use Rattle.mg_fitted.proofs.Steps.{unprojected, unaccepted, unrun, judged}
+use Rattle.mg_fitted.proofs.Steps.{unprojected_as, unaccepted, unrun, judged}
 use Rattle.mg_fitted.proofs.fitted.fitted.Goals as goal
 
-pub number_behind-requires : goal.number_behind-requires
-number_behind-requires c = subst (λ (n : ℕ). n < 2 ^ 32) (sym c.requires.same) c.requires.count
+pub number_behind-number-requires : goal.number_behind-number-requires
+number_behind-number-requires c = subst (λ (n : ℕ). n < 2 ^ 32) (sym c.requires.same) c.requires.count
 
 pub returns-in_err-projected : goal.returns-in_err-projected
 returns-in_err-projected c = λ name.
     let e = err_from_is_err_and c.from_residual.result c.from_residual.ensures.1 in
-    let s = source_of (length c.args.names.now) name c.args.global.now in
     rw (e.1, e.2)
-    (unprojected s (sources c.args.names.now c.args.contents.now) c.args.mains.now (IsLocals s) _
-    (subst (λ (n : ℕ). Answers (IsLocals (source_of n name c.args.global.now)) (FirstRefusal (source_of n name c.args.global.now ∷ []))
-    (Err _)) c.number_behind-number.ensures (c.in_err-projected.ensures.answered name)))
+    (unprojected_as IsLocals c.number_behind-number.result (length c.args.names.now) name c.args.global.now
+    (sources c.args.names.now c.args.contents.now) c.args.mains.now _ c.number_behind-number.ensures
+    (c.in_err-projected.ensures.answered name))
 
 pub can_run-requires : goal.can_run-requires
 can_run-requires c = (sources c.args.names.now c.args.contents.now, c.in_ok-program.ensures.answered.files_are.have)

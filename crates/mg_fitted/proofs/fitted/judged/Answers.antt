@@ -48,12 +48,12 @@ returns-in-Some c =
     (map part_of c.as_slice.result.now) c.in-Some.refusal
     (subst (λ (z : List KeptPart). EachSpells files (map part_of z)) (sym c.as_slice.ensures.items) c.in_ok-parts.ensures)
     (subst (IsVerdict (tree_of c.args.projected.now.global) (map part_of c.as_slice.result.now) c.args.core.now c.args.mains.now)
-    c.in-Some.is (c.in_ok-first_unfit.ensures))
+    c.in-Some.is (c.in_ok-unfit.ensures))
 
-pub returns-in-None : goal.returns-in-None
-returns-in-None c =
+pub returns : goal.returns
+returns c =
     let files = sources c.args.names.now c.args.contents.now in
     is_fit (tree_of c.args.projected.now.global) files c.args.mains.now c.args.core.now (map part_of c.as_slice.result.now)
     (subst (λ (z : List KeptPart). EachSpells files (map part_of z)) (sym c.as_slice.ensures.items) c.in_ok-parts.ensures)
     (subst (IsVerdict (tree_of c.args.projected.now.global) (map part_of c.as_slice.result.now) c.args.core.now c.args.mains.now)
-    c.in-None.is (c.in_ok-first_unfit.ensures))
+    c.in-None.is (c.in_ok-unfit.ensures))
