@@ -18,9 +18,8 @@ mod translate;
 mod verify;
 
 pub use mg_delivery::Status;
-pub use top::mungo;
-
 use mg_fitted::refusals_are_alike;
+pub use top::mungo;
 
 /// Of the same contents a command gives one status, and the same actions, but for the place of Syntax
 /// in a line. The function carries a law.
