@@ -23,7 +23,8 @@ use Rattle.jv_core.specs.declared.program.CoreType.{CoreType}
 use Rattle.jv_core.specs.declared.program.CoreType.TheVariants as types
 use Rattle.jv_core.specs.declared.program.MethodKind.TheVariants as kinds
 use Rattle.jv_core.specs.Tree.{Expr, Int, Truth, Text, Variable, Constant, Binary, Protocol, Equals, Session, New, Exprs, NoExpr, Argument}
-use Rattle.jv_core.specs.Tree.{Stmts, Block, Assign, If, While, Do, Switch, Break, Return, Print, Eval, NoStmt, Then, Declare, NoGroup, Group}
+use Rattle.jv_core.specs.Tree.{Stmts, Block, Assign, If, While, Do, Switch, Break, Return}
+use Rattle.jv_core.specs.Tree.{Print, Eval, NoStmt, Then, Declare, NoGroup, Group}
 use Rattle.jv_core.specs.Tree.{Method, Program, Loop, Slot as Declared}
 use Rattle.jv_core.specs.Tree as core_tree
 use Rattle.vm_world_law.specs.declared.role.RoleMain.{RoleMain}
