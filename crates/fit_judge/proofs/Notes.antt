@@ -83,7 +83,12 @@ module _ (core : Program) (mains : List RoleMain) where
       ArePlaces core mains places
   notes_are places h = record {
     right = λ name place e. let r = h.right name place e in record {
-      method = r.0; there = r.1; main = r.2.main; class = r.2.class; none = r.2.none; stands = r.2.stands;
+      method = r.0;
+      there = r.1;
+      main = r.2.main;
+      class = r.2.class;
+      none = r.2.none;
+      stands = r.2.stands;
     };
     all = λ name place at. h.all name place at.method at.there
         (record { main = at.main; class = at.class; none = at.none; stands = at.stands });

@@ -100,9 +100,10 @@ module _ {A S : Type 0} (parts : List Part) (places : HashMap (String A) ℕ S) 
         let w = h.right role place found in
         let two : Some (Protocol w.0) ≡ Some (Protocol (local_of local.now)) =
         sym w.1 ∙ at ∙ ap Some (protocol_is part (local_of local.now) is) in
-        let same : w.0 ≡ local_of local.now = cc in
-        (held_at parts place (local_of local.now) (at ∙ ap Some (protocol_is part (local_of local.now) is)),
-        ap (λ (l : LocalTree). l.me) (sym same) ∙ w.2)
+        let same : w.0 ≡ local_of local.now = cc in (
+          held_at parts place (local_of local.now) (at ∙ ap Some (protocol_is part (local_of local.now) is)),
+          ap (λ (l : LocalTree). l.me) (sym same) ∙ w.2,
+        )
     own_is part at None none =
         let w = h.right role place found in
         let two : Some part ≡ Some (Protocol w.0) = sym at ∙ w.1 in

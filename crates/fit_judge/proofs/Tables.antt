@@ -50,7 +50,7 @@ module _ (core : Program) (mains : List RoleMain) where
   make_of main text =
       if main
       then option_and_then (λ (role : Name). class_numbered core (role_class role))
-          (option_and_then (λ (name : Name). option_map (λ (m : RoleMain). m.role) (find (λ (m : RoleMain). bytes_eq m.class name) mains)) text)
+      (option_and_then (λ (name : Name). option_map (λ (m : RoleMain). m.role) (find (λ (m : RoleMain). bytes_eq m.class name) mains)) text)
       else None
 
   pub make_named : (m : Method) (name : Name) → is_main m.kind ≡ true → class_text core m.class ≡ Some name →
@@ -72,7 +72,7 @@ role_class_decides : (roles : List Name) (name : Name) → Decides (is_role_clas
 role_class_decides [] name = (λ e. absurd (true≢false (sym e)), λ h. absurd (Contains-nil name h))
 role_class_decides (r ∷ rs) name =
     let d = Decides-or (bytes_eq (role_class r) name) (is_role_class rs name) (bytes_eq-Decides (role_class r) name)
-        (role_class_decides rs name) in (
+    (role_class_decides rs name) in (
       λ e. ⊎_elim (λ same. subst (Contains (role_class r ∷ map role_class rs)) same (Contains-first (map role_class rs) (role_class r)))
           (λ more. Contains-later (map role_class rs) (role_class r) name more) (d.0 e),
       λ h. d.1 (Contains-cons_cases (map role_class rs) (role_class r) name h),

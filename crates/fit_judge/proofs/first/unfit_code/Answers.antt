@@ -12,7 +12,7 @@ returns-in-Some c = λ g.
     let p = c.args.core.now in
     let ms = c.args.mains.now in
     let same : c.as_slice-uses.result.now ≡ own_uses (roles_in ps) p ms = c.as_slice-uses.ensures.items
-        ∙ c.in_ok-own.ensures (roles_in ps) ms c.in_ok-classes.ensures c.in_ok-makes.ensures in
+    ∙ c.in_ok-own.ensures (roles_in ps) ms c.in_ok-classes.ensures c.in_ok-makes.ensures in
     fault g ps p ms OwnSession (MadeElsewhere ∷ NotMade ∷ []) c.in-Some.refusal
     (subst (Answer g ps p ms OwnSession) c.in-Some.is
     (own_told g ps p ms c.as_slice-uses.result.now (own_uses (roles_in ps) p ms) same c.in_ok-refusal.ensures))
@@ -23,7 +23,7 @@ returns-in-Some-2 c = λ g.
     let p = c.args.core.now in
     let ms = c.args.mains.now in
     let same : c.as_slice-uses.result.now ≡ own_uses (roles_in ps) p ms = c.as_slice-uses.ensures.items
-        ∙ c.in_ok-own.ensures (roles_in ps) ms c.in_ok-classes.ensures c.in_ok-makes.ensures in
+    ∙ c.in_ok-own.ensures (roles_in ps) ms c.in_ok-classes.ensures c.in_ok-makes.ensures in
     onward g ps p ms OwnSession (MadeElsewhere ∷ NotMade ∷ []) (Some c.in-Some-2.found)
     (subst (Answer g ps p ms OwnSession) c.in_default.is
     (own_told g ps p ms c.as_slice-uses.result.now (own_uses (roles_in ps) p ms) same c.in_ok-refusal.ensures))
@@ -38,7 +38,7 @@ returns c = λ g.
     let p = c.args.core.now in
     let ms = c.args.mains.now in
     let same : c.as_slice-uses.result.now ≡ own_uses (roles_in ps) p ms = c.as_slice-uses.ensures.items
-        ∙ c.in_ok-own.ensures (roles_in ps) ms c.in_ok-classes.ensures c.in_ok-makes.ensures in
+    ∙ c.in_ok-own.ensures (roles_in ps) ms c.in_ok-classes.ensures c.in_ok-makes.ensures in
     onward_ok g ps p ms OwnSession (MadeElsewhere ∷ NotMade ∷ []) c.not_made.result
     (subst (Answer g ps p ms OwnSession) c.in_default.is
     (own_told g ps p ms c.as_slice-uses.result.now (own_uses (roles_in ps) p ms) same c.in_ok-refusal.ensures))

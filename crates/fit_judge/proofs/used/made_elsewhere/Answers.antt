@@ -29,9 +29,9 @@ loop-used-preserved c = λ roles holds.
     walk_later (MakesHeld c.args.core.now roles) c.args.uses.now c.loop-used.used-index (c.loop-used.invariant roles holds) used
     c.loop-used-test.true (reads c.args.uses.now c.loop-used.used-index _ used c.loop-used-test.true c.in-Makes.is)
     (λ r a.
-        let both : Some a.0 ≡ Some c.in-Some.name.now = sym a.1 ∙ sym c.in-Some.ensures in
-        let same : a.0 ≡ c.in-Some.name.now = cc in
-        true≢false (sym ((holds a.0).1 a.2) ∙ ap (contains_text c.args.classes.now) same ∙ sym c.if-contains.ensures))
+    let both : Some a.0 ≡ Some c.in-Some.name.now = sym a.1 ∙ sym c.in-Some.ensures in
+    let same : a.0 ≡ c.in-Some.name.now = cc in
+    true≢false (sym ((holds a.0).1 a.2) ∙ ap (contains_text c.args.classes.now) same ∙ sym c.if-contains.ensures))
 
 pub returns-then-contains : goal.returns-then-contains
 returns-then-contains c = λ roles holds.
