@@ -1,8 +1,7 @@
 -- Conditions, told of what the parts of the judge answer.
 use Rattle.std.proofs.Common.{◌≡◌, List, [], ◌∷◌, ◌++◌, map, Option, None, Contains, refl, sym, subst, ⊎_elim, codes}
 use Rattle.std.proofs.lemmas.List.Elements.{Contains-push, Contains-append_left}
-use Rattle.mg_text.specs.Call.{Name}
-use Rattle.mg_read.specs.First.{Judged, FirstOf, Clean, behind, with_earlier}
+use Rattle.mg_read.specs.First.{Judged, FirstOf, Clean, behind}
 use Rattle.mg_read.proofs.Judging.{judged-same, judged-clean}
 use Rattle.scr_tree.specs.Valid.{AreDistinct}
 use Rattle.scr_global_tree.specs.Tree.{GlobalTree}

@@ -79,7 +79,8 @@ pub(crate) fn roles_spelled(alloc: Global, parts: &[Part]) -> Result<HashSet<Str
 
 /// The names of the classes that are generated of the protocols of files.
 pub(crate) fn classes_spelled(alloc: Global, parts: &[Part]) -> Result<HashSet<String>, Memory>
-    ensures { IfOk result (λ s. (q : Seq ℕ) → IsTrue (contains_text s q) ↔ Contains (map role_class (roles_in (map part_of parts.now))) q) }
+    ensures { IfOk result (λ s. (q : Seq ℕ) →
+        IsTrue (contains_text s q) ↔ Contains (map role_class (roles_in (map part_of parts.now))) q) }
 {
     let mut names = no_names(alloc);
     for part in parts {

@@ -1,4 +1,4 @@
-use Rattle.std.proofs.Common.{[], ◌∷◌, map, Some, None, subst}
+use Rattle.std.proofs.Common.{[], ◌∷◌, map, Some, subst}
 use Rattle.scr_global_tree.specs.Global.{tree_of}
 use Rattle.mg_sources.specs.Parts.{part_of}
 use Rattle.mg_fits.specs.Conditions.{Unplayed, Stranger, SharedMain, NoProtocol, OtherProtocol, OwnSession, MadeElsewhere, NotMade}
