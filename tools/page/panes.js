@@ -46,8 +46,8 @@ function refusedText(judged) {
     const { verdict, told, fault, globals } = judged, section = faults[fault.kind];
     const text = told.err.trim() || statusText(told.status);
     const line = tag('button', { class: 'no', id: 'fault', title: 'goes to the place' }, escaped(text));
-    const alone = `Each file is accepted by itself, and the program runs; but its roles don’t fit ${globals[0]}.`;
-    const which = verdict.status === 0 ? tag('p', {}, escaped(alone)) : '';
+    const alone = `The program is accepted by \`check\`; \`fit\` refuses it with ${globals[0]}.`;
+    const which = verdict.status === 0 ? tag('p', {}, inline(alone)) : '';
     return line + which + offersText(stateOf(judged)) + (section ? explanation(section, fault.file) : '');
 }
 // What the state offers that a fault tells.
