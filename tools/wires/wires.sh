@@ -60,7 +60,6 @@ part_wires() {
     odd "a label that isn't expected" odd 7 'C: mismatch S other' read 'send:OTHER\r\n' close
     why "a label that isn't expected" 'C: S sent "OTHER"'
     odd "the peer ends" odd 8 'C: waits S' read close
-    odd "the peer ends at once" odd 8 'C: waits S' reset
     odd "the peer resets the connection" odd 8 'C: waits S' read reset
     odd "the peer ends in a line" odd 7 'C: mismatch S ""' read send:YES close
     odd "the peer ends in bytes" odd 7 'C: mismatch S "M5"' read 'send:M5\r\nab' close
