@@ -22,7 +22,8 @@ use Rattle.mg_runs.specs.Lines.{role_lines}
 use Rattle.mg_runs.specs.Runs.{names_of}
 use Rattle.mg_runs.specs.Headline.{Course}
 use Rattle.mg_runs.specs.View.{Shows, IsOfRun}
-use Rattle.mg_top.specs.Commands.{prints, kept_in, role_mains_of, run_said, run_printed, status_of, Gives, checked, ran, refined}
+use Rattle.mg_top.specs.Statuses.{status_of}
+use Rattle.mg_top.specs.Commands.{prints, kept_in, role_mains_of, run_said, run_printed, Gives, checked, ran, refined}
 use Rattle.mg_top.specs.Commands.{refined_status}
 use Rattle.mg_top.specs.Commands.{verified}
 use Rattle.mg_verified.specs.Verified.{AreVerified}

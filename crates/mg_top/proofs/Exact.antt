@@ -36,7 +36,8 @@ use Rattle.vm_world_law.specs.declared.role.RoleMain.{RoleMain}
 use Rattle.mg_top.specs.Translation.{Target, AreTranslated}
 use Rattle.mg_top.specs.Commands.{Gives, translated, conforms, checked, compiled, ran, executed, refined, projected, loaded, verified, fitted}
 use Rattle.mg_top.specs.Commands.{refined_status}
-use Rattle.mg_top.specs.Commands.{load_asked, load_sources, role_mains_of, cast_mains_of, status_of, IsRefused, judged_names, Yields, gives, refused}
+use Rattle.mg_top.specs.Statuses.{status_of}
+use Rattle.mg_top.specs.Commands.{load_asked, load_sources, role_mains_of, cast_mains_of, IsRefused, judged_names, Yields, gives, refused}
 use Rattle.mg_top.specs.Commands as commands
 use Rattle.mg_top.specs.Promises.{IsYielded}
 use Rattle.mg_top.proofs.SourceLemmas.{none_refused_of_translated}

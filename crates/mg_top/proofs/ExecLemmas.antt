@@ -15,7 +15,8 @@ use Rattle.mg_delivery.specs.declared.status.Status.{Status}
 use Rattle.mg_delivery.specs.declared.delivery.Action.{Action}
 use Rattle.mg_delivery.specs.declared.delivery.Action.TheVariants.{Say}
 use Rattle.mg_delivery.specs.declared.delivery.Delivery.{Delivery}
-use Rattle.mg_top.specs.Commands.{prints, role_mains_of, exec_said, exec_printed, status_of, Gives, executed}
+use Rattle.mg_top.specs.Statuses.{status_of}
+use Rattle.mg_top.specs.Commands.{prints, role_mains_of, exec_said, exec_printed, Gives, executed}
 use Rattle.mg_top.proofs.CommandLemmas.{gives_so}
 
 -- what is done about a run of class files, by what it shows

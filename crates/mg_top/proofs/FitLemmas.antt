@@ -1,11 +1,14 @@
 -- What the command `fit` answers.
 use Rattle.std.proofs.Common.{◌≡◌, ℕ, ◌<◌, ◌^◌, List, [], ◌∷◌, length, sym, ap, subst, arith}
 use Rattle.mg_text.specs.Call.{Name}
+use Rattle.scr_global.specs.Tree.{said}
 use Rattle.vm_world_law.specs.declared.role.RoleMain.{RoleMain}
 use Rattle.mg_refusal.specs.Refusals.{Refusal}
 use Rattle.mg_sources.specs.Files.{Source, source_of, sources}
 use Rattle.mg_accepted.proofs.OneCore.{one_core}
 use Rattle.mg_fits.specs.Fits.{Fits}
+use Rattle.mg_fits.specs.Parts.{own_local}
+use Rattle.mg_fits.specs.Promise.{NoneGetsStuck}
 use Rattle.mg_fitted.specs.Fitted.{AreFitted, FirstRefusal}
 use Rattle.mg_delivery.specs.declared.status.Status.TheVariants as statuses
 use Rattle.mg_delivery.specs.declared.delivery.Action.TheVariants.{Print}
@@ -15,6 +18,7 @@ use Rattle.mg_top.specs.Commands.{cast_mains_of, fits_text, Gives, fitted, IsRef
 use Rattle.mg_top.specs.Commands as commands
 use Rattle.mg_top.specs.Fitting.{NoRunGetsStuck}
 use Rattle.mg_top.proofs.CommandLemmas.{gives_so}
+use Rattle.mg_top.proofs.FitEndings.{ends_free}
 
 -- a run of files that fit has their core, and by its own record none of its roles gets stuck
 pub no_run_gets_stuck : (global : Source) (files : List Source) (mains : List RoleMain) → AreFitted global files mains →
@@ -22,7 +26,11 @@ pub no_run_gets_stuck : (global : Source) (files : List Source) (mains : List Ro
 no_run_gets_stuck global files mains f order limit run is =
     let same : f.core ≡ run.core = one_core files f.core run.core f.can_run.accepted.have is.accepted.have in
     let fits : Fits global files mains run.core = subst (Fits global files mains) same f.fits in
-    record { fits = fits; none = is.fitting global fits }
+    let none : NoneGetsStuck is.accepted.have.program.files fits.tree.roles (said fits.tree.body) (own_local fits.parts fits.locals) mains
+    run.program run.first = is.fitting global fits in
+    let ended = ends_free run.program run.last (none.runs order limit run.last is.runs) (λ h. h.complete.returned)
+    (λ z. (z.number, z.role, z.there, z.zero)) in
+    record { fits = fits; none = none; no_mismatch = ended.0; no_wait = ended.1 }
 
 -- ---- the words and what was read of their files
 

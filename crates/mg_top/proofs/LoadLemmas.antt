@@ -23,7 +23,8 @@ use Rattle.mg_delivery.specs.declared.status.Status.{Status}
 use Rattle.mg_delivery.specs.declared.delivery.Action.{Action}
 use Rattle.mg_delivery.specs.declared.delivery.Action.TheVariants.{Print, Say}
 use Rattle.mg_delivery.specs.declared.delivery.Delivery.{Delivery}
-use Rattle.mg_top.specs.Commands.{role_mains_of, run_said, run_printed, status_of, load_asked, load_sources, Gives, loaded, IsRefused}
+use Rattle.mg_top.specs.Statuses.{status_of}
+use Rattle.mg_top.specs.Commands.{role_mains_of, run_said, run_printed, load_asked, load_sources, Gives, loaded, IsRefused}
 use Rattle.mg_top.specs.Commands as commands
 use Rattle.mg_top.proofs.CommandLemmas.{gives_so}
 

@@ -1,6 +1,5 @@
 -- What each command gives: what it does about the contents that were read of its files, in their order, and the status that it then has.
 use Rattle.std.specs.Prelude.{ℕ, Bool, true, false, List, [], ◌∷◌, ◌++◌, map, codes, length, Option, Some, None, if◌then◌else◌}
-use Rattle.std.specs.List.{list_any}
 use Rattle.scr_tree.specs.Tree.{LocalTree}
 use Rattle.mg_calls.specs.Calls.{CallAt}
 use Rattle.jv_core.specs.Tree as Core
@@ -12,8 +11,7 @@ use Rattle.mg_compile.specs.Compiled.{AreCompiled}
 use Rattle.mg_compile.specs.Compiled as compiling
 use Rattle.cls_verify.specs.Typing.{AllTypable}
 use Rattle.vm_world_law.specs.declared.role.RoleMain.{RoleMain}
-use Rattle.vm_world_law.specs.declared.stand.Stand.{Stand}
-use Rattle.vm_world_law.specs.Turns.{stands_in, is_bound, is_broken, is_zero, is_mismatch, is_waiting}
+use Rattle.vm_world_law.specs.Turns.{stands_in}
 use Rattle.mg_trace.specs.Trace.{trace, plain_trace, printed}
 use Rattle.mg_runs.specs.Lines.{role_lines}
 use Rattle.mg_runs.specs.Runs.{names_of, messages_in}
@@ -33,7 +31,6 @@ use Rattle.mg_projected.specs.Told.{AreWritten}
 use Rattle.mg_projected.specs.Told as projecting
 use Rattle.mg_delivery.specs.declared.status.Status.{Status}
 use Rattle.mg_delivery.specs.declared.status.Status.TheVariants.{Done, Refused}
-use Rattle.mg_delivery.specs.declared.status.Status.TheVariants as statuses
 use Rattle.mg_delivery.specs.declared.delivery.Action.{Action}
 use Rattle.mg_delivery.specs.declared.delivery.Action.TheVariants.{Print, Say}
 use Rattle.mg_words.specs.Words.{Word, RoleClass, Asked, limit_of, mains_of, order_of, are_named, Command, Translate, Conform, Check}
@@ -44,6 +41,7 @@ use Rattle.mg_sources.specs.Reading.{Protocol, Reads}
 use Rattle.mg_sources.specs.Sources as reading
 use Rattle.mg_top.specs.Writing.{classes_written, roles_written}
 use Rattle.mg_top.specs.Translation.{AreTranslated}
+use Rattle.mg_top.specs.Statuses.{status_of}
 use Rattle.mg_top.specs.Fitting.{NoRunGetsStuck}
 use Rattle.mg_delivery.specs.Lines.{refusal_line}
 use Rattle.mg_top.specs.Conformance.{Lists, Conforms, ConformRefusal}
@@ -82,16 +80,6 @@ run_said asked r =
 -- what is printed, in the order of the events, behind the role's name where roles are named
 abbrev pub run_printed : Asked → Course → List ℕ
 run_printed asked r = printed (are_named asked) (names_of (role_mains_of asked)) r.last.events
-
--- The status of a run, by how its roles stand: the first that applies.
-abbrev pub status_of : List Stand → Status
-status_of all =
-    if list_any is_bound all then statuses.Bound
-    else if list_any is_broken all then statuses.Broken
-    else if list_any is_zero all then statuses.Zero
-    else if list_any is_mismatch all then statuses.Mismatch
-    else if list_any is_waiting all then statuses.Waits
-    else statuses.Done
 
 -- the same of class files as they are: no types of methods are known, so that an answer is told as a number
 abbrev pub exec_said : Asked → executing.Course → List ℕ
@@ -163,7 +151,7 @@ pub data Gives : Command → List (List ℕ) → List Action → Status → Type
   verified : {files : List Word} {contents : List (List ℕ)} {line : List ℕ} → AreVerified (sources files contents) line →
       Gives (Verify files) contents (Print line ∷ []) Done
   -- the program of the files behind the first, run by these roles, fits the global protocol of the first, whose number is the next behind
-  -- theirs; and so in no run of these roles does one of them get stuck
+  -- theirs; and so in no run of these roles does one of them get stuck, and none has the status of one in which one did
   fitted : {roles : List RoleClass} {global : Word} {files : List Word} {bytes : List ℕ} {contents : List (List ℕ)} →
       AreFitted (source_of (length files) global bytes) (sources files contents) (cast_mains_of roles) →
       NoRunGetsStuck (source_of (length files) global bytes) (sources files contents) (cast_mains_of roles) →

@@ -5,7 +5,8 @@ ghost use Rattle.std.specs.Prelude.{◌≡◌, ◌<◌, ◌^◌, ◌++◌, ◌�
 ghost use Rattle.mg_runs.specs.Lines.{role_lines};
 ghost use Rattle.mg_runs.specs.Runs.{names_of};
 ghost use Rattle.mg_words.specs.Words.{Word, Exec};
-ghost use Rattle.mg_top.specs.Commands.{prints, status_of};
+ghost use Rattle.mg_top.specs.Commands.{prints};
+ghost use Rattle.mg_top.specs.Statuses.{status_of};
 ghost use Rattle.mg_top.specs.inner.Preparing.{IsCarried};
 ghost use Rattle.mg_words.specs.inner.Judging.{asked_of, IsAsked};
 

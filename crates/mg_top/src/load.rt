@@ -6,7 +6,8 @@ ghost use Rattle.mg_load.specs.Workload.{loaded_line};
 ghost use Rattle.mg_runs.specs.Lines.{role_lines};
 ghost use Rattle.mg_runs.specs.Runs.{names_of};
 ghost use Rattle.mg_words.specs.Words.{Load};
-ghost use Rattle.mg_top.specs.Commands.{load_asked, role_mains_of, status_of};
+ghost use Rattle.mg_top.specs.Commands.{load_asked, role_mains_of};
+ghost use Rattle.mg_top.specs.Statuses.{status_of};
 ghost use Rattle.mg_top.specs.inner.Preparing.{IsCarried};
 
 use crate::run::{said_of, status_of};

@@ -9,7 +9,8 @@ ghost use Rattle.mg_sources.specs.Files.{HaveKinds};
 ghost use Rattle.mg_runs.specs.Lines.{kind_word, stand_words, role_line, role_lines};
 ghost use Rattle.mg_runs.specs.Runs.{names_of};
 ghost use Rattle.mg_words.specs.Words.{Run, limit_of, mains_of, role_names};
-ghost use Rattle.mg_top.specs.Commands.{kept_in, role_mains_of, cast_mains_of, prints, status_of};
+ghost use Rattle.mg_top.specs.Commands.{kept_in, role_mains_of, cast_mains_of, prints};
+ghost use Rattle.mg_top.specs.Statuses.{status_of};
 ghost use Rattle.mg_top.specs.inner.Preparing.{IsCarried};
 ghost use Rattle.mg_words.specs.inner.Judging.{asked_of, role_classes_of, IsAsked};
 
