@@ -17,7 +17,7 @@ use Rattle.use_rules.specs.State.{Now, Out, Sight, Log, Jump, joined, judged}
 use Rattle.use_rules.specs.Flow.{Evaluated, flow, placed}
 use Rattle.use_flow.specs.inner.Ending.{answer_of, left}
 use Rattle.use_flow.specs.inner.Followed.{Followed, eval, width_of, variable_at, variable_width, class_or_none, judged_variable, left_open}
-use Rattle.use_flow.specs.inner.Followed.{without}
+use Rattle.use_flow.specs.inner.Followed.{without, behind_variables}
 use Rattle.use_flow.specs.inner.Simple.{exit, slot_width, placed_flow, declared, local, overwritten, assigned, printed_flow, printed}
 use Rattle.use_flow.specs.inner.Simple.{type_dropped, dropped_flow, dropped, returned_flow, returned}
 use Rattle.use_flow.specs.inner.Values.{yes_of, no_of, evaluated_of}
@@ -68,17 +68,17 @@ module _ (s : Followed) (log : Log) (e : Expr) (la : Log) (n : Now) where
 
   dropped_is : (q : Place) (c : ℕ) (ts : Typestate) (sets : List Set) (v : Value) (ds' : List Demand) → ts ≡ typestate_of s.program c →
       evaluated_of v la ≡ eval s 0 e (Some sets) log →
-      n ≡ joined (yes_of v.ways) (no_of v.ways) → ds' ≡ la.failed ++ judged (if_open demands.LeftOpen ts) q (codes "value") c v.set →
+      n ≡ joined (yes_of v.ways) (no_of v.ways) → ds' ≡ la.failed ++ judged (if_open demands.LeftOpen ts) q (behind_variables s) (codes "value") c v.set →
       flow n [] (record { outs = la.outs; failed = ds'; sights = la.sights }) ≡ dropped_flow s q c (eval s 0 e (Some sets) log)
   dropped_is q c ts sets v ds' et ev en ed =
       ap (λ (y : Now). flow y [] (record { outs = la.outs; failed = ds'; sights = la.sights })) en
       ∙ ap (λ (y : List Demand). flow (joined (yes_of v.ways) (no_of v.ways)) [] (record { outs = la.outs; failed = y; sights = la.sights }))
-      (ed ∙ ap (λ (ts : Typestate). la.failed ++ judged (if_open demands.LeftOpen ts) q (codes "value") c v.set) et)
+      (ed ∙ ap (λ (ts : Typestate). la.failed ++ judged (if_open demands.LeftOpen ts) q (behind_variables s) (codes "value") c v.set) et)
       ∙ ap (dropped_flow s q c) ev
 
   pub dropped_as : (q : Place) (o : Option CoreType) (c : ℕ) (ts : Typestate) (sets : List Set) (v : Value) (ds' : List Demand)
       → o ≡ type_dropped s e → c ≡ class_or_none s o → ts ≡ typestate_of s.program c → evaluated_of v la ≡ eval s 0 e (Some sets) log →
-      n ≡ joined (yes_of v.ways) (no_of v.ways) → ds' ≡ la.failed ++ judged (if_open demands.LeftOpen ts) q (codes "value") c v.set →
+      n ≡ joined (yes_of v.ways) (no_of v.ways) → ds' ≡ la.failed ++ judged (if_open demands.LeftOpen ts) q (behind_variables s) (codes "value") c v.set →
       flow n [] (record { outs = la.outs; failed = ds'; sights = la.sights }) ≡ dropped s q e sets log
   dropped_as q o c ts sets v ds' eo ec et ev en ed =
       dropped_is q c ts sets v ds' et ev en ed
