@@ -1,0 +1,2 @@
+//! All that is wrong with the files of a command at once.
+#![tactic(auto)]

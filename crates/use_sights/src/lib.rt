@@ -1,0 +1,11 @@
+//! What a variable may be where a protocol method is called on it, and where the call leads.
+//! There is no running code here; the function carries a law.
+#![tactic(auto)]
+
+ghost use Rattle.use_sights.specs.Laws.{SightsTell};
+
+/// What a variable has where a method is called on it, over all contexts, tells which demands on the call fail: that
+/// it is null, that it was moved, or that it is finished or in a state that doesn't offer the method.
+pub fn sights_tell()
+    ensures { SightsTell }
+{}
