@@ -23,12 +23,12 @@ pub data AllRefusals (files : List Source) : List Refusal → Type 0 where
   -- the refusals of the readers
   readers : {r : Refusal} {rs : List Refusal} → AreRefused files (r ∷ rs) → AllRefusals files (r ∷ rs)
   -- or else the first file whose protocol is of a role that an earlier file's is of
-  roles : {parts : List Part} {r : Refusal} → EachSpells files parts → Judged SharesRole (with_earlier files) (Some r) →
+  roles : (parts : List Part) {r : Refusal} → EachSpells files parts → Judged SharesRole (with_earlier files) (Some r) →
       AllRefusals files (r ∷ [])
   -- or else the first type fault
-  types : {sourced : Sourced} {r : Refusal} → AreProgram files sourced → TypeRefusal sourced r → AllRefusals files (r ∷ [])
+  types : (sourced : Sourced) {r : Refusal} → AreProgram files sourced → TypeRefusal sourced r → AllRefusals files (r ∷ [])
   -- or else all demands that fail
-  usages : {core : Core.Program} {d : Demand} {ds : List Demand} → HaveCore files core → AreFaults core (d ∷ ds) →
+  usages : (core : Core.Program) (d : Demand) (ds : List Demand) → HaveCore files core → AreFaults core (d ∷ ds) →
       AllRefusals files (said_of core (d ∷ ds))
 
 -- The first refusal is among them; where it is of Syntax, at a place of that file.
