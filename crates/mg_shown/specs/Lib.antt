@@ -1,4 +1,3 @@
 pub mod Shown
 pub mod examples
 pub mod Computed
-pub mod inner

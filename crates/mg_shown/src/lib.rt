@@ -1,8 +1,6 @@
 //! What each variable may be where a protocol method is called on it, as lines.
 #![tactic(auto)]
 
-mod sites;
-
 ghost use Rattle.mg_shown.specs.Computed.{ExamplesShow};
 
 /// The lines are computed on worked programs. The function carries a law.

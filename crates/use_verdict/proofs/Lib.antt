@@ -1,3 +1,2 @@
 mod Failing
 pub mod First
-mod Meeting
