@@ -178,7 +178,7 @@ pub(crate) fn judge_call(
     set: &StateSet,
 ) -> Result<(), Memory>
     ensures { OnOk result (failed.new.items ≡ failed.old.items
-        ++ judged (unless_called (typestate_or_end (option_map (λ t. t.now) typestate.entry)) method.now) subject.place
+        ++ judged (unless_called (typestate_or_end (option_map (λ t. t.now) typestate.entry)) method.now) subject.place subject.variable
         (title_in names.now subject.title) subject.class set.now) }
 {
     for element in 0..set.width() {

@@ -1,12 +1,13 @@
 //! Calls, behind their arguments.
 //! What flows into the method that is called stands in the log, and its result comes from the tables.
 
-ghost use Rattle.std.specs.Prelude.{◌≡◌, Some, IfOk};
+ghost use Rattle.std.specs.Prelude.{◌≡◌, ◌++◌, ◌∷◌, [], Some, IfOk, OnOk};
 ghost use Rattle.jv_core.specs.View.{method_of};
 ghost use Rattle.jv_core.specs.Lookup.{text_at};
 ghost use Rattle.use_rules.specs.Elements.{targets};
 ghost use Rattle.use_flow.specs.View.{log_of};
 ghost use Rattle.use_flow.specs.inner.Followed.{seen};
+ghost use Rattle.use_flow.specs.inner.Calling.{sights_in};
 ghost use Rattle.use_flow.specs.inner.Values.{evaluated_of, protocol_call, static_call, helper_call};
 
 use crate::arguments::params_of;
@@ -14,11 +15,30 @@ use crate::calling::{image_along, judge_call, offering};
 use crate::evaluated::{Arguments, Value, Ways};
 use crate::fields::{FieldTable, copy_at};
 use crate::scene::{Scene, typestate_of};
-use crate::{Context, Flow};
+use crate::{Context, Flow, Sight};
 use jv_core::{CoreMethod, CoreVar, name_text};
-use mg_text::Memory;
+use mg_sets::StateSet;
+use mg_text::{List, Memory};
 use std::alloc::Global;
 use use_elements::Sets;
+
+// Appends what a variable has where a method is called on it.
+fn see(
+    sights: &mut List<Sight>,
+    receiver: CoreVar,
+    method: u32,
+    set: StateSet,
+) -> Result<(), Memory>
+    ensures { OnOk result (sights_in sights.new.items ≡ sights_in sights.old.items
+        ++ record { place = receiver.place; variable = receiver.var; method = method; set = set } ∷ []) }
+{
+    sights.push(Sight {
+        place: receiver.place,
+        variable: receiver.var,
+        method,
+        set,
+    })
+}
 
 impl<'a> Scene<'a> {
     // A call of a static method.
@@ -129,6 +149,7 @@ impl<'a> Scene<'a> {
         let width = self.variable_width(receiver.var);
         let led = image_along(alloc, width, typestate, name, None, &set)?;
         sets.put(at, led);
+        see(&mut log.sights, receiver, number, set)?;
         Ok(Value {
             set: result,
             ways: Ways::Alike(Some(sets)),

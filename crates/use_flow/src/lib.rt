@@ -40,7 +40,7 @@ pub use fields::{FieldTable, key_of, number, sum};
 pub use followed::flow;
 pub use follows::Follows;
 pub use held::Tables;
-pub use out::{Flow, Out};
+pub use out::{Flow, Out, Sight};
 pub use read::{reads, reads_in};
 pub use runs::Runs;
 pub use scene::{class_at, class_in, typestate_of};
