@@ -20,8 +20,10 @@ mod jumps;
 mod labels;
 mod leaves;
 mod listed;
+mod lookups;
 mod named;
 mod null_tests;
+mod offers;
 mod out;
 mod read;
 mod rising;
@@ -31,6 +33,7 @@ mod simple;
 mod started;
 mod statements;
 mod switches;
+mod targets;
 mod types;
 mod variables;
 
