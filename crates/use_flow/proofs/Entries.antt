@@ -17,7 +17,6 @@ use Rattle.use_rules.specs.declared.key.Context.{Context}
 use Rattle.use_rules.specs.declared.key.Context.TheVariants as contexts
 use Rattle.use_rules.specs.Keys.{AreReached, contexts_of, contexts_from, in_states, offering_states}
 use Rattle.use_rules.specs.Keys.{AreProper}
-use Rattle.use_flow.specs.inner.Entering.{entered_from}
 use Rattle.use_elements.proofs.Rests.{append_nil}
 
 -- the states of the first typestates

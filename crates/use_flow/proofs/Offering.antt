@@ -5,10 +5,10 @@ use Rattle.std.proofs.Common.{length-append, length-set, inl, inr, ◌⊎◌, �
 use Rattle.std.specs.Prelude.{Contains, if◌then◌else◌, option_and_then}
 use Rattle.std.specs.List.{AllByRecursion, position_or_len}
 use Rattle.std.specs.Str.{bytes_eq}
-use Rattle.std.proofs.lemmas.Option.{slice_get-map, get_or_from_slice_get}
+use Rattle.std.proofs.lemmas.Option.{slice_get-map, get_or_from_slice_get, slice_get_past}
 use Rattle.std.proofs.lemmas.Bool.Decides.{nat_tests}
-use Rattle.std.proofs.lemmas.Grind.{common_steps}
-use Rattle.std.proofs.lemmas.List.{at_drop_more, at_drop_all, get_or-set_other, get_or-set_same, get_or_past, map-set, map-append, length-map}
+use Rattle.std.proofs.lemmas.List.{at_drop_more, at_drop_all, get_or-set_other, get_or-set_same, get_or_past, map-set, map-append}
+use Rattle.std.proofs.Math.ListN.{length-map}
 use Rattle.std.proofs.lemmas.List.Folds.{position_or_len_push}
 use Rattle.std.proofs.lemmas.List.Quantifiers.{position-Some}
 use Rattle.std.proofs.lemmas.Slice.Eq.{bytes_eq-Decides}
@@ -26,10 +26,10 @@ use Rattle.use_rules.specs.declared.key.Context.{Context}
 use Rattle.use_rules.specs.declared.key.Context.TheVariants as contexts
 use Rattle.use_rules.specs.Keys.{in_states, offering_states, reached_states, typestate_of, at_end}
 use Rattle.use_flow.specs.inner.Entering.{members_among, entered_in}
-use Rattle.use_flow.specs.inner.Offering.{by_methods, by_states, numbered, states_of, IsOfferedBy, AreOffers}
+use Rattle.use_flow.specs.inner.Offering.{by_methods, by_states, numbered, states_of, IsOfferedBy, AreOffers, offers_at}
 use Rattle.use_flow.specs.declared.offers.Offer.{Offer}
 use Rattle.use_flow.specs.declared.offers.Offers.{Offers}
-use Rattle.jv_core.specs.Tree.{Program}
+use Rattle.jv_core.specs.Tree.{Class, Program}
 use Rattle.use_rules.proofs.Keys.{contains_first, contains_later}
 use Rattle.use_elements.proofs.Rests.{append_nil}
 
@@ -47,6 +47,33 @@ same_name x y h = (bytes_eq-Decides x y).0 h
 
 name_is : (x : Name) → bytes_eq x x ≡ true
 name_is x = (bytes_eq-Decides x x).1 refl
+
+from_zero : (k : ℕ) → k ≡ k + 0
+from_zero k = omega arith
+
+from_suc : (k j : ℕ) → suc k + j ≡ k + suc j
+from_suc k j = omega arith
+
+zero_from : (j : ℕ) → 0 + j ≡ j
+zero_from j = omega arith
+
+last_item : (xs : List (List ℕ)) (x : List ℕ) → get_or (xs ++ x ∷ []) (length xs) [] ≡ x
+last_item [] x = refl
+last_item (y ∷ xs) x = last_item xs x
+
+before_last : (xs : List (List ℕ)) (x : List ℕ) (j : ℕ) → j < length xs → get_or (xs ++ x ∷ []) j [] ≡ get_or xs j []
+before_last [] x j lt = absurd (omega (arith, lt))
+before_last (y ∷ xs) x zero lt = refl
+before_last (y ∷ xs) x (suc j) lt = before_last xs x j (omega (arith, lt))
+
+abbrev no_states : List State
+no_states = []
+
+nothing_there : (j : ℕ) → slice_get no_states j ≡ None
+nothing_there j = slice_get_past no_states j (omega arith)
+
+no_member : (j : ℕ) → has [] j ≡ false
+no_member j = get_or_past [] j false (omega arith)
 
 swapped : (x y : Name) → bytes_eq x y ≡ false → bytes_eq y x ≡ false
 swapped x y h = go (bytes_eq y x) refl
@@ -138,7 +165,7 @@ module _ (ns ns' : List Name) (ls : List (List ℕ)) (n : Name) (q i : ℕ) (eve
   new_other m ne (Some j) e =
       let found = position-Some (bytes_eq m) ns j n e in
       let lt : j < length ls = (let h : j < length ns = found.0 in let k : length ls ≡ length ns = even in omega (arith, h, k)) in
-      grind (arith, common_steps, lt)
+      before_last ls (q ∷ []) j lt
 
   pos_other : (m : Name) → bytes_eq n m ≡ false → position (bytes_eq m) (ns ++ n ∷ []) ≡ position (bytes_eq m) ns
   pos_other m ne =
@@ -161,12 +188,9 @@ module _ (ns ns' : List Name) (ls : List (List ℕ)) (n : Name) (q i : ℕ) (eve
           let before : position (bytes_eq m) ns ≡ None = ap (λ x. position (bytes_eq x) ns) (sym (same_name n m e)) ∙ fresh.absent in
           let end : i ≡ length ls = fresh.last ∙ sym even in
           ap (numbered (ls ++ (q ∷ []) ∷ [])) (here ∙ ap Some end)
-          ∙ last_of
+          ∙ last_item ls (q ∷ [])
           ∙ ap (λ o. numbered ls o ++ q ∷ []) (sym before)
           ∙ ap (λ b. numbered ls (position (bytes_eq m) ns) ++ (if b then q ∷ [] else [])) (sym e)
-        where
-          last_of : get_or (ls ++ (q ∷ []) ∷ []) (length ls) [] ≡ q ∷ []
-          last_of = grind (arith, common_steps)
       go false e =
           ap (λ x. numbered (ls ++ (q ∷ []) ∷ []) (position (bytes_eq m) x)) fresh.long
           ∙ ap (numbered (ls ++ (q ∷ []) ∷ [])) (pos_other m e)
@@ -267,10 +291,11 @@ module _ (t : Typestate) (name : Name) where
   past_states : (k : ℕ) (s : List Bool) → ((j : ℕ) → slice_get t.states (k + j) ≡ None) → offering_states t (members_from k s) name ≡ []
   past_states k [] gone = refl
   past_states k (b ∷ s) gone =
+      let at : slice_get t.states k ≡ None = ap (slice_get t.states) (from_zero k) ∙ gone 0 in
       chosen_state k false b (members_from (suc k) s)
-      (ap (λ o. is_some (option_and_then (λ (x : State). offered_in x.methods name) o)) (ap (slice_get t.states) (omega arith) ∙ gone 0))
+      (ap (λ o. is_some (option_and_then (λ (x : State). offered_in x.methods name) o)) at)
       ∙ none_chosen b (offering_states t (members_from (suc k) s) name)
-      (past_states (suc k) s (λ j. ap (slice_get t.states) (omega arith) ∙ gone (suc j))) k
+      (past_states (suc k) s (λ j. ap (slice_get t.states) (from_suc k j) ∙ gone (suc j))) k
 
   absent_turn : (s : List Bool) (k : ℕ) (v : Bool) (qs : List ℕ) → has s k ≡ false → members_among s qs ≡ [] →
       members_among s (if v then k ∷ qs else qs) ≡ []
@@ -286,8 +311,8 @@ module _ (t : Typestate) (name : Name) where
   all_past s k [] gone = refl
   all_past s k (x ∷ ss) gone =
       among_append s (by_methods k x.methods name) (by_states (suc k) ss name)
-      ∙ ap (λ a. a ++ members_among s (by_states (suc k) ss name)) (past_width s k x.methods (ap (has s) (omega arith) ∙ gone 0))
-      ∙ all_past s (suc k) ss (λ j. ap (has s) (omega arith) ∙ gone (suc j))
+      ∙ ap (λ a. a ++ members_among s (by_states (suc k) ss name)) (past_width s k x.methods (ap (has s) (from_zero k) ∙ gone 0))
+      ∙ all_past s (suc k) ss (λ j. ap (has s) (from_suc k j) ∙ gone (suc j))
 
   member_turn : (s : List Bool) (k : ℕ) (b v : Bool) (qs : List ℕ) → has s k ≡ b →
       members_among s (if v then k ∷ [] else []) ++ qs ≡ (if b then (if v then k ∷ qs else qs) else qs)
@@ -300,17 +325,16 @@ module _ (t : Typestate) (name : Name) where
   by_state : (s r : List Bool) (k : ℕ) (ss : List State) → ((j : ℕ) → slice_get t.states (k + j) ≡ slice_get ss j) →
       ((j : ℕ) → has s (k + j) ≡ has r j) → AllByRecursion (λ x. AreDistinct (map (λ m. m.name) x.methods)) ss →
       members_among s (by_states k ss name) ≡ offering_states t (members_from k r) name
-  by_state s r k [] at in_set apart = sym (past_states k r at)
-  by_state s [] k (x ∷ ss) at in_set apart = all_past s k (x ∷ ss) in_set
+  by_state s r k [] at in_set apart = sym (past_states k r (λ j. at j ∙ nothing_there j))
+  by_state s [] k (x ∷ ss) at in_set apart = all_past s k (x ∷ ss) (λ j. in_set j ∙ no_member j)
   by_state s (b ∷ r) k (x ∷ ss) at in_set apart =
-      let v = is_some (offered_in x.methods name) in
-      let more = offering_states t (members_from (suc k) r) name in
       let rest : members_among s (by_states (suc k) ss name) ≡ offering_states t (members_from (suc k) r) name =
-          by_state s r (suc k) ss (λ j. ap (slice_get t.states) (omega arith) ∙ at (suc j)) (λ j. ap (has s) (omega arith) ∙ in_set (suc j))
+          by_state s r (suc k) ss (λ j. ap (slice_get t.states) (from_suc k j) ∙ at (suc j)) (λ j. ap (has s) (from_suc k j) ∙ in_set (suc j))
           apart.1 in
-      let mine : has s k ≡ b = ap (has s) (omega arith) ∙ in_set 0 in
+      let mine : has s k ≡ b = ap (has s) (from_zero k) ∙ in_set 0 in
       let here : offers_at k ≡ is_some (offered_in x.methods name) =
-          ap (λ o. is_some (option_and_then (λ (x : State). offered_in x.methods name) o)) (ap (slice_get t.states) (omega arith) ∙ at 0) in
+          (let here_at : slice_get t.states k ≡ Some x = ap (slice_get t.states) (from_zero k) ∙ at 0 in
+          ap (λ o. is_some (option_and_then (λ (x : State). offered_in x.methods name) o)) here_at) in
       among_append s (by_methods k x.methods name) (by_states (suc k) ss name)
       ∙ ap (λ a. members_among s a ++ members_among s (by_states (suc k) ss name)) (once k x.methods name apart.0)
       ∙ ap (λ a. members_among s (if is_some (offered_in x.methods name) then k ∷ [] else []) ++ a) rest
@@ -318,12 +342,12 @@ module _ (t : Typestate) (name : Name) where
       ∙ sym (chosen_state k (is_some (offered_in x.methods name)) b (members_from (suc k) r) here)
 
 all_apart : (n : ℕ) (ss : List State) → AllByRecursion (IsState n) ss → AllByRecursion (λ x. AreDistinct (map (λ m. m.name) x.methods)) ss
-all_apart n [] h = h
+all_apart n [] h = tt
 all_apart n (x ∷ ss) h = (h.0.methods, all_apart n ss h.1)
 
 pub listed : (t : Typestate) (name : Name) (s : List Bool) → IsProper t.states →
     members_among s (by_states 0 t.states name) ≡ offering_states t (members s) name
-listed t name s proper = by_state t name s s 0 t.states (λ j. ap (slice_get t.states) (omega arith)) (λ j. ap (has s) (omega arith))
+listed t name s proper = by_state t name s s 0 t.states (λ j. ap (slice_get t.states) (zero_from j)) (λ j. ap (has s) (zero_from j))
     (all_apart (length t.states) t.states proper.each)
 
 -- Loops.
@@ -397,11 +421,7 @@ module _ (c n : ℕ) (s : List Bool) where
 pub ruleset entering = (offer_entered, offer_absent, offers_end, get_or_past)
 
 nothing_at : (q : ℕ) (name : Name) → is_some (offered at_end q name) ≡ false
-nothing_at q name = ap (λ o. is_some (option_and_then (λ (x : State). offered_in x.methods name) o)) (empty q)
-  where
-    empty : (q : ℕ) → slice_get at_end.states q ≡ None
-    empty zero = refl
-    empty (suc q) = refl
+nothing_at q name = ap (λ o. is_some (option_and_then (λ (x : State). offered_in x.methods name) o)) (nothing_there q)
 
 ended : (qs : List ℕ) (name : Name) → offering_states at_end qs name ≡ []
 ended [] name = refl
@@ -422,6 +442,53 @@ module _ (p : Program) (reached : List (List Bool)) (c n : ℕ) (cs cs' : List C
   protocol_none e h = h ∙ sym (append_nil cs)
       ∙ ap (λ x. cs ++ in_states c n x) (sym (ap (λ (t : Typestate). offering_states t (reached_states p reached c) name) e
       ∙ ended (reached_states p reached c) name))
+
+-- The table of a class.
+same_end : {A B : Type 0} (xs : List A) (ys : List B) (n : ℕ) (d : B) → length xs ≡ length ys → slice_get xs n ≡ None → get_or ys n d ≡ d
+same_end [] [] n d e h = get_or_past [] n d (omega arith)
+same_end [] (y ∷ ys) n d e h = absurd (omega (arith, e))
+same_end (x ∷ xs) [] n d e h = absurd (omega (arith, e))
+same_end (x ∷ xs) (y ∷ ys) zero d e h = let contrary : ⊥ = cc in absurd contrary
+same_end (x ∷ xs) (y ∷ ys) (suc n) d e h = same_end xs ys n d (omega (arith, e)) h
+
+same_there : {A B : Type 0} (xs : List A) (ys : List B) (n : ℕ) (x : A) (d : B) → length xs ≡ length ys → slice_get xs n ≡ Some x →
+    slice_get ys n ≡ Some (get_or ys n d)
+same_there [] ys zero x d e h = let contrary : ⊥ = cc in absurd contrary
+same_there [] ys (suc n) x d e h = let contrary : ⊥ = cc in absurd contrary
+same_there (z ∷ xs) [] n x d e h = absurd (omega (arith, e))
+same_there (z ∷ xs) (y ∷ ys) zero x d e h = refl
+same_there (z ∷ xs) (y ∷ ys) (suc n) x d e h = same_there xs ys n x d (omega (arith, e)) h
+
+module _ (p : Program) (os : List Offers) (are : AreOffers p os) where
+  abbrev of_number : Option ℕ → Option Offers
+  of_number v = elim v as (λ _. Option Offers) [ None ↦ None | Some n ↦ slice_get os n ]
+
+  abbrev state_number : Option ℕ → Typestate
+  state_number v = elim v as (λ _. Typestate) [ None ↦ at_end | Some n ↦ get_or p.typestates n at_end ]
+
+  number_none : (v : Option ℕ) → of_number v ≡ None → state_number v ≡ at_end
+  number_none None e = refl
+  number_none (Some n) e = same_end os p.typestates n at_end are.as_many e
+
+  number_some : (v : Option ℕ) (o : Offers) → of_number v ≡ Some o → IsOfferedBy (state_number v) o
+  number_some None o e = let contrary : ⊥ = cc in absurd contrary
+  number_some (Some n) o e = are.each n (get_or p.typestates n at_end) o (same_there os p.typestates n o at_end are.as_many e) e
+
+  class_none : (v : Option Class) → elim v as (λ _. Option Offers) [ None ↦ None | Some k ↦ of_number k.typestate ] ≡ None →
+      elim v as (λ _. Typestate) [ None ↦ at_end | Some k ↦ state_number k.typestate ] ≡ at_end
+  class_none None e = refl
+  class_none (Some k) e = number_none k.typestate e
+
+  class_some : (v : Option Class) (o : Offers) → elim v as (λ _. Option Offers) [ None ↦ None | Some k ↦ of_number k.typestate ] ≡ Some o →
+      IsOfferedBy (elim v as (λ _. Typestate) [ None ↦ at_end | Some k ↦ state_number k.typestate ]) o
+  class_some None o e = let contrary : ⊥ = cc in absurd contrary
+  class_some (Some k) o e = number_some k.typestate o e
+
+  pub no_table : (c : ℕ) → offers_at p os c ≡ None → typestate_of p c ≡ at_end
+  no_table c e = class_none (slice_get p.classes c) e
+
+  pub a_table : (c : ℕ) (o : Offers) → offers_at p os c ≡ Some o → IsOfferedBy (typestate_of p c) o
+  a_table c o e = class_some (slice_get p.classes c) o e
 
 -- Tables for the first typestates.
 pub record OfferedSoFar (ts : List Typestate) (os : List Offers) (i : ℕ) : Type 0 where

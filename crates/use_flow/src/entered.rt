@@ -1,17 +1,17 @@
 //! In which ways the methods of a program are followed.
 //! A protocol method is followed once for each state that calls lead to and that offers it.
 
-ghost use Rattle.std.specs.Prelude.{◌≡◌, ◌++◌, [], ◌∷◌, map, option_map, IfOk, OnOk, MatchOption};
+ghost use Rattle.std.specs.Prelude.{◌≡◌, ◌++◌, [], ◌∷◌, map, option_map, IfOk, OnOk};
 ghost use Rattle.mg_sets.specs.Sets.{members};
 ghost use Rattle.ts_tree.specs.Proper.{IsProper};
 ghost use Rattle.ts_tree.specs.Reachable.{MarksReachable};
 ghost use Rattle.jv_core.specs.View.{method_of};
 ghost use Rattle.jv_core.specs.Lookup.{text_at};
 ghost use Rattle.use_rules.specs.Keys.{AreReached, contexts_in, contexts_of, in_states, offering_states, reached_states, typestate_of};
-ghost use Rattle.use_rules.specs.Keys.{AreProper, at_end};
+ghost use Rattle.use_rules.specs.Keys.{AreProper};
 ghost use Rattle.use_flow.specs.View.{AreContexts};
 ghost use Rattle.use_flow.specs.inner.Entering.{set_or_none, entered_in};
-ghost use Rattle.use_flow.specs.inner.Offering.{AreOffers, IsOfferedBy};
+ghost use Rattle.use_flow.specs.inner.Offering.{AreOffers, offers_at};
 
 use crate::Context;
 use crate::fields::number;
@@ -120,8 +120,7 @@ fn add_states(
 // What the typestate of a class offers, if it has one.
 #[tactic(auto, using(crate::proofs::Scenes::scenes))]
 fn offers_in<'o>(core: &Core, offers: &'o [Offers], class: u32) -> Option<&'o Offers>
-    requires { AreOffers core.now offers.now }
-    ensures { MatchOption result (typestate_of core.now class ≡ at_end) (λ o. IsOfferedBy (typestate_of core.now class) o.now) }
+    ensures { option_map (λ o. o.now) result ≡ offers_at core.now offers.now class }
 {
     let class = class_at(core, class)?;
     let typestate = class.typestate?;

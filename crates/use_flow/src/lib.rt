@@ -20,7 +20,6 @@ mod jumps;
 mod labels;
 mod leaves;
 mod listed;
-mod lookups;
 mod named;
 mod null_tests;
 mod offers;

@@ -59,6 +59,7 @@ fn offered_in<'t>(methods: &'t [Method], name: &str) -> Option<&'t Method>
 }
 
 // The method of a name among those of a state, of which no two have one name; the place is tried first.
+#[tactic(auto, using(crate::proofs::Placing::placing))]
 fn offered_near<'t>(methods: &'t [Method], name: &str, place: usize) -> Option<&'t Method>
     requires { AreDistinct (map (λ m. m.name) (map offer_of methods.now)) }
     ensures { option_map (λ m. offer_of m.now) result ≡ offered_in (map offer_of methods.now) name.now }

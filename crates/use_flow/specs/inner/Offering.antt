@@ -42,3 +42,10 @@ pub record IsOfferedBy (t : Typestate) (o : Offers) : Type 0 where
 pub record AreOffers (p : Program) (os : List Offers) : Type 0 where
   pub as_many : length os ≡ length p.typestates
   pub each : (n : ℕ) (t : Typestate) (o : Offers) → slice_get p.typestates n ≡ Some t → slice_get os n ≡ Some o → IsOfferedBy t o
+
+-- the table of the typestate that a class follows
+abbrev pub offers_at : Program → List Offers → (class : ℕ) → Option Offers
+offers_at p os c = elim (slice_get p.classes c) [
+  | None ↦ None
+  | Some k ↦ elim k.typestate [ None ↦ None | Some n ↦ slice_get os n ]
+]
