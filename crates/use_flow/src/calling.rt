@@ -1,14 +1,14 @@
 //! Where calls of a method lead from the elements of a set, and which demands they fail.
-//! A method is named by its text, as typestates name it.
+//! A method is told by its class and its name.
 
-ghost use Rattle.std.specs.Prelude.{◌≡◌, ◌++◌, map, option_map, is_some, slice_set, true, IfOk, OnOk};
-ghost use Rattle.ts_tree.specs.Calls.{offered, offered_in, by_label};
-ghost use Rattle.ts_tree.specs.View.{method_of, target_of};
-ghost use Rattle.use_rules.specs.Elements.{begin, image, along, element_of, marked, target_at, unless_called, offering};
+ghost use Rattle.std.specs.Prelude.{◌≡◌, ◌++◌, map, option_map, slice_set, true, IfOk, OnOk};
+ghost use Rattle.ts_tree.specs.Calls.{by_label};
+ghost use Rattle.ts_tree.specs.View.{target_of};
+ghost use Rattle.jv_core.specs.Lookup.{text_at};
+ghost use Rattle.use_rules.specs.Elements.{begin, image, along, element_of, marked, unless_called, offering};
+ghost use Rattle.use_rules.specs.Keys.{typestate_of};
 ghost use Rattle.use_rules.specs.State.{judged};
 ghost use Rattle.use_flow.specs.inner.Calling.{which_of};
-ghost use Rattle.use_rules.specs.Keys.{typestate_of};
-ghost use Rattle.jv_core.specs.Lookup.{text_at};
 ghost use Rattle.use_flow.specs.inner.Followed.{seen};
 ghost use Rattle.use_elements.specs.Mappings.{typestate_or_end, title_in};
 
@@ -16,9 +16,9 @@ use crate::scene::Scene;
 use crate::targets::MethodKey;
 use crate::{Demand, DemandKind};
 use mg_sets::StateSet;
-use mg_text::{List, Memory};
+use mg_text::{List, Memory, Names};
 use std::alloc::Global;
-use ts_tree::{Branch, Method, Target, To, Typestate};
+use ts_tree::{Branch, Target, To, Typestate};
 use use_elements::{Subject, blame, empty_set, mark};
 
 // Where the label leads.
@@ -155,6 +155,7 @@ impl<'a> Scene<'a> {
     pub(crate) fn judge_call(
         &self,
         alloc: Global,
+        names: &Names,
         failed: &mut List<Demand>,
         subject: Subject,
         call: MethodKey,
@@ -162,9 +163,8 @@ impl<'a> Scene<'a> {
     ) -> Result<(), Memory>
         ensures { OnOk result (failed.new.items ≡ failed.old.items
             ++ judged (unless_called (typestate_of (seen self.now).program call.class) (text_at (seen self.now).program call.name.0))
-            subject.place (title_in (seen self.now).program.names subject.title) subject.class set.now) }
+            subject.place (title_in names.now subject.title) subject.class set.now) }
     {
-        let names = self.core.names();
         for element in 0..set.width() {
             if set.has(element) {
                 let kind = self.called_asked(call, element);

@@ -12,7 +12,7 @@ use crate::arguments::params_of;
 use crate::evaluated::{Arguments, Value, Ways};
 use crate::fields::{FieldTable, copy_at};
 use crate::scene::Scene;
-use crate::targets::key_of_method;
+use crate::targets::MethodKey;
 use crate::{Context, Flow};
 use jv_core::{CoreMethod, CoreVar};
 use mg_text::Memory;
@@ -102,8 +102,13 @@ impl<'a> Scene<'a> {
         let at = self.variable_at(receiver.var);
         let set = copy_at(alloc, &sets, at)?;
         let subject = self.subject(receiver.place, receiver.var);
-        let call = key_of_method(number, method);
-        self.judge_call(alloc, &mut log.failed, subject, call, &set)?;
+        let call = MethodKey {
+            class: method.class,
+            name: method.name,
+            number,
+        };
+        let names = self.core.names();
+        self.judge_call(alloc, names, &mut log.failed, subject, call, &set)?;
         let states = self.offering(alloc, call, &set)?;
         self.send_states(
             alloc,

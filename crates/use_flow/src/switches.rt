@@ -24,7 +24,7 @@ use crate::fields::copy_at;
 use crate::listed::{Call, call_in};
 use crate::scene::Scene;
 use crate::simple::put_in;
-use crate::targets::key_of_method;
+use crate::targets::MethodKey;
 use jv_core::{CoreExpr, CoreGroup, CoreMethod, CoreVar, Var, name_text};
 use mg_sets::StateSet;
 use mg_text::{Memory, Name};
@@ -253,7 +253,11 @@ impl<'a> Scene<'a> {
     {
         let width = self.variable_width(receiver);
         let label = name_text(self.core, label);
-        let call = key_of_method(number, method);
+        let call = MethodKey {
+            class: method.class,
+            name: method.name,
+            number,
+        };
         self.image_along(alloc, width, call, Some(label), set)
     }
 

@@ -4,23 +4,21 @@
 
 ghost use Rattle.std.specs.Prelude.{◌≡◌, map, option_map};
 ghost use Rattle.std.specs.Bool.{OnTrue};
+ghost use Rattle.mg_text.specs.Call.{Name as Spelling};
 ghost use Rattle.ts_tree.specs.Calls.{offered, offered_in};
 ghost use Rattle.ts_tree.specs.Proper.{AreDistinct};
-ghost use Rattle.ts_tree.specs.View.{method_of as offer_of, target_of};
+ghost use Rattle.ts_tree.specs.View.{method_of, target_of};
 ghost use Rattle.jv_core.specs.Lookup.{text_at};
-ghost use Rattle.jv_core.specs.View.{method_of};
 ghost use Rattle.use_rules.specs.Elements.{target_at};
 ghost use Rattle.use_rules.specs.Keys.{typestate_of};
 ghost use Rattle.use_flow.specs.inner.Followed.{seen};
 ghost use Rattle.use_flow.specs.inner.Targets.{IsTold};
 ghost use Rattle.use_elements.specs.Mappings.{typestate_or_end};
 
-ghost use Rattle.mg_text.specs.Call.{Name as NameText};
-
 use crate::Context;
 use crate::arguments::method_at;
 use crate::scene::{Scene, typestate_of};
-use jv_core::{CoreMethod, MethodKind, name_text};
+use jv_core::{MethodKind, name_text};
 use mg_text::Name;
 use ts_tree::{Method, Target, Typestate};
 
@@ -32,23 +30,10 @@ pub(crate) struct MethodKey {
     pub number: u32,
 }
 
-// The key of a method of this number.
-pub(crate) fn key_of_method(number: u32, method: &CoreMethod) -> MethodKey
-    ensures class { result.class ≡ (method_of method.now).class }
-    ensures name { result.name.0 ≡ (method_of method.now).name }
-    ensures number { result.number ≡ number }
-{
-    MethodKey {
-        class: method.class,
-        name: method.name,
-        number,
-    }
-}
-
 // The method of a name among those of a state.
 #[tactic(auto, using(crate::proofs::Seeking::seeking))]
 fn offered_in<'t>(methods: &'t [Method], name: &str) -> Option<&'t Method>
-    ensures { option_map (λ m. offer_of m.now) result ≡ offered_in (map offer_of methods.now) name.now }
+    ensures { option_map (λ m. method_of m.now) result ≡ offered_in (map method_of methods.now) name.now }
 {
     for method in methods {
         if method.name.as_str() == name {
@@ -61,8 +46,8 @@ fn offered_in<'t>(methods: &'t [Method], name: &str) -> Option<&'t Method>
 // The method of a name among those of a state, of which no two have one name; the place is tried first.
 #[tactic(auto, using(crate::proofs::Placing::placing))]
 fn offered_near<'t>(methods: &'t [Method], name: &str, place: usize) -> Option<&'t Method>
-    requires { AreDistinct (map (λ m. m.name) (map offer_of methods.now)) }
-    ensures { option_map (λ m. offer_of m.now) result ≡ offered_in (map offer_of methods.now) name.now }
+    requires { AreDistinct (map (λ m. m.name) (map method_of methods.now)) }
+    ensures { option_map (λ m. method_of m.now) result ≡ offered_in (map method_of methods.now) name.now }
 {
     if place < methods.len() {
         let method = &methods[place];
@@ -75,8 +60,8 @@ fn offered_near<'t>(methods: &'t [Method], name: &str, place: usize) -> Option<&
 
 // The methods of a state, of which no two have one name; none where there is no such state.
 fn methods_at(typestate: &Typestate, state: usize) -> &[Method]
-    ensures distinct { AreDistinct (map (λ m. m.name) (map offer_of result.now)) }
-    ensures offered { (name : NameText) → offered typestate.now state name ≡ offered_in (map offer_of result.now) name }
+    ensures distinct { AreDistinct (map (λ m. m.name) (map method_of result.now)) }
+    ensures offered { (name : Spelling) → offered typestate.now state name ≡ offered_in (map method_of result.now) name }
 {
     match typestate.states.as_slice().get(state) {
         Some(state) => state.methods.as_slice(),

@@ -10,5 +10,5 @@ use Rattle.use_flow.proofs.scene.Scene.judge_call.Given as goal
 abbrev pub invariant-loop-element : goal.invariant-loop-element
 invariant-loop-element l =
     let rule = unless_called (typestate_of (seen l.self).program l.call.class) (text_at (seen l.self).program l.call.name.0) in
-    l.failed.items ++ judged_from rule l.subject.place (title_in (seen l.self).program.names l.subject.title) l.subject.class l.element (drop l.element l.set)
-    ≡ l.initial.failed.items ++ judged rule l.subject.place (title_in (seen l.self).program.names l.subject.title) l.subject.class l.set
+    l.failed.items ++ judged_from rule l.subject.place (title_in l.names l.subject.title) l.subject.class l.element (drop l.element l.set)
+    ≡ l.initial.failed.items ++ judged rule l.subject.place (title_in l.names l.subject.title) l.subject.class l.set
