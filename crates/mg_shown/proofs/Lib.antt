@@ -1,2 +1,4 @@
 pub mod Listing
 pub mod Worked
+pub mod Sorting
+pub mod Single

@@ -18,6 +18,7 @@ pub mod Arms
 pub mod Simply
 pub mod Jumping
 pub mod Coursing
+pub mod Called
 pub mod Choosing
 pub mod Stepping
 pub mod Forms

@@ -66,22 +66,23 @@ module _ (s : Followed) (log : Log) (e : Expr) (la : Log) (n : Now) where
       flow n [] la ≡ printed s e sets log
   printed_is sets v ev en = ap (λ (y : Now). flow y [] la) en ∙ ap printed_flow ev
 
-  dropped_is : (q : Place) (c : ℕ) (ts : Typestate) (sets : List Set) (v : Value) (ds' : List Demand) → ts ≡ typestate_of s.program c →
-      evaluated_of v la ≡ eval s 0 e (Some sets) log →
-      n ≡ joined (yes_of v.ways) (no_of v.ways) → ds' ≡ la.failed ++ judged (if_open demands.LeftOpen ts) q (behind_variables s) (codes "value") c v.set →
+  dropped_is : (q : Place) (c y : ℕ) (ts : Typestate) (sets : List Set) (v : Value) (ds' : List Demand) → y ≡ behind_variables s →
+      ts ≡ typestate_of s.program c → evaluated_of v la ≡ eval s 0 e (Some sets) log →
+      n ≡ joined (yes_of v.ways) (no_of v.ways) → ds' ≡ la.failed ++ judged (if_open demands.LeftOpen ts) q y (codes "value") c v.set →
       flow n [] (record { outs = la.outs; failed = ds'; sights = la.sights }) ≡ dropped_flow s q c (eval s 0 e (Some sets) log)
-  dropped_is q c ts sets v ds' et ev en ed =
+  dropped_is q c y ts sets v ds' ey et ev en ed =
       ap (λ (y : Now). flow y [] (record { outs = la.outs; failed = ds'; sights = la.sights })) en
       ∙ ap (λ (y : List Demand). flow (joined (yes_of v.ways) (no_of v.ways)) [] (record { outs = la.outs; failed = y; sights = la.sights }))
-      (ed ∙ ap (λ (ts : Typestate). la.failed ++ judged (if_open demands.LeftOpen ts) q (behind_variables s) (codes "value") c v.set) et)
+      (ed ∙ ap (λ (ts : Typestate). la.failed ++ judged (if_open demands.LeftOpen ts) q y (codes "value") c v.set) et
+      ∙ ap (λ z. la.failed ++ judged (if_open demands.LeftOpen (typestate_of s.program c)) q z (codes "value") c v.set) ey)
       ∙ ap (dropped_flow s q c) ev
 
-  pub dropped_as : (q : Place) (o : Option CoreType) (c : ℕ) (ts : Typestate) (sets : List Set) (v : Value) (ds' : List Demand)
-      → o ≡ type_dropped s e → c ≡ class_or_none s o → ts ≡ typestate_of s.program c → evaluated_of v la ≡ eval s 0 e (Some sets) log →
-      n ≡ joined (yes_of v.ways) (no_of v.ways) → ds' ≡ la.failed ++ judged (if_open demands.LeftOpen ts) q (behind_variables s) (codes "value") c v.set →
+  pub dropped_as : (q : Place) (o : Option CoreType) (c y : ℕ) (ts : Typestate) (sets : List Set) (v : Value) (ds' : List Demand)
+      → o ≡ type_dropped s e → c ≡ class_or_none s o → y ≡ behind_variables s → ts ≡ typestate_of s.program c → evaluated_of v la ≡ eval s 0 e (Some sets) log →
+      n ≡ joined (yes_of v.ways) (no_of v.ways) → ds' ≡ la.failed ++ judged (if_open demands.LeftOpen ts) q y (codes "value") c v.set →
       flow n [] (record { outs = la.outs; failed = ds'; sights = la.sights }) ≡ dropped s q e sets log
-  dropped_as q o c ts sets v ds' eo ec et ev en ed =
-      dropped_is q c ts sets v ds' et ev en ed
+  dropped_as q o c y ts sets v ds' eo ec ey et ev en ed =
+      dropped_is q c y ts sets v ds' ey et ev en ed
       ∙ ap (λ (d : ℕ). dropped_flow s q d (eval s 0 e (Some sets) log)) (ec ∙ ap (class_or_none s) eo)
 
   pub returned_is : (q : Place) (sc : List ℕ) (sets : List Set) (v : Value) (label : Option Name) (lb : Log) →

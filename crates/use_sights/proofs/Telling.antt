@@ -22,9 +22,11 @@ use Rattle.use_rules.specs.Tables.{quiet, flow_of, all_failed, all_sights}
 use Rattle.use_rules.specs.inner.Order.{Mem}
 use Rattle.use_rules.proofs.Members.{mem_left, mem_right, mem_cases, union_left, union_right, union_cases}
 use Rattle.use_rules.proofs.Leaving.{contains_of}
+use Rattle.use_rules.proofs.Laws.{grows}
 use Rattle.use_sights.specs.Calls.{Use, Site, Reads, Calls, uses_of_all, uses_from, all_uses}
 use Rattle.use_sights.specs.Sights.{same_place, sights_at, together}
-use Rattle.use_sights.specs.Laws.{Fails, AllCall, NoneReads, IsAsked, SightsTell}
+use Rattle.use_rules.specs.Laws.{Sees}
+use Rattle.use_sights.specs.Laws.{Fails, AllCall, NoneReads, IsAsked, SightsTell, BeforeGrows}
 use Rattle.use_sights.proofs.Judging.{IsLeft, AreLeft, IsOf, is_of, is_there, demand_of}
 use Rattle.use_sights.proofs.Closing.{Keeps, whole_holds}
 
@@ -444,4 +446,24 @@ sights_tell p reached t place k calls = record {
   not_offered = λ e f. asked_there p reached t place k calls demands.NotOffered e tt f;
   may_be_null = λ e f. asked_there p reached t place k calls demands.MaybeNull e tt f;
   moved = moved_there p reached t place k calls;
+}
+
+pub before_grows : BeforeGrows
+before_grows p reached t u larger place = record {
+  within = λ e h.
+      let z = together_from (sights_at place (all_sights p reached t)) e h in
+      let f = filter_cases (λ (s : Sight). same_place place s.place) (all_sights p reached t) z.sight z.there in
+      let seen : Sees (all_sights p reached t) z.sight.place z.sight.variable z.sight.method e = record {
+        sight = z.sight;
+        there = contains_of (all_sights p reached t) z.sight f.0;
+        stands = refl;
+        of = refl;
+        calls = refl;
+        member = z.has_it;
+      } in
+      let more = (grows.all p reached t u larger).sights z.sight.place z.sight.variable z.sight.method e seen in
+      in_together (sights_at place (all_sights p reached u)) more.sight e
+      (in_filter (λ (s : Sight). same_place place s.place) (all_sights p reached u) more.sight
+      (mem_of (all_sights p reached u) more.sight more.there) (ap (same_place place) more.stands ∙ f.1))
+      more.member;
 }

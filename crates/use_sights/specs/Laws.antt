@@ -2,7 +2,7 @@
 -- away where it has moved, and isn't offered where it has the end, or a state that doesn't offer the method.
 use Rattle.std.specs.Prelude.{◌≡◌, ℕ, true, List, Bool, Some, slice_get, Contains}
 use Rattle.mg_text.specs.declared.place.Place.{Place}
-use Rattle.mg_sets.specs.Sets.{has}
+use Rattle.mg_sets.specs.Sets.{has, IsSubset}
 use Rattle.jv_core.specs.Tree.{Method, Program}
 use Rattle.jv_core.specs.Lookup.{text_at}
 use Rattle.use_rules.specs.declared.demand.DemandKind.{DemandKind}
@@ -11,6 +11,7 @@ use Rattle.use_rules.specs.declared.demand.Demand.{Demand}
 use Rattle.use_rules.specs.Elements.{element_at, unless_called}
 use Rattle.use_rules.specs.Keys.{Tables, typestate_of}
 use Rattle.use_rules.specs.Tables.{all_failed}
+use Rattle.use_rules.specs.Laws.{AreWithin}
 use Rattle.use_sights.specs.Calls.{Site, Reads, Calls, all_uses, all_sites}
 use Rattle.use_sights.specs.Sights.{before}
 
@@ -49,3 +50,8 @@ pub record SightsTellOf (p : Program) (reached : List (List Bool)) (t : Tables) 
 abbrev pub SightsTell : Type 0
 SightsTell = (p : Program) (reached : List (List Bool)) (t : Tables) (place : Place) (k : Method) → AllCall p place k →
     SightsTellOf p reached t place k
+
+-- With larger tables a variable may be more before a call. So the least tables have one answer.
+abbrev pub BeforeGrows : Type 0
+BeforeGrows = (p : Program) (reached : List (List Bool)) (t u : Tables) → AreWithin t u → (place : Place) →
+    IsSubset (before p reached t place) (before p reached u place)

@@ -2,10 +2,12 @@
 //! There is no running code here; the function carries a law.
 #![tactic(auto)]
 
-ghost use Rattle.use_sights.specs.Laws.{SightsTell};
+ghost use Rattle.use_sights.specs.Laws.{SightsTell, BeforeGrows};
 
 /// What a variable has where a method is called on it, over all contexts, tells which demands on the call fail: that
-/// it is null, that it was moved, or that it is finished or in a state that doesn't offer the method.
+/// it is null, that it was moved, or that it is finished or in a state that doesn't offer the method. With larger tables
+/// it may be more.
 pub fn sights_tell()
-    ensures { SightsTell }
+    ensures tells { SightsTell }
+    ensures grows { BeforeGrows }
 {}
