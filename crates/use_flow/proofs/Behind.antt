@@ -52,23 +52,17 @@ answered_is s (Some l) t = refl
 abbrev by : Followed → Option Name → Option Target → List To
 by s label o = elim o as (λ _. List To) [ None ↦ [] | Some t ↦ answered s label t ]
 
-module _ (s : Followed) (c q : ℕ) (label : Option Name) (place : Place) (sets : List Set) (name : Name) (ts : Typestate) (old new : Log)
-  where
-    pub offered_left : (t : Target) → name ≡ text_at s.program s.method.name → ts ≡ typestate_of s.program c → Some t ≡ target_at ts name q
-        →
-        new ≡ fields_left s c (which_of label t) place sets old → new ≡ fields_left s c (followed s c q label) place sets old
-    offered_left t named at e h =
-        h ∙ ap (λ x. fields_left s c x place sets old)
-        (answered_is s label t ∙ ap (by s label) (e ∙ ap (λ n. target_at ts n q) named ∙
-        ap (λ k. target_at k (text_at s.program s.method.name) q) at))
+module _ (s : Followed) (c q : ℕ) (label : Option Name) (place : Place) (sets : List Set) (old new : Log) where
+  pub offered_left : (t : Target) → Some t ≡ target_at (typestate_of s.program c) (text_at s.program s.method.name) q →
+      new ≡ fields_left s c (which_of label t) place sets old → new ≡ fields_left s c (followed s c q label) place sets old
+  offered_left t e h = h ∙ ap (λ x. fields_left s c x place sets old) (answered_is s label t ∙ ap (by s label) e)
 
-    pub unoffered_left : name ≡ text_at s.program s.method.name → ts ≡ typestate_of s.program c → None ≡ target_at ts name q → new ≡ old →
-        new ≡ fields_left s c (followed s c q label) place sets old
-    unoffered_left named at e h =
-        h ∙ ap (λ (x : List Out). record { outs = x; failed = old.failed; sights = old.sights }) (sym (append_nil old.outs))
-        ∙ ap (λ (x : List Demand). record { outs = old.outs ++ []; failed = x; sights = old.sights }) (sym (append_nil old.failed))
-        ∙ ap (λ x. fields_left s c x place sets old)
-        (ap (by s label) (e ∙ ap (λ n. target_at ts n q) named ∙ ap (λ k. target_at k (text_at s.program s.method.name) q) at))
+  pub unoffered_left : None ≡ target_at (typestate_of s.program c) (text_at s.program s.method.name) q → new ≡ old →
+      new ≡ fields_left s c (followed s c q label) place sets old
+  unoffered_left e h =
+      h ∙ ap (λ (x : List Out). record { outs = x; failed = old.failed; sights = old.sights }) (sym (append_nil old.outs))
+      ∙ ap (λ (x : List Demand). record { outs = old.outs ++ []; failed = x; sights = old.sights }) (sym (append_nil old.failed))
+      ∙ ap (λ x. fields_left s c x place sets old) (ap (by s label) e)
 
 pub ruleset offers = (offered_left, unoffered_left)
 

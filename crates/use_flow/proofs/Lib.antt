@@ -6,6 +6,8 @@ pub mod Seeking
 pub mod Turns
 pub mod Taken
 pub mod Entries
+pub mod Offering
+pub mod Placing
 pub mod Reached
 pub mod Heading
 pub mod Leaving

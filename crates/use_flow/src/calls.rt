@@ -3,7 +3,6 @@
 
 ghost use Rattle.std.specs.Prelude.{◌≡◌, ◌++◌, ◌∷◌, [], Some, IfOk, OnOk};
 ghost use Rattle.jv_core.specs.View.{method_of};
-ghost use Rattle.jv_core.specs.Lookup.{text_at};
 ghost use Rattle.use_rules.specs.Elements.{targets};
 ghost use Rattle.use_flow.specs.View.{log_of};
 ghost use Rattle.use_flow.specs.inner.Followed.{seen};
@@ -11,12 +10,12 @@ ghost use Rattle.use_flow.specs.inner.Calling.{sights_in};
 ghost use Rattle.use_flow.specs.inner.Values.{evaluated_of, protocol_call, static_call, helper_call};
 
 use crate::arguments::params_of;
-use crate::calling::{image_along, judge_call, offering};
 use crate::evaluated::{Arguments, Value, Ways};
 use crate::fields::{FieldTable, copy_at};
-use crate::scene::{Scene, typestate_of};
+use crate::scene::Scene;
+use crate::targets::MethodKey;
 use crate::{Context, Flow, Sight};
-use jv_core::{CoreMethod, CoreVar, name_text};
+use jv_core::{CoreMethod, CoreVar};
 use mg_sets::StateSet;
 use mg_text::{List, Memory};
 use std::alloc::Global;
@@ -105,38 +104,32 @@ impl<'a> Scene<'a> {
         })
     }
 
-    // A call of a protocol method of this name, from what the variable has.
-    pub(crate) fn named_call(
+    // A call of a protocol method, from what the variable has.
+    pub(crate) fn given_call(
         &self,
         alloc: Global,
         receiver: CoreVar,
         number: u32,
         method: &CoreMethod,
-        name: &str,
         args: &Sets,
         sets: Sets,
         log: &mut Flow,
     ) -> Result<Value, Memory>
-        requires { name.now ≡ text_at (seen self.now).program (method_of method.now).name }
         ensures { IfOk result (λ v. evaluated_of v (log_of log.new) ≡ protocol_call (seen self.now) targets receiver number
             (method_of method.now) args.now (Some sets) (log_of log.old)) }
     {
         let mut sets = sets;
-        let typestate = typestate_of(self.core, method.class);
         let at = self.variable_at(receiver.var);
         let set = copy_at(alloc, &sets, at)?;
         let subject = self.subject(receiver.place, receiver.var);
+        let call = MethodKey {
+            class: method.class,
+            name: method.name,
+            number,
+        };
         let names = self.core.names();
-        judge_call(
-            alloc,
-            names,
-            &mut log.failed,
-            subject,
-            typestate,
-            name,
-            &set,
-        )?;
-        let states = offering(alloc, typestate, name, &set)?;
+        self.judge_call(alloc, names, &mut log.failed, subject, call, &set)?;
+        let states = self.offering(alloc, call, &set)?;
         self.send_states(
             alloc,
             &mut log.outs,
@@ -147,7 +140,7 @@ impl<'a> Scene<'a> {
         )?;
         let result = self.results_of(alloc, number, method, states.as_slice())?;
         let width = self.variable_width(receiver.var);
-        let led = image_along(alloc, width, typestate, name, None, &set)?;
+        let led = self.image_along(alloc, width, call, None, &set)?;
         sets.put(at, led);
         see(&mut log.sights, receiver, number, set)?;
         Ok(Value {
@@ -174,7 +167,6 @@ impl<'a> Scene<'a> {
         let Some(sets) = now else {
             return Value::plain(alloc, None);
         };
-        let name = name_text(self.core, method.name);
-        self.named_call(alloc, receiver, number, method, name, &given, sets, log)
+        self.given_call(alloc, receiver, number, method, &given, sets, log)
     }
 }

@@ -22,6 +22,7 @@ mod leaves;
 mod listed;
 mod named;
 mod null_tests;
+mod offers;
 mod out;
 mod read;
 mod rising;
@@ -31,6 +32,7 @@ mod simple;
 mod started;
 mod statements;
 mod switches;
+mod targets;
 mod types;
 mod variables;
 

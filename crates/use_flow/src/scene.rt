@@ -4,10 +4,9 @@
 ghost use Rattle.std.specs.Prelude.{◌≡◌, map, option_map, option_and_then, slice_get, IfOk};
 ghost use Rattle.jv_core.specs.View.{class_of, field_of, method_of};
 ghost use Rattle.jv_core.specs.Lookup.{slot_type, field_type, variable_type};
-ghost use Rattle.use_rules.specs.Keys.{class_in, typestate_of};
+ghost use Rattle.use_rules.specs.Keys.{class_in, contexts_in, typestate_of};
 ghost use Rattle.use_rules.specs.Shapes.{elements_in};
-ghost use Rattle.use_flow.specs.inner.Followed.{seen, own_fields, variable_at, variable_text, class_or_none, variable_class};
-ghost use Rattle.use_flow.specs.inner.Followed.{width_of, variable_width, behind_variables};
+ghost use Rattle.use_flow.specs.View.{contexts_of, reached_of};
 ghost use Rattle.use_elements.specs.Mappings.{typestate_or_end, title_in};
 
 use crate::fields::sum;
@@ -24,6 +23,8 @@ pub(crate) struct Scene<'a> {
     pub tables: &'a Tables,
     pub context: Context,
     pub method: &'a CoreMethod,
+    // the contexts of the tables are those of the program
+    ghost listed: { contexts_of tables.now ≡ contexts_in core.now (reached_of tables.now) },
 }
 
 /// The class of a type's objects, if it has any.
@@ -83,6 +84,9 @@ pub(crate) fn slot_class(method: &CoreMethod, slot: u32) -> Option<u32>
 }
 
 impl<'a> Scene<'a> {
+    ghost use Rattle.use_flow.specs.inner.Followed.{seen, own_fields, variable_at, variable_text, class_or_none, variable_class};
+    ghost use Rattle.use_flow.specs.inner.Followed.{width_of, variable_width, behind_variables};
+
     // The class of the method.
     pub(crate) fn own_class(&self) -> Option<&CoreClass>
         ensures { option_map (λ k. class_of k.now) result ≡ slice_get (seen self.now).program.classes (seen self.now).method.class }

@@ -1,15 +1,15 @@
-use Rattle.std.proofs.Common.{ap, ◌∙◌}
+use Rattle.std.proofs.Common.{refl, ap, ◌∙◌}
 use Rattle.jv_core.specs.View.{method_of}
 use Rattle.use_elements.specs.Mappings.{title_in}
 use Rattle.use_flow.specs.inner.Followed.{seen}
 use Rattle.use_flow.proofs.Called.{call_is}
-use Rattle.use_flow.proofs.scene.Scene.named_call.Goals as goal
+use Rattle.use_flow.proofs.scene.Scene.given_call.Goals as goal
 
 pub returns : goal.returns
 returns c =
     call_is (seen c.args.self.now) c.args.receiver c.args.number (method_of c.args.method.now) c.args.args.now c.args.sets _ _ _
     _ _ _ _ _ _ _ _ _ _ _ _ _ _ _ _ _
-    c.typestate_of-typestate.ensures c.requires c.variable_at-at.ensures c.in_ok-set.ensures
+    refl refl c.variable_at-at.ensures c.in_ok-set.ensures
     (c.as_slice.ensures.value ∙ c.in_ok-states.ensures) (c.as_slice-2.ensures.value ∙ c.in_ok-states.ensures)
     c.subject-subject.ensures.place c.subject-subject.ensures.number
     (ap (λ names. title_in names c.subject-subject.result.title) c.names-names.ensures ∙ c.subject-subject.ensures.name)
