@@ -52,8 +52,11 @@ pub fn refused(alloc: Global, names: &[Text], refusal: &Refusal) -> Result<Text,
     Ok(Text::from_string(line))
 }
 
-// Appends where a refusal stands.
-fn push_spot(line: &mut String, names: &[Text], spot: Spot) -> Result<(), Memory>
+/// Appends where a refusal stands.
+///
+/// # Errors
+/// `Memory` only.
+pub fn push_spot(line: &mut String, names: &[Text], spot: Spot) -> Result<(), Memory>
     ensures { OnOk result (string_bytes line.new ≡ string_bytes line.old ++ spot_text names.now spot) }
 {
     match spot {

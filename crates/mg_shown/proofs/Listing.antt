@@ -2,7 +2,8 @@
 use Rattle.std.proofs.Common.{◌≡◌, ℕ, zero, suc, ◌+◌, ◌<◌, Bool, true, false, not, ◌&&◌, List, [], ◌∷◌, length, refl, sym, subst, arith, add-one}
 use Rattle.std.specs.Prelude.{slice_index_or}
 use Rattle.jv_core.specs.Tree.{Program}
-use Rattle.use_sights.specs.Calls.{Site, all_sites}
+use Rattle.use_sights.specs.declared.site.Site.{Site}
+use Rattle.use_sights.specs.Calls.{all_sites}
 use Rattle.mg_shown.specs.Shown.{is_listed_before, AreListed}
 
 -- no call stands before the one ahead of it

@@ -14,7 +14,7 @@ use Rattle.use_rules.specs.Shapes.{elements_in}
 use Rattle.use_rules.specs.Flow.{variable_text}
 use Rattle.use_rules.specs.Tables.{Least}
 use Rattle.use_rules.specs.Laws.{AreWithin}
-use Rattle.use_sights.specs.Calls.{Site}
+use Rattle.use_sights.specs.declared.site.Site.{Site}
 use Rattle.use_sights.specs.Sights.{before, after}
 use Rattle.use_sights.proofs.Telling.{before_grows}
 use Rattle.use_check.specs.Report.{set_text}
@@ -50,7 +50,7 @@ members_same s t a b = all_same members_from (λ k. k ∷ []) (λ k. refl) (λ k
 leads_same : (to : ℕ → List ℕ) (s t : List Bool) → Within s t → Within t s → leads_from to 0 s ≡ leads_from to 0 t
 leads_same to s t a b = all_same (leads_from to) to (λ k. refl) (λ k s. refl) (λ k s. refl) 0 s t a b
 
-flat_same : {A B : Type 0} (f g : A → List B) → ((x : A) → f x ≡ g x) → (xs : List A) → flat_map f xs ≡ flat_map g xs
+pub flat_same : {A B : Type 0} (f g : A → List B) → ((x : A) → f x ≡ g x) → (xs : List A) → flat_map f xs ≡ flat_map g xs
 flat_same f g h [] = refl
 flat_same f g h (x ∷ xs) = ap (λ r. r ++ flat_map f xs) (h x) ∙ ap (λ r. g x ++ r) (flat_same f g h xs)
 

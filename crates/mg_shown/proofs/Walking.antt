@@ -1,5 +1,5 @@
 -- Which calls are found, part by part.
-use Rattle.std.proofs.Common.{◌≡◌, ℕ, ◌+◌, ◌<◌, ◌≤◌, List, [], ◌∷◌, ◌++◌, length, get_or, drop, map, refl, sym, ap, ◌∙◌, append_assoc}
+use Rattle.std.proofs.Common.{◌≡◌, ℕ, suc, ◌+◌, ◌<◌, ◌≤◌, List, [], ◌∷◌, ◌++◌, length, get_or, drop, map, refl, sym, ap, ◌∙◌, append_assoc}
 use Rattle.std.proofs.Common.{◌⊎◌, ⊎_elim, flat_map}
 use Rattle.std.specs.declared.boxed.Box.{Box}
 use Rattle.std.specs.declared.alloc.Global.{Global}
@@ -19,12 +19,14 @@ use Rattle.jv_core.specs.declared.tree.CoreGroup.{CoreGroup, out-CoreGroup, fold
 use Rattle.jv_core.specs.Tree.{Stmt, Block, Empty, Local, Assign, If, IfElse, While, Do, Switch, Break, Continue, Return, Print, Eval}
 use Rattle.jv_core.specs.Tree.{Stmts}
 use Rattle.jv_core.specs.View.{expr_of, exprs_of, stmt_of, stmts_of, group_of, groups_of, before, OneGroup, stmt_layer, group_layer}
-use Rattle.jv_core.specs.View.{placed_stmt_layer, kind_of}
+use Rattle.jv_core.specs.View.{placed_stmt_layer, kind_of, method_of}
+use Rattle.jv_core.specs.declared.program.CoreMethod.{CoreMethod}
 use Rattle.jv_core.proofs.ViewLaws.{views, expr_of-is, kind-Neg, kind-Not, kind-Binary, kind-Equals, kind-Concat, kind-Protocol}
 use Rattle.jv_core.proofs.ViewLaws.{kind-Helper, kind-Static, kind-Session}
-use Rattle.use_sights.specs.Calls.{Site, Use, site_in, uses_in, uses_in_args, uses_of, uses_of_all, uses_of_groups}
-use Rattle.mg_shown.specs.declared.sites.Site as kept
-use Rattle.mg_shown.specs.inner.Walking.{site_of, sites_in, sites_in_args, sites_of, sites_of_all, sites_of_groups}
+use Rattle.use_flow.proofs.Turns.{one, last}
+use Rattle.use_sights.specs.declared.site.Site.{Site}
+use Rattle.use_sights.specs.Calls.{Use, site_in, uses_in, uses_in_args, uses_of, uses_of_all, uses_of_groups, uses_from}
+use Rattle.mg_shown.specs.inner.Walking.{sites_in, sites_in_args, sites_of, sites_of_all, sites_of_groups}
 
 -- the calls among uses that stand one behind another
 pub parts : (a b : List Use) → flat_map site_in (a ++ b) ≡ flat_map site_in a ++ flat_map site_in b
@@ -170,8 +172,26 @@ module _ (n : ℕ) (x : CoreExpr) (a b : List Site) where
       (⊎_elim (λ p. found_as (E.Static p.0 args) (Static x.place p.0 all) p.1 (kind-Static p.0 args x.place) e)
       (λ p. found_as (E.Session p.0 args) (Session x.place p.0 all) p.1 (kind-Session p.0 args x.place) e)) form
 
--- one call more
-pub pushed : (olds news : List kept.Site) (s : kept.Site) → news ≡ olds ++ s ∷ [] → map site_of news ≡ map site_of olds ++ site_of s ∷ []
-pushed olds news s e = ap (map site_of) e ∙ map-append site_of olds (s ∷ [])
-
 pub ruleset naming = (common_steps, views, then_found, three_found, two_found, append-nil)
+
+-- Method by method.
+
+abbrev sites_from : (number : ℕ) → List CoreMethod → List Site
+sites_from n ms = flat_map site_in (uses_from n (map method_of ms))
+
+abbrev sites_at : (number : ℕ) → CoreMethod → List Site
+sites_at n m = sites_of_all n (method_of m).body
+
+pub method_found : (ms : List CoreMethod) (i : ℕ) (m : CoreMethod) (ns new total : List Site) → i < length ms → m ≡ get_or ms i m →
+    new ≡ ns ++ sites_at i m → ns ++ sites_from i (drop i ms) ≡ total → new ++ sites_from (i + 1) (drop (i + 1) ms) ≡ total
+method_found ms i m ns new total within is e h =
+    one sites_from sites_at (λ k x s. parts (uses_of_all k (method_of x).body) (uses_from (suc k) (map method_of s))) (λ k. refl)
+    i m ms ns new total within is e h
+
+pub methods_found : (ms : List CoreMethod) (i : ℕ) (ns total : List Site) → length ms ≤ i → ns ++ sites_from i (drop i ms) ≡ total →
+    ns ≡ total
+methods_found ms i ns total le h =
+    last sites_from sites_at (λ k x s. parts (uses_of_all k (method_of x).body) (uses_from (suc k) (map method_of s))) (λ k. refl)
+    i ms ns total le h
+
+pub ruleset methods = (method_found, methods_found)

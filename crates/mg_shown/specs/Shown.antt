@@ -11,7 +11,8 @@ use Rattle.use_rules.specs.declared.key.Context.TheVariants as contexts
 use Rattle.use_rules.specs.Keys.{Tables, AreReached, typestate_of}
 use Rattle.use_rules.specs.Flow.{variable_text}
 use Rattle.use_rules.specs.Tables.{Least}
-use Rattle.use_sights.specs.Calls.{Site, all_sites}
+use Rattle.use_sights.specs.declared.site.Site.{Site}
+use Rattle.use_sights.specs.Calls.{all_sites}
 use Rattle.use_sights.specs.Sights.{before, after}
 use Rattle.use_check.specs.Report.{set_text}
 use Rattle.mg_refusal.specs.declared.refusal.Spot.TheVariants as spots

@@ -1,28 +1,22 @@
 //! Where the bodies of methods call protocol methods, in the order of the text.
 //! Each call is found, whether it is reached or not.
 
-ghost use Rattle.std.specs.Prelude.{◌≡◌, ◌++◌, map, OnOk};
+ghost use Rattle.std.specs.Prelude.{◌≡◌, ◌++◌, map, IfOk, OnOk};
 ghost use Rattle.jv_core.specs.View.{expr_of, exprs_of, stmt_of, stmts_of, group_of, groups_of};
-ghost use Rattle.mg_shown.specs.inner.Walking.{site_of, sites_in, sites_in_args, sites_of, sites_of_all, sites_of_groups};
+ghost use Rattle.use_sights.specs.Calls.{all_sites};
+ghost use Rattle.mg_shown.specs.inner.Walking.{sites_in, sites_in_args, sites_of, sites_of_all, sites_of_groups};
 
-use jv_core::{CoreExpr, CoreExprKind, CoreGroup, CoreStmt, CoreStmtKind, Var};
-use mg_text::{Memory, Place};
-
-/// A call of a protocol method: the place at which its variable is named, the number of the method in whose body it
-/// stands, the variable, and the number of the method that is called.
-#[derive(Clone, Copy)]
-pub(crate) struct Site {
-    pub place: Place,
-    pub within: u32,
-    pub variable: Var,
-    pub method: u32,
-}
+use jv_core::{Core, CoreExpr, CoreExprKind, CoreGroup, CoreStmt, CoreStmtKind};
+use mg_text::Memory;
+use std::alloc::Global;
+use use_flow::number;
+use use_sights::Site;
 
 // Appends the calls in an expression of the method of a number.
 #[tactic(auto, using(crate::proofs::Walking::naming))]
 #[cycle(calls)]
 fn sites_in(sites: &mut Vec<Site>, within: u32, expr: &CoreExpr) -> Result<(), Memory>
-    ensures { OnOk result (map site_of sites.new.items ≡ map site_of sites.old.items ++ sites_in within (expr_of expr.now)) }
+    ensures { OnOk result (sites.new.items ≡ sites.old.items ++ sites_in within (expr_of expr.now)) }
 {
     match &expr.kind {
         CoreExprKind::Int(_) | CoreExprKind::Truth(_) | CoreExprKind::Text(_) => Ok(()),
@@ -60,7 +54,7 @@ fn sites_in_two(
     left: &CoreExpr,
     right: &CoreExpr,
 ) -> Result<(), Memory>
-    ensures { OnOk result (map site_of sites.new.items ≡ map site_of sites.old.items
+    ensures { OnOk result (sites.new.items ≡ sites.old.items
         ++ (sites_in within (expr_of left.now) ++ sites_in within (expr_of right.now))) }
 {
     sites_in(sites, within, left)?;
@@ -71,7 +65,7 @@ fn sites_in_two(
 #[tactic(auto, using(crate::proofs::Walking::arguments))]
 #[cycle(calls)]
 fn sites_in_args(sites: &mut Vec<Site>, within: u32, args: &[CoreExpr]) -> Result<(), Memory>
-    ensures { OnOk result (map site_of sites.new.items ≡ map site_of sites.old.items
+    ensures { OnOk result (sites.new.items ≡ sites.old.items
         ++ sites_in_args within (exprs_of (map expr_of args.now))) }
 {
     for arg in args {
@@ -84,7 +78,7 @@ fn sites_in_args(sites: &mut Vec<Site>, within: u32, args: &[CoreExpr]) -> Resul
 #[tactic(auto, using(crate::proofs::Walking::naming))]
 #[cycle(statements)]
 fn sites_of(sites: &mut Vec<Site>, within: u32, stmt: &CoreStmt) -> Result<(), Memory>
-    ensures { OnOk result (map site_of sites.new.items ≡ map site_of sites.old.items ++ sites_of within (stmt_of stmt.now)) }
+    ensures { OnOk result (sites.new.items ≡ sites.old.items ++ sites_of within (stmt_of stmt.now)) }
 {
     match &stmt.kind {
         CoreStmtKind::Block(body, _) => sites_of_all(sites, within, body.as_slice()),
@@ -124,12 +118,12 @@ fn sites_of(sites: &mut Vec<Site>, within: u32, stmt: &CoreStmt) -> Result<(), M
 // Appends those in statements.
 #[tactic(auto, using(crate::proofs::Walking::statements))]
 #[cycle(statements)]
-pub(crate) fn sites_of_all(
+fn sites_of_all(
     sites: &mut Vec<Site>,
     within: u32,
     body: &[CoreStmt],
 ) -> Result<(), Memory>
-    ensures { OnOk result (map site_of sites.new.items ≡ map site_of sites.old.items
+    ensures { OnOk result (sites.new.items ≡ sites.old.items
         ++ sites_of_all within (stmts_of (map stmt_of body.now))) }
 {
     for stmt in body {
@@ -146,11 +140,25 @@ fn sites_of_groups(
     within: u32,
     groups: &[CoreGroup],
 ) -> Result<(), Memory>
-    ensures { OnOk result (map site_of sites.new.items ≡ map site_of sites.old.items
+    ensures { OnOk result (sites.new.items ≡ sites.old.items
         ++ sites_of_groups within (groups_of (map group_of groups.now))) }
 {
     for group in groups {
         sites_of_all(sites, within, group.body.as_slice())?;
     }
     Ok(())
+}
+
+/// The calls of protocol methods in the bodies of a program, in the order of the text.
+#[tactic(auto, using(crate::proofs::Walking::methods))]
+pub(crate) fn all_sites(alloc: Global, core: &Core) -> Result<Vec<Site>, Memory>
+    ensures { IfOk result (λ v. v.items ≡ all_sites core.now) }
+{
+    let methods = core.methods();
+    let mut sites = Vec::new(alloc);
+    for place in 0..methods.len() {
+        let within = number(place)?;
+        sites_of_all(&mut sites, within, methods[place].body.as_slice())?;
+    }
+    Ok(sites)
 }

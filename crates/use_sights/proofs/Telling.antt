@@ -23,7 +23,8 @@ use Rattle.use_rules.specs.inner.Order.{Mem}
 use Rattle.use_rules.proofs.Members.{mem_left, mem_right, mem_cases, union_left, union_right, union_cases}
 use Rattle.use_rules.proofs.Leaving.{contains_of}
 use Rattle.use_rules.proofs.Laws.{grows}
-use Rattle.use_sights.specs.Calls.{Use, Site, Reads, Calls, uses_of_all, uses_from, all_uses}
+use Rattle.use_sights.specs.declared.site.Site.{Site}
+use Rattle.use_sights.specs.Calls.{Use, Reads, Calls, uses_of_all, uses_from, all_uses}
 use Rattle.use_sights.specs.Sights.{same_place, sights_at, together}
 use Rattle.use_rules.specs.Laws.{Sees}
 use Rattle.use_sights.specs.Laws.{Fails, AllCall, NoneReads, IsAsked, SightsTell, BeforeGrows}

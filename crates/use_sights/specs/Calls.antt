@@ -3,20 +3,12 @@
 use Rattle.std.specs.Prelude.{ℕ, suc, List, [], ◌∷◌, ◌++◌, Some, None}
 use Rattle.std.specs.List.{flat_map}
 use Rattle.mg_text.specs.declared.place.Place.{Place}
-use Rattle.jv_core.specs.declared.tree.Var.{Var}
 use Rattle.jv_core.specs.Tree.{Expr, Int, Truth, Text, Null, Variable, Constant, Neg, Not, Binary, Protocol, Helper, Static, Equals, Concat}
 use Rattle.jv_core.specs.Tree.{Session, New}
 use Rattle.jv_core.specs.Tree.{Exprs, NoExpr, Argument}
 use Rattle.jv_core.specs.Tree.{Stmt, Block, Empty, Local, Assign, If, IfElse, While, Do, Switch, Break, Continue, Return, Print, Eval}
 use Rattle.jv_core.specs.Tree.{Stmts, NoStmt, Then, Declare, Groups, NoGroup, Group, Method, Program}
-
--- a call: the place at which its variable is named, the number of the method in whose body it stands, the variable, and the number of the
--- method that is called
-pub record Site : Type 0 where
-  pub place : Place
-  pub within : ℕ
-  pub variable : Var
-  pub method : ℕ
+use Rattle.use_sights.specs.declared.site.Site.{Site}
 
 -- a variable is read, or a protocol method is called on one
 pub data Use : Type 0 where

@@ -1,11 +1,14 @@
 //! All that is met under the least tables of a program: each demand that fails, and what each call is made on.
 //! Contexts are followed once more, in their order.
 
-ghost use Rattle.std.specs.Prelude.{◌≡◌, ◌++◌, map, IfOk, OnOk};
+ghost use Rattle.std.specs.Prelude.{◌≡◌, ◌<◌, ◌×◌, ◌++◌, length, map, IfErr, IfOk, OnOk};
+ghost use Rattle.jv_core.specs.Tree.{Program};
 ghost use Rattle.use_rules.specs.Tables.{all_failed, all_sights};
 ghost use Rattle.use_flow.specs.View.{tables_of, reached_of, contexts_of, sight_of, AreFor};
 ghost use Rattle.use_verdict.specs.Met.{AreUsages};
+ghost use Rattle.use_verdict.specs.Verdict.{AreAnswer};
 
+use crate::verdict::Accepted;
 use jv_core::Core;
 use mg_text::{List, Memory};
 use std::alloc::Global;
@@ -87,4 +90,24 @@ pub fn find_usages(alloc: Global, core: &Core) -> Result<Usages, Memory>
         failed,
         sights,
     })
+}
+
+/// The usages as accepted, where no demand fails; else the demands that fail.
+///
+/// # Errors
+/// The demands that fail.
+pub fn accepted(usages: Usages) -> Result<Accepted, List<Demand>>
+    requires { (p : Program) × AreUsages p usages }
+    ensures accepted { (p : Program) → AreUsages p usages → IfOk result (λ a. (a.tables ≡ usages.tables) × AreAnswer p a.tables) }
+    ensures failed { IfErr result (λ f. (f.items ≡ usages.failed.items) × (0 < length f.items)) }
+{
+    let Usages {
+        tables,
+        failed,
+        sights: _,
+    } = usages;
+    if failed.len() == 0 {
+        return Ok(Accepted { tables });
+    }
+    Err(failed)
 }

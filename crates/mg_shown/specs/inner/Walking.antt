@@ -2,11 +2,8 @@
 use Rattle.std.specs.Prelude.{ℕ, List}
 use Rattle.std.specs.List.{flat_map}
 use Rattle.jv_core.specs.Tree.{Expr, Exprs, Stmt, Stmts, Groups}
-use Rattle.use_sights.specs.Calls.{Site, site_in, uses_in, uses_in_args, uses_of, uses_of_all, uses_of_groups}
-use Rattle.mg_shown.specs.declared.sites.Site as kept
-
-abbrev pub site_of : kept.Site → Site
-site_of s = record { place = s.place; within = s.within; variable = s.variable; method = s.method }
+use Rattle.use_sights.specs.declared.site.Site.{Site}
+use Rattle.use_sights.specs.Calls.{site_in, uses_in, uses_in_args, uses_of, uses_of_all, uses_of_groups}
 
 abbrev pub sites_in : (within : ℕ) → Expr → List Site
 sites_in n e = flat_map site_in (uses_in n e)
