@@ -12,7 +12,8 @@ use Rattle.mg_sources.specs.Reading.{Refuses}
 use Rattle.mg_sources.proofs.OneKind.{excludes}
 use Rattle.mg_accepted.specs.Demands.{demand_refusal}
 use Rattle.mg_accepted.specs.Accepted.{AreAccepted, FirstRefusal}
-use Rattle.mg_faults.specs.Demands.{said_of, AreFaults}
+use Rattle.mg_faults.specs.Demands.{AreFaults, AreLines}
+use Rattle.mg_faults.proofs.Lines.{faults_are_lines}
 use Rattle.mg_faults.specs.Faults.{AreRefused, read, refused, AllRefusals, readers, roles, types, usages, IsAmong, FirstIsAmong}
 use Rattle.mg_faults.specs.Faults.{NoneWhereAccepted}
 
@@ -63,7 +64,8 @@ has_first files _ (types sourced {r = r} are t) = record {
   first = at_first (at_next sourced are t);
 }
 has_first files _ (usages core d ds have faults) =
-    let f = first_one (all_failed core faults.reached faults.tables) d (faults.fail d (demand_first d ds)) in
+    let lines : AreLines core (all_failed core faults.reached faults.tables) (d ∷ ds) = faults_are_lines core (d ∷ ds) faults in
+    let f = first_one (all_failed core faults.reached faults.tables) d (lines.fail d (demand_first d ds)) in
     let fails : FailsFirst core f.demand = record {
       reached = faults.reached;
       are = faults.are;
@@ -73,7 +75,7 @@ has_first files _ (usages core d ds have faults) =
     } in
     record {
       refusal = demand_refusal core f.demand;
-      there = faults.all f.demand f.there;
+      there = lines.all f.demand f.there;
       first = at_next core have (f.demand, fails, refl);
     }
 

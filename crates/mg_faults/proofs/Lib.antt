@@ -1,2 +1,7 @@
+pub mod Lines
+pub mod Order
+pub mod Saying
+pub mod Reading
 pub mod Among
 pub mod Laws
+pub mod Finding

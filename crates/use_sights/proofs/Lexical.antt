@@ -22,6 +22,36 @@ not_lex a b v o = ⊎_elim
     (λ p. ap (λ t. if t then v else nat_lt a b) (eq-eqb a b p.0) ∙ p.1)
     o
 
+-- A test by a number first, and then by another test.
+module _ {X : Type 0} (n : X → ℕ) (R : X → X → Bool) where
+  abbrev pub by_number : X → X → Bool
+  by_number x y = lex (n x) (n y) (R x y)
+
+  pub lex_self : ((x : X) → R x x ≡ false) → (x : X) → by_number x x ≡ false
+  lex_self h x = not_lex (n x) (n x) (R x x) (inr (refl, h x))
+
+  pub lex_later : ((x y z : X) → R y x ≡ false → R z y ≡ false → R z x ≡ false) → (x y z : X) → by_number y x ≡ false →
+      by_number z y ≡ false → by_number z x ≡ false
+  lex_later h x y z a b = not_lex (n z) (n x) (R z x) (both (behind_or (n y) (n x) (R y x) a) (behind_or (n z) (n y) (R z y) b))
+    where
+      both : (n x < n y) ⊎ ((n y ≡ n x) × (R y x ≡ false)) → (n y < n z) ⊎ ((n z ≡ n y) × (R z y ≡ false)) →
+          (n x < n z) ⊎ ((n z ≡ n x) × (R z x ≡ false))
+      both (inl l) (inl k) = inl (omega (arith, l, k))
+      both (inl l) (inr k) = let e = k.0 in inl (omega (arith, l, e))
+      both (inr l) (inl k) = let e = l.0 in inl (omega (arith, k, e))
+      both (inr l) (inr k) = inr (k.0 ∙ l.0, h x y z l.1 k.1)
+
+-- by a number alone
+module _ {X : Type 0} (n : X → ℕ) where
+  pub less_self : (x : X) → nat_lt (n x) (n x) ≡ false
+  less_self x = le-ltb (n x) (n x) (omega arith)
+
+  pub less_later : (x y z : X) → nat_lt (n y) (n x) ≡ false → nat_lt (n z) (n y) ≡ false → nat_lt (n z) (n x) ≡ false
+  less_later x y z a b =
+      let l : n x ≤ n y = ltb-false (n y) (n x) a in
+      let k : n y ≤ n z = ltb-false (n z) (n y) b in
+      le-ltb (n z) (n x) (omega (arith, l, k))
+
 -- As the kit compares.
 
 less_apart : (m n : ℕ) → nat_lt m n ≡ true → nat_eq m n ≡ true → ⊥

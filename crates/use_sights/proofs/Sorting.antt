@@ -1,5 +1,5 @@
 -- A list that is in order, with equals as another list has them, is one.
-use Rattle.std.proofs.Common.{◌≡◌, ℕ, zero, suc, ◌+◌, ◌<◌, Bool, true, false, cond, not, ◌&&◌, ◌⊎◌, List, [], ◌∷◌, length, refl, sym, ap}
+use Rattle.std.proofs.Common.{◌≡◌, ℕ, zero, suc, ◌+◌, ◌<◌, Bool, true, false, cond, not, ◌&&◌, ◌⊎◌, List, [], ◌∷◌, ◌++◌, length, refl, sym, ap}
 use Rattle.std.proofs.Common.{◌∙◌, subst, arith, ⊎_elim, inl, inr, add-one}
 use Rattle.std.specs.Prelude.{slice_index_or, filter}
 use Rattle.std.specs.List.Sorted.{IsSortedBy, IsStableBy, ties}
@@ -30,6 +30,10 @@ both_not : (a b : Bool) → a ≡ false → b ≡ false → (not a && not b) ≡
 both_not false false e f = refl
 both_not false true e f = absurd (cc)
 both_not true b e f = absurd (cc)
+
+pub of_appended : {A : Type 0} (xs : List A) (e x : A) → Mem x (xs ++ e ∷ []) → Mem x xs ⊎ (x ≡ e)
+of_appended [] e x m = ⊎_elim inr (λ r. absurd r) m
+of_appended (y ∷ xs) e x m = ⊎_elim (λ i. inl (inl i)) (λ r. ⊎_elim (λ i. inl (inr i)) inr (of_appended xs e x r)) m
 
 module _ {X : Type 0} (lt : X → X → Bool) (self : (x : X) → lt x x ≡ false)
     (later : (x y z : X) → lt y x ≡ false → lt z y ≡ false → lt z x ≡ false) where
@@ -89,6 +93,25 @@ module _ {X : Type 0} (lt : X → X → Bool) (self : (x : X) → lt x x ≡ fal
           sym (kept y y ys (ties_self y)) ∙ h y ∙ kept y z zs (both_not (lt y z) (lt z y) yz zy) in
       let e : y ≡ z = head_same y z _ _ same in
       ap (λ w. w ∷ ys) e ∙ ap (λ r. z ∷ r) (unique ys zs a.1 b.1 (λ x. rest x y z ys zs (sym e) (h x)))
+
+  pub rising_more : (xs : List X) (e : X) → IsRising xs → ((y : X) → Mem y xs → lt e y ≡ false) → IsRising (xs ++ e ∷ [])
+  rising_more [] e r h = ((λ y m. absurd m), tt)
+  rising_more (x ∷ xs) e r h = (
+    (λ y m. ⊎_elim (r.0 y) (λ i. subst (λ w. lt w x ≡ false) (sym i) (h x (inl refl))) (of_appended xs e y m)),
+    rising_more xs e r.1 (λ y m. h y (inr m))
+  )
+
+  rising_steps : (xs : List X) → IsRising xs → Steps xs
+  rising_steps [] r k d l = absurd (omega (arith, l))
+  rising_steps (x ∷ []) r k d l = absurd (omega (arith, l))
+  rising_steps (x ∷ y ∷ ys) r zero d l = r.0 y (inl refl)
+  rising_steps (x ∷ y ∷ ys) r (suc k) d l = rising_steps (y ∷ ys) r.1 k d (omega (arith, l))
+
+  pub sorted_of : (xs : List X) → IsRising xs → IsSortedBy lt xs
+  sorted_of xs r = λ k d low l.
+      let same : k + 1 ≡ suc k = add-one k in
+      subst (λ n. lt (slice_index_or xs n d) (slice_index_or xs k d) ≡ false) (sym same)
+      (rising_steps xs r k d (subst (λ n. n < length xs) same l))
 
 -- One test stands for another that answers the same.
 

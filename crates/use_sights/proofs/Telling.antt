@@ -284,7 +284,7 @@ both : (a b : Bool) → (a && b) ≡ true → (a ≡ true) × (b ≡ true)
 both true b h = (refl, h)
 both false b h = absurd (cc)
 
-place_is : (q r : Place) → same_place q r ≡ true → q ≡ r
+pub place_is : (q r : Place) → same_place q r ≡ true → q ≡ r
 place_is q r h =
     let a = both (nat_eq q.file r.file) (nat_eq q.line r.line && nat_eq q.column r.column) h in
     let b = both (nat_eq q.line r.line) (nat_eq q.column r.column) a.1 in
@@ -297,7 +297,7 @@ all_true true true c e f g = g
 all_true true false c e f g = absurd (cc)
 all_true false b c e f g = absurd (cc)
 
-same_itself : (q : Place) → same_place q q ≡ true
+pub same_itself : (q : Place) → same_place q q ≡ true
 same_itself q = all_true (nat_eq q.file q.file) (nat_eq q.line q.line) (nat_eq q.column q.column) (eq-eqb q.file q.file refl)
     (eq-eqb q.line q.line refl) (eq-eqb q.column q.column refl)
 
