@@ -6,3 +6,4 @@ pub mod Walking
 pub mod Seeing
 pub mod Ordering
 pub mod Telling
+pub mod Putting

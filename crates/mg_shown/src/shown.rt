@@ -10,7 +10,7 @@ ghost use Rattle.mg_shown.specs.inner.Lines.{field_text, variable_text, line_of,
 ghost use Rattle.mg_shown.specs.inner.Seeing.{at_place};
 
 use crate::listed::listed;
-use crate::seen::{PlaceKey, seen_of, key_of};
+use crate::seen::{PlaceKey, key_of, seen_of};
 use indexmap::IndexMap;
 use jv_core::{Core, CoreField, CoreMethod, Var, name_text};
 use mg_delivery::lines::push_spot;
@@ -33,6 +33,7 @@ struct Shower<'a> {
 }
 
 // The name of a field.
+#[tactic(auto, using(use_flow::proofs::Scenes::scenes))]
 fn field_text<'a>(core: &'a Core, fields: &[CoreField], field: u32) -> &'a str
     ensures { result.now ≡ field_text core.now (map field_of fields.now) field }
 {
@@ -43,6 +44,7 @@ fn field_text<'a>(core: &'a Core, fields: &[CoreField], field: u32) -> &'a str
 }
 
 // The name of a variable of a method.
+#[tactic(auto, using(use_flow::proofs::Scenes::scenes))]
 fn variable_text<'a>(core: &'a Core, site: Site, within: &CoreMethod) -> &'a str
     ensures { result.now ≡ variable_text core.now site (method_of within.now) }
 {
@@ -87,6 +89,7 @@ impl<'a> Shower<'a> {
     }
 
     // Appends the line of a call.
+    #[tactic(auto, using(use_flow::proofs::Scenes::scenes))]
     fn put_site(
         &self,
         alloc: Global,

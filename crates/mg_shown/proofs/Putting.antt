@@ -1,0 +1,16 @@
+-- What is appended part by part, and what a list gives, item by item.
+use Rattle.std.proofs.Common.{◌≡◌, ℕ, ◌+◌, ◌<◌, ◌≤◌, List, [], ◌∷◌, ◌++◌, length, get_or, drop, flat_map, sym, ap, ◌∙◌, append_assoc}
+use Rattle.std.proofs.lemmas.List.{at_drop_more, at_drop_all, append-nil}
+
+pub behind : {A : Type 0} (out more end first rest : List A) → more ≡ out ++ first → end ≡ more ++ rest → end ≡ out ++ (first ++ rest)
+behind out more end first rest e h = h ∙ ap (λ xs. xs ++ rest) e ∙ append_assoc out first rest
+
+module _ {X A : Type 0} (f : X → List A) (xs : List X) (i : ℕ) (out : List A) where
+  pub put_more : (x : X) (new total : List A) → i < length xs → x ≡ get_or xs i x → new ≡ out ++ f x → out ++ flat_map f (drop i xs) ≡ total
+      → new ++ flat_map f (drop (i + 1) xs) ≡ total
+  put_more x new total lt at e h =
+      ap (λ r. r ++ flat_map f (drop (i + 1) xs)) e ∙ append_assoc out (f x) (flat_map f (drop (i + 1) xs))
+      ∙ ap (λ r. out ++ r) (sym (at_drop_more (flat_map f) xs i x lt ∙ ap (λ (y : X). f y ++ flat_map f (drop (i + 1) xs)) (sym at))) ∙ h
+
+  pub put_all : (total : List A) → length xs ≤ i → out ++ flat_map f (drop i xs) ≡ total → out ≡ total
+  put_all total past h = sym (append-nil out) ∙ ap (λ r. out ++ r) (sym (at_drop_all (flat_map f) xs i past)) ∙ h
