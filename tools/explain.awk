@@ -27,6 +27,12 @@ BEGIN {
     say["SameRole"] = "two files of the command are of the role %1"
     say["NotMergeable"] = "%1 cannot tell which branch was taken: tell it in each, by a message of its own label from one role"
     say["Unprojected"] = "what %1 does of this is refused as a local protocol, by %2: repair that here"
+    say["Unplayed"] = "no --role names a class for %1, so the others would wait for it"
+    say["NoProtocol"] = "no file of the command is the local protocol of %1 (was the one that project writes left out?)"
+    say["OtherProtocol"] = "this is not what the global protocol says of %1: take the file that project writes, or change both"
+    say["OwnSession"] = "Session.%1 talks beside the objects of the roles: leave that to them"
+    say["MadeElsewhere"] = "make the object of %1 once, where the main of its role begins, and nowhere else"
+    say["NotMade"] = "this main makes no object of the class of the role %1"
     say["DuplicateState"] = "the state %1 is there twice"
     say["UnknownState"] = "the typestate has no state %1"
     say["DuplicateMethod"] = "the state has %1 twice"
@@ -85,6 +91,8 @@ BEGIN {
     say_linked["BadDescriptor"] = "%1 is no descriptor that the machine knows"
     say_linked["NoCode"] = "a method has no code, as one that is native or abstract"
     say_linked["NoMain"] = "the program has no class %1 with a static void main(String[] args)"
+    say_linked["Stranger"] = "the global protocol has no role %1"
+    say_linked["SharedMain"] = "two --role name the class %1: each role has one of its own"
     say_linked["Unverified"] = "no kinds of values fit all places of the method %1"
 }
 # The text with each mark replaced by a word as it stands.

@@ -26,7 +26,7 @@ use Rattle.mg_runs.specs.Runs.{HaveMains, IsLoaded, messages_in}
 use Rattle.mg_runs.specs.Commanded.{no_main, FirstRefusal}
 use Rattle.mg_runs.specs.Laws.{RolesAreMeant, RolesKeep, RolesPlay, RolesFit, AllProtocolsAgree}
 use Rattle.mg_runs.specs.View.{IsOfRun}
-use Rattle.mg_runs.specs.inner.Mains.{IsWithout}
+use Rattle.mg_runs.specs.Mains.{IsWithout}
 use Rattle.mg_runs.specs.inner.Going.{IsRunOf, told}
 use Rattle.mg_runs.proofs.Playing.{from_there}
 use Rattle.mg_runs.proofs.Roles.{any_order}

@@ -1,5 +1,6 @@
 pub mod Lines
 pub mod Runs
+pub mod Mains
 pub mod Headline
 pub mod Laws
 pub mod Commanded

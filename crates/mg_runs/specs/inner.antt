@@ -1,3 +1,2 @@
-pub mod Mains
 pub mod Loading
 pub mod Going

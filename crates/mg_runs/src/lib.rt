@@ -15,6 +15,7 @@ pub use laws::{
     protocols_agree, roles_are_meant, roles_fit, roles_keep, roles_play, runs_are_meant,
     written_classes_link,
 };
+pub use mains::first_without;
 pub use ran::Ran;
 pub use running::{no_main, run_roles};
 pub use vm_world::{RoleMain, RoleRan, Stand};

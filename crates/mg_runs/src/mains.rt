@@ -6,13 +6,13 @@ ghost use Rattle.std.specs.Str.{bytes_eq};
 ghost use Rattle.jv_core.specs.Lookup.{class_numbered, is_main, text_at};
 ghost use Rattle.jv_core.specs.Meaning.{main_in, main_of};
 ghost use Rattle.jv_core.specs.View.{class_of, method_of};
-ghost use Rattle.mg_runs.specs.inner.Mains.{IsFirstWithout};
+ghost use Rattle.mg_runs.specs.Mains.{IsFirstWithout};
 
 use jv_core::{Core, CoreClass, CoreMethod, MethodKind, name_text};
 use vm_world::RoleMain;
 
 /// The number of the first role whose class has no `main`.
-pub(crate) fn first_without(core: &Core, mains: &[RoleMain]) -> Option<usize>
+pub fn first_without(core: &Core, mains: &[RoleMain]) -> Option<usize>
     ensures { IsFirstWithout core.now mains.now result }
 {
     for number in 0..mains.len() {

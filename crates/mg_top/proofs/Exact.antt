@@ -1,5 +1,5 @@
 -- Each command gives one thing of the same contents, and no status of the delivery's own.
-use Rattle.std.proofs.Common.{◌≡◌, ◌≢◌, ℕ, Bool, true, false, ◌⊎◌, inl, inr, Option, List, [], ◌∷◌, refl, sym, ap, ◌∙◌, subst, arith}
+use Rattle.std.proofs.Common.{◌≡◌, ◌≢◌, ℕ, Bool, true, false, ◌⊎◌, inl, inr, List, [], ◌∷◌, length, refl, sym, ap, ◌∙◌, subst, arith}
 use Rattle.mg_read.proofs.Judging.{no_both}
 use Rattle.mg_text.specs.Call.{Call}
 use Rattle.scr_tree.specs.Tree.{LocalTree}
@@ -34,9 +34,9 @@ use Rattle.mg_runs.specs.Headline.{Course, IsRun}
 use Rattle.mg_exec.proofs.Apart.{not_refused as not_stopped, one_course}
 use Rattle.vm_world_law.specs.declared.role.RoleMain.{RoleMain}
 use Rattle.mg_top.specs.Translation.{Target, AreTranslated}
-use Rattle.mg_top.specs.Commands.{Gives, translated, conforms, checked, compiled, ran, executed, refined, projected, loaded, verified}
+use Rattle.mg_top.specs.Commands.{Gives, translated, conforms, checked, compiled, ran, executed, refined, projected, loaded, verified, fitted}
 use Rattle.mg_top.specs.Commands.{refined_status}
-use Rattle.mg_top.specs.Commands.{load_asked, load_sources, role_mains_of, status_of, IsRefused, judged_names, Yields, gives, refused}
+use Rattle.mg_top.specs.Commands.{load_asked, load_sources, role_mains_of, cast_mains_of, status_of, IsRefused, judged_names, Yields, gives, refused}
 use Rattle.mg_top.specs.Commands as commands
 use Rattle.mg_top.specs.Promises.{IsYielded}
 use Rattle.mg_top.proofs.SourceLemmas.{none_refused_of_translated}
@@ -46,6 +46,7 @@ use Rattle.mg_refined.specs.Refined.{Tells, yes_told, no_told, no_text}
 use Rattle.mg_refined.proofs.Apart.{one_telling, none_spelled}
 use Rattle.mg_projected.proofs.Telling.{not_refused as not_unprojected}
 use Rattle.mg_verified.proofs.Apart.{not_refused as not_unverified}
+use Rattle.mg_fitted.proofs.Apart.{not_refused as not_unfit}
 
 -- files that are refused aren't translated
 not_untranslated : (to : Target) (files : List Source) (actions : List Action) (r : Refusal) → AreTranslated to files actions →
@@ -127,6 +128,8 @@ not_both {r = r} (loaded {branches = n} {seed = seed} course is typable) (comman
     not_halted (load_sources n seed) (role_mains_of load_asked) (order_of load_asked) (limit_of load_asked) course r is h
 not_both {contents = contents} {r = r} (verified {files = files} {line = line} a) (commands.verify h) =
     not_unverified (sources files contents) line r a h
+not_both {r = r} (fitted {roles = roles} {global = global} {files = files} {bytes = bytes} {contents = contents} a never) (commands.fit h) =
+    not_unfit (source_of (length files) global bytes) (sources files contents) (cast_mains_of roles) a r h
 
 -- ---- one status
 
@@ -158,6 +161,7 @@ gives_status (projected written h) (projected written' h') = refl
 gives_status (loaded {branches = n} {seed = seed} r h typable) (loaded s k typable') =
     ap status_of (one_stand (load_sources n seed) (role_mains_of load_asked) (order_of load_asked) (limit_of load_asked) r s h k)
 gives_status (verified h) (verified k) = refl
+gives_status (fitted h never) (fitted k never') = refl
 
 pub one_status : {command : Command} {contents : List (List ℕ)} {xa xb : List Action} {m n : Status} → Yields command contents xa m →
     Yields command contents xb n → m ≡ n
@@ -214,6 +218,7 @@ gives_proper (refined {stands = stands} h) = told_proper stands
 gives_proper (projected written h) = done_proper
 gives_proper (loaded r h typable) = stands_proper (stands_in r.program r.last)
 gives_proper (verified h) = done_proper
+gives_proper (fitted h never) = done_proper
 
 pub proper : {command : Command} {contents : List (List ℕ)} {actions : List Action} {status : Status} →
     Yields command contents actions status → IsYielded status
@@ -265,6 +270,7 @@ gives_says (refined {text = text} {stands = stands} h) e = told_says h.a h.b tex
 gives_says (projected written h) e = absurd cc
 gives_says (loaded r h typable) e = absurd (never_refused (stands_in r.program r.last) e)
 gives_says (verified h) e = absurd cc
+gives_says (fitted h never) e = absurd cc
 
 pub refusal_says : {command : Command} {contents : List (List ℕ)} {actions : List Action} {status : Status} →
     Yields command contents actions status → status ≡ statuses.Refused → SaysRefusal actions
@@ -311,6 +317,7 @@ gives_whole (loaded {branches = n} {seed = seed} r h typable) e =
     (none_broken (load_sources n seed) (role_mains_of load_asked) (order_of load_asked) (limit_of load_asked) r h) e)
 gives_whole (executed {asked = asked} {files = files} r h never) e = (asked, files, refl)
 gives_whole (verified h) e = absurd cc
+gives_whole (fitted h never) e = absurd cc
 
 pub broken_command : {command : Command} {contents : List (List ℕ)} {actions : List Action} {status : Status} →
     Yields command contents actions status → status ≡ statuses.Broken → (asked : Asked) × (files : List Word) × (command ≡ Exec asked files)

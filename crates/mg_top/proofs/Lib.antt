@@ -1,6 +1,7 @@
 pub mod SourceLemmas
 pub mod RoleLemmas
 pub mod CommandLemmas
+pub mod FitLemmas
 pub mod ConformLemmas
 pub mod ExecLemmas
 pub mod LoadLemmas

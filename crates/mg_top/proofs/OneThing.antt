@@ -1,5 +1,5 @@
 -- A command gives one thing of the same contents, but for the place of Syntax.
-use Rattle.std.proofs.Common.{◌≡◌, ◌≢◌, ◌⊎◌, ℕ, Option, Some, List, [], ◌∷◌, ◌++◌, map, codes, refl, sym, ap, ◌∙◌, subst, inl, inr, arith}
+use Rattle.std.proofs.Common.{◌≡◌, ◌≢◌, ◌⊎◌, ℕ, Option, Some, List, [], ◌∷◌, ◌++◌, map, length, codes, refl, sym, ap, ◌∙◌, subst, inl, inr, arith}
 use Rattle.std.proofs.lemmas.List.{map-append}
 use Rattle.mg_text.specs.Call.{Call}
 use Rattle.mg_text.specs.declared.place.Place.{Place}
@@ -36,6 +36,7 @@ use Rattle.mg_exec.proofs.Apart.{one_course}
 use Rattle.mg_exec.proofs.Alike as exec_alike
 use Rattle.mg_verified.proofs.Apart.{one_line}
 use Rattle.mg_verified.proofs.Alike as verified_alike
+use Rattle.mg_fitted.specs.Laws.{RefusalsAreAlike}
 use Rattle.mg_refined.proofs.Apart.{one_telling}
 use Rattle.mg_projected.proofs.Telling.{written_once}
 use Rattle.mg_projected.proofs.Alike as projected_alike
@@ -49,9 +50,9 @@ use Rattle.api_package.specs.Heads.{headed}
 use Rattle.mg_top.specs.Translation.{Target, IsTypestateFile, api_written, IsTranslation, Translates, EachTranslates, none, one}
 use Rattle.mg_delivery.specs.Lines.{refusal_line, not_offered_line}
 use Rattle.mg_top.specs.Conformance.{calls_of, Conforms, complete, unfinished, not_offered, IsNoList, too_large, bad_line, ConformRefusal}
-use Rattle.mg_top.specs.Commands.{loaded, load_asked, load_sources, judged_names, prints, kept_in, role_mains_of, run_said, run_printed}
+use Rattle.mg_top.specs.Commands.{loaded, load_asked, load_sources, judged_names, prints, kept_in, role_mains_of, cast_mains_of, run_said, run_printed}
 use Rattle.mg_top.specs.Commands.{exec_said, exec_printed}
-use Rattle.mg_top.specs.Commands.{Gives, translated, conforms, checked, compiled, ran, executed, refined, projected, verified}
+use Rattle.mg_top.specs.Commands.{Gives, translated, conforms, checked, compiled, ran, executed, refined, projected, verified, fitted}
 use Rattle.mg_top.specs.Commands.{IsRefused, Yields, gives, refused}
 use Rattle.mg_top.specs.Commands as commands
 use Rattle.mg_top.specs.Once.{SameActions, YieldsOnce}
@@ -225,32 +226,9 @@ given_once (loaded {branches = n} {seed = seed} r h typable) (loaded s k typable
     })
 given_once {contents = contents} (verified {files = files} {line = x} h) (verified {line = y} k) e =
     ap (λ (line : List ℕ). Print line ∷ []) (one_line (sources files contents) x y h k)
+given_once (fitted h never) (fitted k never') e = refl
 
 -- ---- what is refused
-
-refused_alike : {command : Command} {contents : List (List ℕ)} {r q : Refusal} → IsRefused command contents r → IsRefused command contents q
-    → AreAlike r q
-refused_alike {contents = contents} {r = r} {q = q} (commands.translate {files = files} h) (commands.translate k) =
-    sources_alike.same_refusal (sources files contents) r q h k
-refused_alike {r = r} {q = q} (commands.conform {protocol = protocol} {calls = calls} {bytes = bytes} {listed = listed} h)
-    (commands.conform k) =
-    conform_alike (source_of 0 protocol bytes) (source_of 1 calls listed) r q h k
-refused_alike {contents = contents} {r = r} {q = q} (commands.check {files = files} h) (commands.check k) =
-    accepted_alike.same_refusal (sources files contents) r q h k
-refused_alike {contents = contents} {r = r} {q = q} (commands.compile {files = files} h) (commands.compile k) =
-    compiled_alike.same_refusal (sources files contents) r q h k
-refused_alike {contents = contents} {r = r} {q = q} (commands.run {asked = asked} {files = files} h) (commands.run k) =
-    runs_alike.same_refusal (sources files contents) (role_mains_of asked) r q h k
-refused_alike {contents = contents} {r = r} {q = q} (commands.exec {asked = asked} {files = files} h) (commands.exec k) =
-    exec_alike.same_refusal (sources files contents) (role_mains_of asked) r q h k
-refused_alike {contents = contents} {r = r} {q = q} (commands.refine {files = files} h) (commands.refine k) =
-    sources_alike.first_alike h k refl refl refl
-refused_alike {contents = contents} {r = r} {q = q} (commands.project {files = files} h) (commands.project k) =
-    projected_alike.same_refusal (sources files contents) r q h k
-refused_alike {r = r} {q = q} (commands.load {branches = n} {seed = seed} h) (commands.load k) =
-    runs_alike.same_refusal (load_sources n seed) (role_mains_of load_asked) r q h k
-refused_alike {contents = contents} {r = r} {q = q} (commands.verify {files = files} h) (commands.verify k) =
-    verified_alike.same_refusal (sources files contents) r q h k
 
 say : (names : List Word) (r q : Refusal) → AreAlike r q → SameActions (Say (refusal_line names r) ∷ []) (Say (refusal_line names q) ∷ [])
 say names r q (inl e) = inl (ap (λ (z : Refusal). Say (refusal_line names z) ∷ []) e)
@@ -277,13 +255,42 @@ same_actions (gives y) (gives z) e ne = given_once y z e
 same_actions (gives y) (refused r) e ne = absurd (ne e)
 same_actions (refused r) z e ne = absurd (ne refl)
 
-yields_alike : {command : Command} {contents : List (List ℕ)} {a b : List Action} {m n : Status} → Yields command contents a m →
-    Yields command contents b n → m ≡ n → SameActions a b
-yields_alike (gives y) (gives z) e = inl (given_once y z e)
-yields_alike (gives y) (refused r) e = absurd (not_both y r)
-yields_alike (refused r) (gives y) e = absurd (not_both y r)
-yields_alike {command = command} (refused {r = r} h) (refused {r = q} k) e = say (judged_names command) r q (refused_alike h k)
+-- the law of the first refusals of files that don't fit, which the code of `fit` stands on
+module _ (law : RefusalsAreAlike) where
+  refused_alike : {command : Command} {contents : List (List ℕ)} {r q : Refusal} → IsRefused command contents r → IsRefused command contents q
+      → AreAlike r q
+  refused_alike {contents = contents} {r = r} {q = q} (commands.translate {files = files} h) (commands.translate k) =
+      sources_alike.same_refusal (sources files contents) r q h k
+  refused_alike {r = r} {q = q} (commands.conform {protocol = protocol} {calls = calls} {bytes = bytes} {listed = listed} h)
+      (commands.conform k) =
+      conform_alike (source_of 0 protocol bytes) (source_of 1 calls listed) r q h k
+  refused_alike {contents = contents} {r = r} {q = q} (commands.check {files = files} h) (commands.check k) =
+      accepted_alike.same_refusal (sources files contents) r q h k
+  refused_alike {contents = contents} {r = r} {q = q} (commands.compile {files = files} h) (commands.compile k) =
+      compiled_alike.same_refusal (sources files contents) r q h k
+  refused_alike {contents = contents} {r = r} {q = q} (commands.run {asked = asked} {files = files} h) (commands.run k) =
+      runs_alike.same_refusal (sources files contents) (role_mains_of asked) r q h k
+  refused_alike {contents = contents} {r = r} {q = q} (commands.exec {asked = asked} {files = files} h) (commands.exec k) =
+      exec_alike.same_refusal (sources files contents) (role_mains_of asked) r q h k
+  refused_alike {contents = contents} {r = r} {q = q} (commands.refine {files = files} h) (commands.refine k) =
+      sources_alike.first_alike h k refl refl refl
+  refused_alike {contents = contents} {r = r} {q = q} (commands.project {files = files} h) (commands.project k) =
+      projected_alike.same_refusal (sources files contents) r q h k
+  refused_alike {r = r} {q = q} (commands.load {branches = n} {seed = seed} h) (commands.load k) =
+      runs_alike.same_refusal (load_sources n seed) (role_mains_of load_asked) r q h k
+  refused_alike {contents = contents} {r = r} {q = q} (commands.verify {files = files} h) (commands.verify k) =
+      verified_alike.same_refusal (sources files contents) r q h k
+  refused_alike {r = r} {q = q} (commands.fit {roles = roles} {global = global} {files = files} {bytes = bytes} {contents = contents} h)
+      (commands.fit k) =
+      law (source_of (length files) global bytes) (sources files contents) (cast_mains_of roles) r q h k
 
-pub yields_once : YieldsOnce
-yields_once command contents a b m n y z =
-    let e : m ≡ n = one_status y z in record { status = e; actions = yields_alike y z e; done = same_actions y z e }
+  yields_alike : {command : Command} {contents : List (List ℕ)} {a b : List Action} {m n : Status} → Yields command contents a m →
+      Yields command contents b n → m ≡ n → SameActions a b
+  yields_alike (gives y) (gives z) e = inl (given_once y z e)
+  yields_alike (gives y) (refused r) e = absurd (not_both y r)
+  yields_alike (refused r) (gives y) e = absurd (not_both y r)
+  yields_alike {command = command} (refused {r = r} h) (refused {r = q} k) e = say (judged_names command) r q (refused_alike h k)
+
+  pub yields_once : YieldsOnce
+  yields_once command contents a b m n y z =
+      let e : m ≡ n = one_status y z in record { status = e; actions = yields_alike y z e; done = same_actions y z e }

@@ -10,7 +10,7 @@ use Rattle.mg_words.specs.declared.asked.RoleClass.{RoleClass as KeptRole}
 use Rattle.mg_words.specs.Words.{Word, RoleClass, Asked, mains_of, order_of, role_names}
 use Rattle.mg_words.specs.inner.Judging.{role_classes_of}
 use Rattle.vm_world_law.specs.declared.role.RoleMain.{RoleMain}
-use Rattle.mg_top.specs.Commands.{role_main_of, role_mains_of}
+use Rattle.mg_top.specs.Commands.{role_main_of, role_mains_of, cast_mains_of}
 
 -- a role, copied
 abbrev pub copied : KeptRole → RoleMain
@@ -32,10 +32,9 @@ copied_more items i m role class before after less is r c e added =
     ∙ ap (λ (z : KeptRole). map copied (take i items) ++ copied z ∷ []) is ∙ sym (map_more copied items i m less)
 
 -- all roles that were kept are copied
-pub mains_copied : (mains : List RoleMain) (items : List KeptRole) (i : ℕ) (asked : Asked) → mains ≡ map copied (take i items) →
-    length items ≤ i
-    → role_classes_of items ≡ mains_of asked → mains ≡ role_mains_of asked
-mains_copied mains items i asked e whole h = e ∙ ap (map copied) (take_all i items whole) ∙ copied_all items ∙ ap (map role_main_of) h
+pub mains_copied : (mains : List RoleMain) (items : List KeptRole) (i : ℕ) → mains ≡ map copied (take i items) → length items ≤ i
+    → mains ≡ cast_mains_of (role_classes_of items)
+mains_copied mains items i e whole = e ∙ ap (map copied) (take_all i items whole) ∙ copied_all items
 
 names_same : (classes : List RoleClass) → map (λ m. m.role) (map role_main_of classes) ≡ role_names classes
 names_same [] = refl

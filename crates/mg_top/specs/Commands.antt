@@ -1,5 +1,5 @@
 -- What each command gives: what it does about the contents that were read of its files, in their order, and the status that it then has.
-use Rattle.std.specs.Prelude.{ℕ, Bool, true, false, List, [], ◌∷◌, ◌++◌, map, codes, Option, Some, None, if◌then◌else◌}
+use Rattle.std.specs.Prelude.{ℕ, Bool, true, false, List, [], ◌∷◌, ◌++◌, map, codes, length, Option, Some, None, if◌then◌else◌}
 use Rattle.std.specs.List.{list_any}
 use Rattle.scr_tree.specs.Tree.{LocalTree}
 use Rattle.mg_calls.specs.Calls.{CallAt}
@@ -25,6 +25,8 @@ use Rattle.mg_exec.specs.Runs as executing
 use Rattle.mg_verified.specs.Verified.{AreVerified}
 use Rattle.mg_verified.specs.Verified as verifying
 use Rattle.mg_typed_law.specs.Typed.{NeverBad, LinkTypable}
+use Rattle.mg_fitted.specs.Fitted.{AreFitted}
+use Rattle.mg_fitted.specs.Fitted as fitting
 use Rattle.mg_load.specs.Workload.{file_names, file_texts, loaded_line}
 use Rattle.mg_projected.specs.declared.files.RoleFile.{RoleFile}
 use Rattle.mg_projected.specs.Told.{AreWritten}
@@ -35,13 +37,14 @@ use Rattle.mg_delivery.specs.declared.status.Status.TheVariants as statuses
 use Rattle.mg_delivery.specs.declared.delivery.Action.{Action}
 use Rattle.mg_delivery.specs.declared.delivery.Action.TheVariants.{Print, Say}
 use Rattle.mg_words.specs.Words.{Word, RoleClass, Asked, limit_of, mains_of, order_of, are_named, Command, Translate, Conform, Check}
-use Rattle.mg_words.specs.Words.{Compile, Run, Exec, Refine, Project, Load, Verify, Several}
+use Rattle.mg_words.specs.Words.{Compile, Run, Exec, Refine, Project, Load, Verify, Fit, Several}
 use Rattle.mg_refusal.specs.Refusals.{Refusal}
 use Rattle.mg_sources.specs.Files.{Source, source_of, sources}
 use Rattle.mg_sources.specs.Reading.{Protocol, Reads}
 use Rattle.mg_sources.specs.Sources as reading
 use Rattle.mg_top.specs.Writing.{classes_written, roles_written}
-use Rattle.mg_top.specs.Translation.{Target, AreTranslated}
+use Rattle.mg_top.specs.Translation.{AreTranslated}
+use Rattle.mg_top.specs.Fitting.{NoRunGetsStuck}
 use Rattle.mg_delivery.specs.Lines.{refusal_line}
 use Rattle.mg_top.specs.Conformance.{Lists, Conforms, ConformRefusal}
 
@@ -61,6 +64,14 @@ role_main_of main = record { role = main.role; class = main.class }
 
 abbrev pub role_mains_of : Asked → List RoleMain
 role_mains_of asked = map role_main_of (mains_of asked)
+
+-- the roles of a cast
+abbrev pub cast_mains_of : List RoleClass → List RoleMain
+cast_mains_of roles = map role_main_of roles
+
+-- what is put of roles that fit
+abbrev pub fits_text : List ℕ
+fits_text = codes "fits" ++ 10 ∷ []
 
 -- the trace, where it is asked for, and a line for each role in the order of the words
 abbrev pub run_said : Asked → Course → List ℕ
@@ -151,6 +162,12 @@ pub data Gives : Command → List (List ℕ) → List Action → Status → Type
   -- how many methods class files have, where each has a typing
   verified : {files : List Word} {contents : List (List ℕ)} {line : List ℕ} → AreVerified (sources files contents) line →
       Gives (Verify files) contents (Print line ∷ []) Done
+  -- the program of the files behind the first, run by these roles, fits the global protocol of the first, whose number is the next behind
+  -- theirs; and so in no run of these roles does one of them get stuck
+  fitted : {roles : List RoleClass} {global : Word} {files : List Word} {bytes : List ℕ} {contents : List (List ℕ)} →
+      AreFitted (source_of (length files) global bytes) (sources files contents) (cast_mains_of roles) →
+      NoRunGetsStuck (source_of (length files) global bytes) (sources files contents) (cast_mains_of roles) →
+      Gives (Fit roles (global ∷ files)) (bytes ∷ contents) (Print fits_text ∷ []) Done
 
 -- The first refusal of a command's files: one case a command.
 pub data IsRefused : Command → List (List ℕ) → Refusal → Type 0 where
@@ -176,6 +193,15 @@ pub data IsRefused : Command → List (List ℕ) → Refusal → Type 0 where
       running.FirstRefusal (load_sources branches seed) (role_mains_of load_asked) r → IsRefused (Load branches seed) contents r
   verify : {files : List Word} {contents : List (List ℕ)} {r : Refusal} →
       verifying.FirstRefusal (sources files contents) r → IsRefused (Verify files) contents r
+  -- the file of the global protocol is numbered behind the others
+  fit : {roles : List RoleClass} {global : Word} {files : List Word} {bytes : List ℕ} {contents : List (List ℕ)} {r : Refusal} →
+      fitting.FirstRefusal (source_of (length files) global bytes) (sources files contents) (cast_mains_of roles) r →
+      IsRefused (Fit roles (global ∷ files)) (bytes ∷ contents) r
+
+-- names, the first of them behind the others
+abbrev pub first_last : List Word → List Word
+first_last [] = []
+first_last (name ∷ names) = names ++ name ∷ []
 
 -- the names of the files that a command judges
 abbrev pub judged_names : Command → List Word
@@ -189,6 +215,7 @@ judged_names (Refine files) = files
 judged_names (Project folder files) = files
 judged_names (Load branches seed) = file_names
 judged_names (Verify files) = files
+judged_names (Fit roles files) = first_last files
 
 -- A command gives this, or says the line of the first refusal of its files.
 pub data Yields (command : Command) (contents : List (List ℕ)) : List Action → Status → Type 0 where

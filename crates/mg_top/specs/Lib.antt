@@ -1,4 +1,5 @@
 pub mod Writing
+pub mod Fitting
 pub mod Translation
 pub mod Conformance
 pub mod Commands

@@ -8,6 +8,7 @@ mod check;
 mod compile;
 mod conform;
 mod exec;
+mod fit;
 mod load;
 mod project;
 mod refine;
@@ -17,11 +18,13 @@ mod translate;
 mod verify;
 
 pub use mg_delivery::Status;
-pub use mg_delivery::lines::refused;
+use mg_fitted::refusals_are_alike;
 pub use top::mungo;
 
 /// Of the same contents a command gives one status, and the same actions, but for the place of Syntax
 /// in a line. The function carries a law.
 pub fn one_yield()
     ensures { YieldsOnce }
-{}
+{
+    refusals_are_alike();
+}

@@ -9,9 +9,9 @@ ghost use Rattle.mg_sources.specs.Files.{HaveKinds};
 ghost use Rattle.mg_runs.specs.Lines.{kind_word, stand_words, role_line, role_lines};
 ghost use Rattle.mg_runs.specs.Runs.{names_of};
 ghost use Rattle.mg_words.specs.Words.{Run, limit_of, mains_of, role_names};
-ghost use Rattle.mg_top.specs.Commands.{kept_in, role_mains_of, prints, status_of};
+ghost use Rattle.mg_top.specs.Commands.{kept_in, role_mains_of, cast_mains_of, prints, status_of};
 ghost use Rattle.mg_top.specs.inner.Preparing.{IsCarried};
-ghost use Rattle.mg_words.specs.inner.Judging.{asked_of, IsAsked};
+ghost use Rattle.mg_words.specs.inner.Judging.{asked_of, role_classes_of, IsAsked};
 
 use crate::compile::add_classes;
 use mg_compile::ClassFile;
@@ -20,7 +20,7 @@ use mg_refusal::Stop;
 use mg_runs::{Ran, run_roles};
 use mg_text::{BadKind, Bytes, Ending, List, Memory, Text};
 use mg_typed_law::written_classes_are_typable;
-use mg_words::Asked;
+use mg_words::{Asked, RoleClass};
 use std::alloc::Global;
 use vm_world::{RoleMain, RoleRan, Stand};
 
@@ -66,8 +66,15 @@ pub(crate) fn mains_of(alloc: Global, asked: &Asked<'_>) -> Result<List<RoleMain
     ensures distinct { IsDistinct bytes_eq (role_names (mains_of (asked_of asked.now))) }
 {
     let classes = asked.mains(alloc)?;
+    role_mains(alloc, classes.as_slice())
+}
+
+/// The same roles as they are run.
+pub(crate) fn role_mains(alloc: Global, classes: &[RoleClass]) -> Result<List<RoleMain>, Memory>
+    ensures { IfOk result (λ l. l.items ≡ cast_mains_of (role_classes_of classes.now)) }
+{
     let mut mains = List::new(alloc);
-    for main in classes.as_slice() {
+    for main in classes {
         let role = main.role.copy()?;
         let class = main.class.copy()?;
         mains.push(RoleMain { role, class })?;

@@ -3,7 +3,7 @@
 ghost use Rattle.std.specs.Prelude.{◌≡◌, ◌<◌, ◌^◌, length, IfOk};
 ghost use Rattle.mg_words.specs.Words.{files_of};
 ghost use Rattle.mg_delivery.specs.Outside.{Stream, outside, stream};
-ghost use Rattle.mg_top.specs.Commands.{Yields, judged_names};
+ghost use Rattle.mg_top.specs.Commands.{Yields, first_last, judged_names};
 ghost use Rattle.mg_delivery.specs.Lines.{refusal_line};
 ghost use Rattle.mg_top.specs.Ending.{read_limit};
 ghost use Rattle.mg_top.specs.Promises.{Promises};
@@ -14,6 +14,7 @@ use crate::check::check;
 use crate::compile::compile;
 use crate::conform::conform;
 use crate::exec::exec;
+use crate::fit::fit;
 use crate::load::load;
 use crate::project::project;
 use crate::refine::refine;
@@ -24,7 +25,7 @@ use mg_delivery::{Delivery, Status, Unread, deliver, lines, read_all, starve};
 use mg_io::{Folder, Sink};
 use mg_load::file_names;
 use mg_refusal::{Refusal, Stop};
-use mg_text::{Bytes, Memory, Text};
+use mg_text::{Bytes, List, Memory, Text};
 use mg_words::{Command, Judged, judge};
 use std::alloc::Global;
 
@@ -60,6 +61,9 @@ const CLASS_LIMIT: usize = 16_777_217;
 /// are, in the same way: nothing is asked of how they were made, so that a role may also end at a null
 /// or because its code is wrong. What a method answered is told as a number in the trace.
 /// `verify F..` tells how many methods the class files have, where each of them has a typing.
+/// `fit --role R=C .. G F..` tells whether the roles, each run from the `main` of its class, fit the
+/// global protocol in the file G: `fits`, where it is proved that in no run of them one gets stuck on
+/// the others, or the first fault.
 /// `load N SEED` makes the files of a workload of two roles that answer each other, over a choice of
 /// N branches, from 1 to 400, in 4 * N rounds that the number SEED picks, and runs them as `run` does,
 /// up to 20,000,000 instructions. Behind what was printed stands how many rounds and messages there
@@ -91,7 +95,7 @@ fn prepare<F: Folder>(alloc: Global, words: &[Text], folder: &mut F) -> Result<D
         result
         (outside (F.files folder.new) (F.failed_reads folder.new) (F.failed_writes folder.new) o e) }
 {
-    let command = match judge(words) {
+    let command = match judge(alloc, words)? {
         Judged::Known(command) => command,
         Judged::Wrong(word) => {
             let line = lines::wrong_words(alloc, word)?;
@@ -120,7 +124,8 @@ fn read_limit(command: &Command<'_>) -> usize
         | Command::Run { .. }
         | Command::Refine { .. }
         | Command::Project { .. }
-        | Command::Load { .. } => SOURCE_LIMIT,
+        | Command::Load { .. }
+        | Command::Fit { .. } => SOURCE_LIMIT,
         Command::Exec { .. } | Command::Verify { .. } => CLASS_LIMIT,
     }
 }
@@ -151,8 +156,29 @@ fn line_of(alloc: Global, command: &Command<'_>, refusal: &Refusal) -> Result<Te
             let names = file_names(alloc)?;
             lines::refused(alloc, names.as_slice(), refusal)
         }
+        Command::Fit { files, .. } => {
+            let names = first_last(alloc, files)?;
+            lines::refused(alloc, names.as_slice(), refusal)
+        }
         _ => lines::refused(alloc, command.files(), refusal),
     }
+}
+
+// These names, the first of them behind the others.
+fn first_last(alloc: Global, files: &[Text]) -> Result<List<Text>, Memory>
+    ensures { IfOk result (λ l. l.items ≡ first_last files.now) }
+{
+    let mut names = List::new(alloc);
+    let Some((first, others)) = files.split_first() else {
+        return Ok(names);
+    };
+    for other in others {
+        let name = other.copy()?;
+        names.push(name)?;
+    }
+    let last = first.copy()?;
+    names.push(last)?;
+    Ok(names)
 }
 
 // What a command does about the contents of its files, or their first refusal.
@@ -187,5 +213,6 @@ fn carried_out(alloc: Global, command: &Command<'_>, contents: &[Bytes]) -> Resu
         Command::Project { folder, .. } => project(alloc, folder, contents),
         Command::Load { branches, seed } => load(alloc, branches, seed),
         Command::Verify { .. } => verify(alloc, contents),
+        Command::Fit { cast, files } => fit(alloc, &cast, files, contents),
     }
 }

@@ -97,7 +97,7 @@ pub begun_keeps : (k : Input) → Keeps k None
 begun_keeps input.Sources = tt
 begun_keeps input.Classes = refl
 
-front : (words begin left : List Word) → words ≡ begin ++ left → take (length words - length left) words ≡ begin
+pub front : (words begin left : List Word) → words ≡ begin ++ left → take (length words - length left) words ≡ begin
 front words begin left e =
     let n : length words - length left ≡ length begin = omega (arith, ap length e, length-append begin left) in
     (λ i. take (n i) (e i)) ∙ take_front begin left where

@@ -110,7 +110,7 @@ all_whole o a w = go a.roles a.order w.roles where
 
 -- ---- options ask for one thing
 
-same_value : {A : Type 0} (a b : Option A) → option_to_list a ≡ option_to_list b → a ≡ b
+pub same_value : {A : Type 0} (a b : Option A) → option_to_list a ≡ option_to_list b → a ≡ b
 same_value None None e = refl
 same_value None (Some y) e = absurd cc
 same_value (Some x) None e = absurd cc

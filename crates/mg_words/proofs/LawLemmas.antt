@@ -123,7 +123,7 @@ order_each asked (words, how) = each_at asked.roles asked.order how.options how.
 -- ---- what the code collects
 
 -- a text that the table hasn't is added at its end
-new_text : (names : List Word) (name : Word) → (Contains names name → ⊥) → position (bytes_eq name) names ≡ None
+pub new_text : (names : List Word) (name : Word) → (Contains names name → ⊥) → position (bytes_eq name) names ≡ None
 new_text names name new = go (position (bytes_eq name) names) refl where
   go : (found : Option ℕ) → position (bytes_eq name) names ≡ found → position (bytes_eq name) names ≡ None
   go None is = is

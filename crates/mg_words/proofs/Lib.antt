@@ -9,7 +9,9 @@ pub mod NameLemmas
 pub mod RoleLemmas
 pub mod OptionLemmas
 pub mod FollowLemmas
+pub mod FitLemmas
 pub mod RunLemmas
 pub mod NumberLemmas
 pub mod CodeLemmas
 pub mod LawLemmas
+pub mod FittingLemmas

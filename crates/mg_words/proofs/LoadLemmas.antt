@@ -2,13 +2,10 @@
 use Rattle.std.proofs.Common.{◌≡◌, ℕ, ◌<◌, ◌≤◌, ◌^◌, List, [], ◌∷◌, length, Some, None, refl, sym, ap, ◌∙◌, subst, arith}
 use Rattle.std.specs.Fmt.{decimal}
 use Rattle.std.proofs.lemmas.Fmt.{decimal_injective}
-use Rattle.mg_words.specs.Words.{Word, Command, Translate, Conform, Check, Compile, Run, Exec, Refine, Project, Load, Verify, IsWorkload}
-use Rattle.mg_words.specs.Words.{IsBehind}
+use Rattle.mg_words.specs.Words.{Word, Command, Load, IsWorkload, IsBehind}
 use Rattle.mg_words.specs.Words.{IsCommand, AreCommand, CanBegin, AreWrong}
 use Rattle.mg_words.specs.inner.Judging.{IsNumber, IsUpTo}
-use Rattle.mg_words.proofs.Verbs.{load_verify}
-use Rattle.mg_words.proofs.Verbs.{load, translate_load, conform_load, check_load, compile_load, run_load, exec_load, refine_load}
-use Rattle.mg_words.proofs.Verbs.{project_load}
+use Rattle.mg_words.proofs.Verbs.{load, mark}
 use Rattle.mg_words.proofs.WordsLemmas.{head_is, tail_is, filled, empty_is, few, wrong_at}
 
 -- ---- what can begin the command
@@ -29,16 +26,8 @@ begins_load = let b = begins_branches 1 (omega arith) (omega arith) in (decimal 
 
 pub is_load : (command : Command) (rest : List Word) → IsCommand command (load ∷ rest)
     → (n : ℕ) × (seed : ℕ) × (command ≡ Load n seed) × IsBehind (Load n seed) rest
-is_load (Translate package_name folder files) rest (r, e, b) = translate_load (sym (head_is e))
-is_load (Conform files) rest (r, e, b) = conform_load (sym (head_is e))
-is_load (Check files) rest (r, e, b) = check_load (sym (head_is e))
-is_load (Compile folder files) rest (r, e, b) = compile_load (sym (head_is e))
-is_load (Run asked files) rest (r, e, b) = run_load (sym (head_is e))
-is_load (Exec asked files) rest (r, e, b) = exec_load (sym (head_is e))
-is_load (Refine files) rest (r, e, b) = refine_load (sym (head_is e))
-is_load (Project folder files) rest (r, e, b) = project_load (sym (head_is e))
 is_load (Load n seed) rest (r, e, b) = (n, seed, refl, subst (IsBehind (Load n seed)) (sym (tail_is e)) b)
-is_load (Verify files) rest (r, e, b) = load_verify (head_is e)
+is_load other rest (r, e, b) = absurd (omega (arith, ap mark (head_is e)))
 
 first_word : (command : Command) (p : Word) (more : List Word) → IsCommand command (load ∷ p ∷ more) → (n : ℕ) × (p ≡ decimal n) × (1 ≤ n)
     × (n ≤ 400)

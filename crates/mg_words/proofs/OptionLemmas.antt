@@ -264,7 +264,7 @@ at_place f o x more y all here_it total =
     ap (λ (z : List _). filter_map f o ++ z) (sym here_it) ∙ sym (filter_map-append f o (x ∷ more)) ∙ total
 
 -- of at most one there is one, it is that one, and none stands before it
-one_there : {A : Type 0} (a b : Option A) (c : A) (rest : List A) → option_to_list a ++ c ∷ rest ≡ option_to_list b
+pub one_there : {A : Type 0} (a b : Option A) (c : A) (rest : List A) → option_to_list a ++ c ∷ rest ≡ option_to_list b
     → (a ≡ None) × (b ≡ Some c)
 one_there None None c rest e = absurd cc
 one_there None (Some y) c rest e = (refl, cc)

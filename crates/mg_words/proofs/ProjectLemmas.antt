@@ -1,12 +1,10 @@
 -- Which words are the command `project`, and which can't follow.
-use Rattle.std.proofs.Common.{◌≡◌, List, [], ◌∷◌, ◌++◌, length, Option, Some, None, codes, refl, sym, ap, ◌∙◌, subst, append_assoc}
+use Rattle.std.proofs.Common.{◌≡◌, List, [], ◌∷◌, ◌++◌, length, Option, Some, None, codes, refl, sym, ap, ◌∙◌, subst, append_assoc, arith}
 use Rattle.std.specs.Prelude.{IfSome}
-use Rattle.mg_words.specs.Words.{Word, Command, Translate, Conform, Check, Compile, Run, Exec, Refine, Project, Load, Verify, IsFileName}
+use Rattle.mg_words.specs.Words.{Word, Command, Project, IsFileName}
 use Rattle.mg_words.specs.Words.{IsFileOf}
 use Rattle.mg_words.specs.Words.{IsOneProtocol, out_words, IsBehind, IsCommand, AreCommand, CanBegin, AreWrong}
-use Rattle.mg_words.proofs.Verbs.{project_verify}
-use Rattle.mg_words.proofs.Verbs.{project, translate_project, conform_project, check_project, compile_project, run_project, exec_project}
-use Rattle.mg_words.proofs.Verbs.{refine_project, project_load}
+use Rattle.mg_words.proofs.Verbs.{project, mark}
 use Rattle.mg_words.proofs.WordsLemmas.{out, some_source, some_class, named, is_name, head_is, tail_is, filled, empty_is, few, wrong_at}
 use Rattle.mg_words.proofs.WordsLemmas.{files_behind, folder_behind, folder_lacks, same_folder}
 
@@ -37,16 +35,8 @@ begins_out = let b = begins_folder (Some some_class) is_name in (some_class ∷ 
 
 pub is_project : (command : Command) (rest : List Word) → IsCommand command (project ∷ rest)
     → (folder : Option Word) × (files : List Word) × (command ≡ Project folder files) × IsBehind (Project folder files) rest
-is_project (Translate package_name folder files) rest (r, e, b) = translate_project (sym (head_is e))
-is_project (Conform files) rest (r, e, b) = conform_project (sym (head_is e))
-is_project (Check files) rest (r, e, b) = check_project (sym (head_is e))
-is_project (Compile folder files) rest (r, e, b) = compile_project (sym (head_is e))
-is_project (Run asked files) rest (r, e, b) = run_project (sym (head_is e))
-is_project (Exec asked files) rest (r, e, b) = exec_project (sym (head_is e))
-is_project (Refine files) rest (r, e, b) = refine_project (sym (head_is e))
 is_project (Project folder files) rest (r, e, b) = (folder, files, refl, subst (IsBehind (Project folder files)) (sym (tail_is e)) b)
-is_project (Load branches seed) rest (r, e, b) = project_load (head_is e)
-is_project (Verify files) rest (r, e, b) = project_verify (head_is e)
+is_project other rest (r, e, b) = absurd (omega (arith, ap mark (head_is e)))
 
 -- the option isn't a file
 no_protocol : (rest : List Word) → IsOneProtocol (out ∷ rest) → ⊥

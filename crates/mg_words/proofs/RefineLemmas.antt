@@ -1,11 +1,9 @@
 -- Which words are the command `refine`, and which can't follow.
-use Rattle.std.proofs.Common.{◌≡◌, List, [], ◌∷◌, All, length, Some, None, codes, refl, sym, ap, ◌∙◌, subst}
+use Rattle.std.proofs.Common.{◌≡◌, List, [], ◌∷◌, All, length, Some, None, codes, refl, sym, ap, ◌∙◌, subst, arith}
 use Rattle.mg_sources.specs.Files.{EndsWith}
-use Rattle.mg_words.specs.Words.{Word, Command, Translate, Conform, Check, Compile, Run, Exec, Refine, Project, Load, Verify, IsFileOf}
+use Rattle.mg_words.specs.Words.{Word, Command, Refine, IsFileOf}
 use Rattle.mg_words.specs.Words.{AreTwoTypestates, IsBehind, IsCommand, AreCommand, CanBegin, AreWrong}
-use Rattle.mg_words.proofs.Verbs.{refine_verify}
-use Rattle.mg_words.proofs.Verbs.{refine, translate_refine, conform_refine, check_refine, compile_refine, run_refine, exec_refine}
-use Rattle.mg_words.proofs.Verbs.{refine_project, refine_load}
+use Rattle.mg_words.proofs.Verbs.{refine, mark}
 use Rattle.mg_words.proofs.WordsLemmas.{head_is, tail_is, filled, empty_is, All-cons, All-one, few, wrong_at}
 
 some_typestate : Word
@@ -36,16 +34,8 @@ begins_refine = let b = begins_first (codes "P.protocol") named in (codes "P.pro
 
 pub is_refine : (command : Command) (rest : List Word) → IsCommand command (refine ∷ rest)
     → (files : List Word) × (command ≡ Refine files) × IsBehind (Refine files) rest
-is_refine (Translate package_name folder files) rest (r, e, b) = translate_refine (sym (head_is e))
-is_refine (Conform files) rest (r, e, b) = conform_refine (sym (head_is e))
-is_refine (Check files) rest (r, e, b) = check_refine (sym (head_is e))
-is_refine (Compile folder files) rest (r, e, b) = compile_refine (sym (head_is e))
-is_refine (Run asked files) rest (r, e, b) = run_refine (sym (head_is e))
-is_refine (Exec asked files) rest (r, e, b) = exec_refine (sym (head_is e))
 is_refine (Refine files) rest (r, e, b) = (files, refl, subst (IsBehind (Refine files)) (sym (tail_is e)) b)
-is_refine (Project folder files) rest (r, e, b) = refine_project (head_is e)
-is_refine (Load branches seed) rest (r, e, b) = refine_load (head_is e)
-is_refine (Verify files) rest (r, e, b) = refine_verify (head_is e)
+is_refine other rest (r, e, b) = absurd (omega (arith, ap mark (head_is e)))
 
 first_word : (command : Command) (p : Word) (more : List Word) → IsCommand command (refine ∷ p ∷ more) → IsFileOf (codes ".protocol") p
 first_word command p more is =

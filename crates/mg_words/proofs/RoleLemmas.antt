@@ -89,7 +89,7 @@ no_role w (v ∷ rest) isnt = go (bytes_eq w (codes "--role")) refl where
   go false e = ap (λ (t : Bool). if t then role_read v ∷ [] else []) e
 
 -- a value isn't read as an option
-passed : (v : Word) (ws : List Word) (rs : List RoleClass) → (v ≡ codes "--role" → ⊥) → roles_in ws ≡ rs → roles_in (v ∷ ws) ≡ rs
+pub passed : (v : Word) (ws : List Word) (rs : List RoleClass) → (v ≡ codes "--role" → ⊥) → roles_in ws ≡ rs → roles_in (v ∷ ws) ≡ rs
 passed v ws rs isnt e = ap (λ (z : List RoleClass). z ++ roles_in ws) (no_role v ws isnt) ∙ e
 
 number_no_role : (n : ℕ) → 1 ≤ n → n ≤ 20000000 → decimal n ≡ codes "--role" → ⊥
@@ -98,7 +98,7 @@ number_no_role n low high e =
     let k : get_or (decimal n) 0 0 ≡ 45 = ap (λ (w : Word). get_or w 0 0) e in
     absurd (omega arith)
 
-name_no_role : (v : Word) → StartsWith is_name_start v → v ≡ codes "--role" → ⊥
+pub name_no_role : (v : Word) → StartsWith is_name_start v → v ≡ codes "--role" → ⊥
 name_no_role v h e = starts_no_option v 45 (codes "-role") h refl e
 
 trace_no_role : ◌≡◌ {A = Word} (codes "--trace") (codes "--role") → ⊥

@@ -10,7 +10,7 @@ use Rattle.mg_words.specs.declared.runs.Input.TheVariants as input
 use Rattle.mg_words.specs.declared.options.Named.{Named}
 use Rattle.mg_words.specs.declared.options.Named.TheVariants as named
 use Rattle.mg_words.specs.Words.{Word, RoleClass, Roles, Alone, Several, role_names, Command, Translate, Conform, Check, Compile, Run, Exec}
-use Rattle.mg_words.specs.Words.{Refine, Project, Load, Verify, Asked, RunOption, Main, Role, Order, Steps, Trace, Out, option_words}
+use Rattle.mg_words.specs.Words.{Refine, Project, Load, Verify, Fit, Asked, RunOption, Main, Role, Order, Steps, Trace, Out, option_words}
 use Rattle.mg_words.specs.Words.{IsOption}
 use Rattle.mg_words.specs.Words.{AreOptions, IsCommand, AreCommand, CanBegin, AreWrong}
 use Rattle.mg_words.specs.inner.Judging.{IsFirstOther, has_name, AreGiven, word_of, kind_of, IsPlain, IsNewRole, Fits, IsNoValue}
@@ -23,6 +23,7 @@ use Rattle.mg_words.proofs.RefineLemmas.{same_refine}
 use Rattle.mg_words.proofs.ProjectLemmas.{same_project}
 use Rattle.mg_words.proofs.LoadLemmas.{same_load}
 use Rattle.mg_words.proofs.VerifyLemmas.{same_verify}
+use Rattle.mg_words.proofs.FitLemmas.{same_fit}
 use Rattle.mg_words.proofs.NameLemmas.{here, one_of, in_none, has_is, is_has, have_all, never_both, All-itself, names_push}
 use Rattle.mg_words.proofs.RoleLemmas.{words_of}
 use Rattle.mg_words.proofs.OptionLemmas.{AreAll, values_of, begins_with, same_kind, same_option, no_word, no_option, at_end, given_more}
@@ -455,3 +456,4 @@ same_command words (Project folder files) b (rest, e, behind) is = same_project 
 same_command words (Exec asked files) b (rest, e, behind) is = same_run input.Classes b asked files rest behind (subst (IsCommand b) e is)
 same_command words (Load branches seed) b (rest, e, behind) is = same_load b branches seed rest behind (subst (IsCommand b) e is)
 same_command words (Verify files) b (rest, e, behind) is = same_verify b files rest behind (subst (IsCommand b) e is)
+same_command words (Fit roles files) b (rest, e, behind) is = same_fit b roles files rest behind (subst (IsCommand b) e is)

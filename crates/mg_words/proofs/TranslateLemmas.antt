@@ -1,17 +1,21 @@
 -- Which words are the command `translate`, and which can't follow.
-use Rattle.std.proofs.Common.{◌≡◌, List, [], ◌∷◌, ◌++◌, length, Option, Some, None, codes, refl, sym, ap, ◌∙◌, subst, append_assoc, arith}
+use Rattle.std.proofs.Common.{◌≡◌, ◌≢◌, List, [], ◌∷◌, ◌++◌, All, length, Option, Some, None, codes, refl, sym, ap, ◌∙◌, subst, append_assoc, arith, eqb}
 use Rattle.std.specs.Borrow.{Bor}
-use Rattle.std.specs.Prelude.{IfSome, option_map}
+use Rattle.std.specs.Prelude.{true, false, is_some, flat_map, filter_map, option_map, option_to_list}
+use Rattle.std.proofs.lemmas.Grind.{flat_map-append}
+use Rattle.std.proofs.lemmas.List.Elements.{filter_map-append}
 use Rattle.jv_tree.specs.Tokens.{is_name}
 use Rattle.api_package.specs.Package.{IsPackage}
-use Rattle.mg_words.specs.declared.words.Placed.TheVariants as placed
-use Rattle.mg_words.specs.Words.{Word, Command, Translate, IsFileName, IsFileOf, AreFilesOf, out_words, package_words}
+use Rattle.mg_words.specs.Words.{Word, Command, Translate, TargetOption, Package, Folder, target_words, IsTarget, target_package}
+use Rattle.mg_words.specs.Words.{target_folder, AreTargets, IsFileName, IsFileOf, AreFilesOf}
 use Rattle.mg_words.specs.Words.{IsBehind, IsCommand, AreCommand, CanBegin, AreWrong}
-use Rattle.mg_words.specs.inner.Judging.{IsFirstOther, IsPackaged, IsPlaced}
+use Rattle.mg_words.specs.inner.Judging.{IsFirstOther, AreTargeted}
 use Rattle.mg_words.proofs.Verbs.{translate}
-use Rattle.mg_words.proofs.WordsLemmas.{out, some_class, is_name as folder_named, head_is, tail_is, filled, empty_is, wrong_at}
-use Rattle.mg_words.proofs.WordsLemmas.{All-mid, none_yet, begins_files, is_translate, no_file, files_behind, folder_behind, folder_lacks}
-use Rattle.mg_words.proofs.WordsLemmas.{same_folder, still_plain}
+use Rattle.mg_words.proofs.WordsLemmas.{out, some_source, some_class, named, is_name as folder_named, head_is, tail_is, filled, empty_is}
+use Rattle.mg_words.proofs.WordsLemmas.{nothing_behind, All-first, All-push, All-mid, none_yet, pushed_filled, first_wrong, is_translate}
+use Rattle.mg_words.proofs.NameLemmas.{never_both}
+use Rattle.mg_words.proofs.OptionLemmas.{at_end, one_there}
+use Rattle.mg_words.proofs.FollowLemmas.{same_value}
 
 abbrev pub pack : Word
 pack = codes "--package"
@@ -26,197 +30,407 @@ some_packaged = refl
 pack_out : {P : Type 0} → pack ≡ out → P
 pack_out e = absurd (omega (arith, ap length e))
 
--- the option of a package isn't a file
-no_pack : (rest : List Word) → AreFilesOf (codes ".scr") (pack ∷ rest) → ⊥
-no_pack rest (_, each) = let first : IsFileOf (codes ".scr") pack = All-mid (IsFileOf (codes ".scr")) [] pack rest each in first.0 refl
+abbrev pub words_of : List TargetOption → List Word
+words_of = flat_map target_words
+
+words_on : (a b : List TargetOption) → words_of (a ++ b) ≡ words_of a ++ words_of b
+words_on = flat_map-append target_words
+
+abbrev AreFiles : List Word → Type 0
+AreFiles = AreFilesOf (codes ".scr")
+
+-- ---- the words of options
+
+abbrev option_word : TargetOption → Word
+option_word (Package v) = pack
+option_word (Folder v) = out
+
+abbrev value_word : TargetOption → Word
+value_word (Package v) = v
+value_word (Folder v) = v
+
+two_words : (x : TargetOption) → target_words x ≡ option_word x ∷ value_word x ∷ []
+two_words (Package v) = refl
+two_words (Folder v) = refl
+
+-- options that are written alike are one
+same_target : (x y : TargetOption) (r r' : List Word) → target_words x ++ r ≡ target_words y ++ r' → (x ≡ y) × (r ≡ r')
+same_target (Package v) (Package w) r r' e = (ap Package (head_is (tail_is e)), tail_is (tail_is e))
+same_target (Package v) (Folder w) r r' e = pack_out (head_is e)
+same_target (Folder v) (Package w) r r' e = pack_out (sym (head_is e))
+same_target (Folder v) (Folder w) r r' e = (ap Folder (head_is (tail_is e)), tail_is (tail_is e))
+
+-- the option isn't a file
+no_pack : (rest files : List Word) → pack ∷ rest ≡ files → AreFiles files → ⊥
+no_pack rest files e (_, each) =
+    let first : IsFileOf (codes ".scr") pack =
+    All-first (IsFileOf (codes ".scr")) pack rest (subst (All (IsFileOf (codes ".scr"))) (sym e) each) in
+    first.0 refl
+
+no_out : (rest files : List Word) → out ∷ rest ≡ files → AreFiles files → ⊥
+no_out rest files e (_, each) =
+    let first : IsFileOf (codes ".scr") out =
+    All-first (IsFileOf (codes ".scr")) out rest (subst (All (IsFileOf (codes ".scr"))) (sym e) each) in
+    first.0 refl
+
+no_target : (x : TargetOption) (rest files : List Word) → target_words x ++ rest ≡ files → AreFiles files → ⊥
+no_target (Package v) rest files e are = no_pack (v ∷ rest) files e are
+no_target (Folder v) rest files e are = no_out (v ∷ rest) files e are
+
+-- ---- one more option
+
+none_targeted : AreTargets None None []
+none_targeted = record { right = none_yet IsTarget; packages = refl; folders = refl }
+
+-- a package, where none was named
+with_package : (o : List TargetOption) (d : Option Word) (v : Word) → AreTargets None d o → IsPackage v →
+    AreTargets (Some v) d (o ++ Package v ∷ [])
+with_package o d v h is = record {
+  right = All-push IsTarget o (Package v) h.right is;
+  packages = filter_map-append target_package o (Package v ∷ []) ∙ ap (λ (z : List Word). z ++ v ∷ []) h.packages;
+  folders = filter_map-append target_folder o (Package v ∷ []) ∙ at_end (filter_map target_folder o) ∙ h.folders;
+}
+
+with_folder : (o : List TargetOption) (p : Option Word) (v : Word) → AreTargets p None o → IsFileName v →
+    AreTargets p (Some v) (o ++ Folder v ∷ [])
+with_folder o p v h is = record {
+  right = All-push IsTarget o (Folder v) h.right is;
+  packages = filter_map-append target_package o (Folder v ∷ []) ∙ at_end (filter_map target_package o) ∙ h.packages;
+  folders = filter_map-append target_folder o (Folder v ∷ []) ∙ ap (λ (z : List Word). z ++ v ∷ []) h.folders;
+}
+
+-- among options that are all, one that names a package is the first that does
+package_free : (o more : List TargetOption) (p q d : Option Word) (v : Word) → filter_map target_package o ≡ option_to_list p →
+    AreTargets q d (o ++ Package v ∷ more) → p ≡ None
+package_free o more p q d v was all =
+    (one_there p q v (filter_map target_package more)
+    (ap (λ (z : List Word). z ++ v ∷ filter_map target_package more) (sym was)
+    ∙ sym (filter_map-append target_package o (Package v ∷ more)) ∙ all.packages)).0
+
+folder_free : (o more : List TargetOption) (p q d : Option Word) (v : Word) → filter_map target_folder o ≡ option_to_list p →
+    AreTargets q d (o ++ Folder v ∷ more) → p ≡ None
+folder_free o more p q d v was all =
+    (one_there p d v (filter_map target_folder more)
+    (ap (λ (z : List Word). z ++ v ∷ filter_map target_folder more) (sym was)
+    ∙ sym (filter_map-append target_folder o (Folder v ∷ more)) ∙ all.folders)).0
 
 -- ---- what can begin the command
 
-begins_out : (package_name : Option Word) → IfSome package_name IsPackage → CanBegin AreCommand (translate ∷ (package_words package_name ++ out ∷ []))
-begins_out None packaged = let b = begins_files None (Some some_class) [] packaged folder_named (none_yet _) in (some_class ∷ b.0, b.1)
-begins_out (Some p) packaged =
-    let b = begins_files (Some p) (Some some_class) [] packaged folder_named (none_yet _) in (some_class ∷ b.0, b.1)
+-- options and files can be followed by a file
+begins_files : (o : List TargetOption) (p d : Option Word) (before : List Word) → AreTargets p d o → All (IsFileOf (codes ".scr")) before
+    → CanBegin AreCommand (translate ∷ (words_of o ++ before))
+begins_files o p d before h each = (
+  some_source ∷ [],
+  (
+    Translate p d (before ++ some_source ∷ []),
+    (
+      (words_of o ++ before) ++ some_source ∷ [],
+      refl,
+      (
+        o,
+        append_assoc (words_of o) before (some_source ∷ []),
+        h,
+        (pushed_filled before some_source, All-push (IsFileOf (codes ".scr")) before some_source each named),
+      ),
+    ),
+  ),
+)
 
-begins_pack : CanBegin AreCommand (translate ∷ pack ∷ [])
-begins_pack = let b = begins_files (Some some_package) None [] some_packaged tt (none_yet _) in (some_package ∷ b.0, b.1)
+-- what can begin with more words can with fewer
+begins_sooner : (ws more : List Word) → CanBegin AreCommand (translate ∷ (ws ++ more)) → CanBegin AreCommand (translate ∷ ws)
+begins_sooner ws more (rest, (command, is)) =
+    (more ++ rest, (command, subst (IsCommand command) (ap (λ (z : List Word). translate ∷ z) (append_assoc ws more rest)) is))
+
+begins_targets : (o : List TargetOption) (p d : Option Word) → AreTargets p d o → CanBegin AreCommand (translate ∷ (words_of o ++ []))
+begins_targets o p d h = begins_files o p d [] h (none_yet (IsFileOf (codes ".scr")))
+
+-- options can be followed by the word of one more
+begins_option : (o : List TargetOption) (x : TargetOption) (p d : Option Word) → AreTargets p d (o ++ x ∷ [])
+    → CanBegin AreCommand (translate ∷ (words_of o ++ option_word x ∷ []))
+begins_option o x p d h =
+    let same : words_of (o ++ x ∷ []) ++ [] ≡ (words_of o ++ option_word x ∷ []) ++ value_word x ∷ [] =
+    nothing_behind (words_of (o ++ x ∷ [])) ∙ words_on o (x ∷ [])
+    ∙ ap (λ (z : List Word). words_of o ++ z) (nothing_behind (target_words x) ∙ two_words x)
+    ∙ sym (append_assoc (words_of o) (option_word x ∷ []) (value_word x ∷ [])) in
+    begins_sooner (words_of o ++ option_word x ∷ []) (value_word x ∷ [])
+    (subst (λ (z : List Word). CanBegin AreCommand (translate ∷ z)) same (begins_targets (o ++ x ∷ []) p d h))
 
 -- ---- what stands behind the word
 
--- behind a package, or where none is named, stand a folder and the files
-behind_package : (q d : Option Word) (files : List Word) (package_name : Option Word) (rest : List Word)
-    → (package_name ≡ None → (r : List Word) → rest ≡ pack ∷ r → ⊥)
-    → package_words package_name ++ rest ≡ package_words q ++ (out_words d ++ files) → AreFilesOf (codes ".scr") files
-    → rest ≡ out_words d ++ files
-behind_package None d files None rest plain e are = e
-behind_package (Some p) d files None rest plain e are = absurd (plain refl (p ∷ (out_words d ++ files)) e)
-behind_package None None files (Some p) rest plain e are =
-    absurd (no_pack (p ∷ rest) (subst (AreFilesOf (codes ".scr")) (sym e) are))
-behind_package None (Some f) files (Some p) rest plain e are = pack_out (head_is e)
-behind_package (Some p') d files (Some p) rest plain e are = tail_is (tail_is e)
+-- behind options that were read stand further options, and files
+record Left (o : List TargetOption) (rest : List Word) (all : List TargetOption) (files : List Word) : Type 0 where
+  more : List TargetOption
+  parts : all ≡ o ++ more
+  words : rest ≡ words_of more ++ files
 
-translate_files : (command : Command) (package_name folder : Option Word) (rest : List Word)
-    → (package_name ≡ None → (r : List Word) → out_words folder ++ rest ≡ pack ∷ r → ⊥)
-    → (folder ≡ None → (r : List Word) → rest ≡ out ∷ r → ⊥)
-    → IsCommand command (translate ∷ (package_words package_name ++ (out_words folder ++ rest))) → AreFilesOf (codes ".scr") rest
-translate_files command package_name folder rest unpacked plain is =
-    let (q, d, files, same, (e, packaged, name, each)) =
-    is_translate command (package_words package_name ++ (out_words folder ++ rest)) is in
-    files_behind (AreFilesOf (codes ".scr")) no_file d files folder rest plain
-    (behind_package q d files package_name (out_words folder ++ rest) unpacked e each) each
+left_of : (o all : List TargetOption) (rest files : List Word) → AreFiles files → words_of o ++ rest ≡ words_of all ++ files
+    → Left o rest all files
+left_of [] all rest files are e = record { more = all; parts = refl; words = e }
+left_of (x ∷ xs) [] rest files are e =
+    absurd (no_target x (words_of xs ++ rest) files (sym (append_assoc (target_words x) (words_of xs) rest) ∙ e) are)
+left_of (x ∷ xs) (y ∷ ys) rest files are e =
+    let e' : target_words x ++ (words_of xs ++ rest) ≡ target_words y ++ (words_of ys ++ files) =
+    sym (append_assoc (target_words x) (words_of xs) rest) ∙ e ∙ append_assoc (target_words y) (words_of ys) files in
+    let (one, others) = same_target x y (words_of xs ++ rest) (words_of ys ++ files) e' in
+    let left = left_of xs ys rest files are others in
+    record { more = left.more; parts = (λ i. sym one i ∷ left.parts i); words = left.words }
 
--- words that begin with the option of a folder don't with that of a package
-out_unpacked : (package_name : Option Word) (more : List Word) → package_name ≡ None → (r : List Word) → out ∷ more ≡ pack ∷ r → ⊥
-out_unpacked package_name more n r e = pack_out (sym (head_is e))
+-- a command that begins with options that were read
+record Goes (o : List TargetOption) (rest : List Word) (command : Command) : Type 0 where
+  p : Option Word
+  d : Option Word
+  files : List Word
+  more : List TargetOption
+  same : command ≡ Translate p d files
+  words : rest ≡ words_of more ++ files
+  all : AreTargets p d (o ++ more)
+  are : AreFiles files
 
-folder_word : (command : Command) (package_name : Option Word) (f : Word) (rest : List Word)
-    → IsCommand command (translate ∷ (package_words package_name ++ out ∷ f ∷ rest)) → IsFileName f
-folder_word command package_name f rest is =
-    let (q, d, files, same, (e, packaged, name, each)) = is_translate command (package_words package_name ++ out ∷ f ∷ rest) is in
-    folder_behind (AreFilesOf (codes ".scr")) no_file d files f rest
-    (behind_package q d files package_name (out ∷ f ∷ rest) (out_unpacked package_name (f ∷ rest)) e each) name each
+goes_on : (o : List TargetOption) (rest : List Word) (command : Command) → IsCommand command (translate ∷ (words_of o ++ rest)) →
+    Goes o rest command
+goes_on o rest command is =
+    let (p, d, files, same, (all, e, how, are)) = is_translate command (words_of o ++ rest) is in
+    let left = left_of o all rest files are e in
+    record {
+      p = p;
+      d = d;
+      files = files;
+      more = left.more;
+      same = same;
+      words = left.words;
+      all = subst (AreTargets p d) left.parts how;
+      are = are;
+    }
 
-out_is_none : (command : Command) (package_name : Option Word) → IsCommand command (translate ∷ (package_words package_name ++ out ∷ [])) → ⊥
-out_is_none command package_name is =
-    let (q, d, files, same, (e, packaged, name, each)) = is_translate command (package_words package_name ++ out ∷ []) is in
-    folder_lacks (AreFilesOf (codes ".scr")) no_file d files
-    (behind_package q d files package_name (out ∷ []) (out_unpacked package_name []) e each) each
+-- ---- what is judged
 
-package_word : (command : Command) (p : Word) (rest : List Word) → IsCommand command (translate ∷ pack ∷ p ∷ rest) → IsPackage p
-package_word command p rest is = let (q, d, files, same, b) = is_translate command (pack ∷ p ∷ rest) is in go q d files b where
-  go : (q d : Option Word) (files : List Word) → IsBehind (Translate q d files) (pack ∷ p ∷ rest) → IsPackage p
-  go None None files (e, packaged, name, each) = absurd (no_pack (p ∷ rest) (subst (AreFilesOf (codes ".scr")) (sym e) each))
-  go None (Some f) files (e, packaged, name, each) = pack_out (head_is e)
-  go (Some p') d files (e, packaged, name, each) = subst IsPackage (sym (head_is (tail_is e))) packaged
+-- a word can't stand behind options and what was read behind them, where no command goes on so
+wrong_behind : (o : List TargetOption) (before : List Word) (word : Word) (after : List Word)
+    → CanBegin AreCommand (translate ∷ (words_of o ++ before))
+    → ((command : Command) (more : List Word) → Goes o (before ++ word ∷ more) command → ⊥)
+    → AreWrong (translate ∷ (words_of o ++ (before ++ word ∷ after))) (Some word)
+wrong_behind o before word after begins cannot =
+    subst (λ (z : List Word). AreWrong (translate ∷ z) (Some word)) (append_assoc (words_of o) before (word ∷ after))
+    (first_wrong (translate ∷ (words_of o ++ before)) word after begins (λ b.
+    cannot b.1.0 b.0 (goes_on o (before ++ word ∷ b.0) b.1.0 (subst (IsCommand b.1.0) (split b.0) b.1.1)))) where
+      split : (more : List Word) → ((translate ∷ (words_of o ++ before)) ++ word ∷ []) ++ more
+          ≡ translate ∷ (words_of o ++ (before ++ word ∷ more))
+      split more =
+          append_assoc (translate ∷ (words_of o ++ before)) (word ∷ []) more
+          ∙ ap (λ (z : List Word). translate ∷ z) (append_assoc (words_of o) before (word ∷ more))
 
-pack_is_none : (command : Command) → IsCommand command (translate ∷ pack ∷ []) → ⊥
-pack_is_none command is = let (q, d, files, same, b) = is_translate command (pack ∷ []) is in go q d files b where
-  go : (q d : Option Word) (files : List Word) → IsBehind (Translate q d files) (pack ∷ []) → ⊥
-  go None None files (e, packaged, name, each) = no_pack [] (subst (AreFilesOf (codes ".scr")) (sym e) each)
-  go None (Some f) files (e, packaged, name, each) = pack_out (head_is e)
-  go (Some p') d files (e, packaged, name, each) = filled (tail_is e)
+-- words end behind options and what was read behind them, where no command ends so
+few_behind : (o : List TargetOption) (before : List Word) → CanBegin AreCommand (translate ∷ (words_of o ++ before))
+    → ((command : Command) → Goes o before command → ⊥) → AreWrong (translate ∷ (words_of o ++ before)) None
+few_behind o before begins cannot = (begins, λ k. cannot k.0 (goes_on o before k.0 k.1))
 
-no_files : (command : Command) (package_name folder : Option Word)
-    → IsCommand command (translate ∷ (package_words package_name ++ (out_words folder ++ []))) → ⊥
-no_files command package_name folder is = (translate_files command package_name folder [] (unpacked folder) (λ n r. filled) is).0 refl where
-  unpacked : (folder : Option Word) → package_name ≡ None → (r : List Word) → out_words folder ++ [] ≡ pack ∷ r → ⊥
-  unpacked None n r e = filled e
-  unpacked (Some f) n r e = pack_out (sym (head_is e))
+-- where the words go on with the word of an option, that option stands there
+package_there : (more : List TargetOption) (rest files : List Word) → pack ∷ rest ≡ words_of more ++ files → AreFiles files
+    → (v : Word) × (others : List TargetOption) × (more ≡ Package v ∷ others) × (rest ≡ v ∷ (words_of others ++ files))
+package_there [] rest files e are = absurd (no_pack rest files e are)
+package_there (Package v ∷ xs) rest files e are = (v, xs, refl, tail_is e)
+package_there (Folder v ∷ xs) rest files e are = pack_out (head_is e)
 
--- ---- what is judged: where words are lacking, and where one can't follow
+folder_there : (more : List TargetOption) (rest files : List Word) → out ∷ rest ≡ words_of more ++ files → AreFiles files
+    → (v : Word) × (others : List TargetOption) × (more ≡ Folder v ∷ others) × (rest ≡ v ∷ (words_of others ++ files))
+folder_there [] rest files e are = absurd (no_out rest files e are)
+folder_there (Package v ∷ xs) rest files e are = pack_out (sym (head_is e))
+folder_there (Folder v ∷ xs) rest files e are = (v, xs, refl, tail_is e)
 
-pub few_pack : AreWrong (translate ∷ pack ∷ []) None
-few_pack = (begins_pack, λ k. pack_is_none k.0 k.1)
+-- where they go on with another word, only files stand there
+abbrev AreOver : List Word → Type 0
+AreOver files = ((more : List Word) → files ≡ pack ∷ more → ⊥) × ((more : List Word) → files ≡ out ∷ more → ⊥)
 
-pub wrong_package : (word : Word) (rest : List Word) → (IsPackage word → ⊥) → AreWrong (translate ∷ pack ∷ word ∷ rest) (Some word)
-wrong_package word rest isnt = wrong_at (translate ∷ pack ∷ []) (word ∷ rest) word rest refl begins_pack
-    (λ b. isnt (package_word b.1.0 word b.0 b.1.1))
+still_over : (before : List Word) (word : Word) (after more : List Word) → AreOver (before ++ word ∷ after) → AreOver (before ++ word ∷ more)
+still_over [] word after more (no_package, no_folder) = (
+  λ r e. no_package after (ap (λ (w : Word). w ∷ after) (head_is e)),
+  λ r e. no_folder after (ap (λ (w : Word). w ∷ after) (head_is e)),
+)
+still_over (b ∷ bs) word after more (no_package, no_folder) = (
+  λ r e. no_package (bs ++ word ∷ after) (ap (λ (w : Word). w ∷ (bs ++ word ∷ after)) (head_is e)),
+  λ r e. no_folder (bs ++ word ∷ after) (ap (λ (w : Word). w ∷ (bs ++ word ∷ after)) (head_is e)),
+)
 
-pub few_out : (package_name : Option Word) → IfSome package_name IsPackage → AreWrong (translate ∷ (package_words package_name ++ out ∷ [])) None
-few_out package_name packaged = (begins_out package_name packaged, λ k. out_is_none k.0 package_name k.1)
+only_files : (more : List TargetOption) (rest files : List Word) → rest ≡ words_of more ++ files → AreOver rest → AreFiles files →
+    AreFiles rest
+only_files [] rest files e over are = subst AreFiles (sym e) are
+only_files (Package v ∷ xs) rest files e over are = absurd (over.0 (v ∷ (words_of xs ++ files)) e)
+only_files (Folder v ∷ xs) rest files e over are = absurd (over.1 (v ∷ (words_of xs ++ files)) e)
 
-pub wrong_folder : (package_name : Option Word) → IfSome package_name IsPackage → (word : Word) (rest : List Word) → (IsFileName word → ⊥)
-    → AreWrong (translate ∷ (package_words package_name ++ out ∷ word ∷ rest)) (Some word)
-wrong_folder None packaged word rest isnt = wrong_at (translate ∷ out ∷ []) (word ∷ rest) word rest refl (begins_out None packaged)
-    (λ b. isnt (folder_word b.1.0 None word b.0 b.1.1))
-wrong_folder (Some p) packaged word rest isnt =
-    wrong_at (translate ∷ pack ∷ p ∷ out ∷ []) (word ∷ rest) word rest refl (begins_out (Some p) packaged)
-    (λ b. isnt (folder_word b.1.0 (Some p) word b.0 b.1.1))
+-- nothing stands behind options
+pub few_files : (o : List TargetOption) (p d : Option Word) → AreTargets p d o → AreWrong (translate ∷ (words_of o ++ [])) None
+few_files o p d h = few_behind o [] (begins_targets o p d h)
+    (λ command goes. (only_files goes.more [] goes.files goes.words (none_over, none_over) goes.are).0 refl) where
+      none_over : {w : Word} → (more : List Word) → ◌≡◌ {A = List Word} [] (w ∷ more) → ⊥
+      none_over more e = filled e
 
-pub few_files : (package_name folder : Option Word) (files : List Word) → IfSome package_name IsPackage → IfSome folder IsFileName → length files ≡ 0
-    → AreWrong (translate ∷ (package_words package_name ++ (out_words folder ++ files))) None
-few_files package_name folder files packaged name e =
-    subst (λ (z : List Word). AreWrong (translate ∷ (package_words package_name ++ (out_words folder ++ z))) None) (sym (empty_is files e)) (
-      begins_files package_name folder [] packaged name (none_yet _),
-      λ k. no_files k.0 package_name folder k.1,
-    )
+-- a word that is no file of a protocol
+pub wrong_file : (o : List TargetOption) (p d : Option Word) (files : List Word) (word : Word) → AreTargets p d o → AreOver files
+    → IsFirstOther (IsFileOf (codes ".scr")) files (Some word) → AreWrong (translate ∷ (words_of o ++ files)) (Some word)
+wrong_file o p d files word h over (before, after, is, each, isnt) =
+    subst (λ (z : List Word). AreWrong (translate ∷ (words_of o ++ z)) (Some word)) (sym is)
+    (wrong_behind o before word after (begins_files o p d before h each) (λ command more goes.
+    isnt (All-mid (IsFileOf (codes ".scr")) before word more
+    (only_files goes.more (before ++ word ∷ more) goes.files goes.words
+    (still_over before word after more (subst AreOver is over)) goes.are).1)))
 
-pub wrong_file : (package_name folder : Option Word) (files : List Word) (word : Word) → IfSome package_name IsPackage → IfSome folder IsFileName
-    → (package_name ≡ None → (r : List Word) → out_words folder ++ files ≡ pack ∷ r → ⊥)
-    → (folder ≡ None → (r : List Word) → files ≡ out ∷ r → ⊥)
-    → IsFirstOther (IsFileOf (codes ".scr")) files (Some word)
-    → AreWrong (translate ∷ (package_words package_name ++ (out_words folder ++ files))) (Some word)
-wrong_file package_name folder files word packaged name unpacked plain (before, after, is, each, isnt) = record {
-  before = translate ∷ (package_words package_name ++ (out_words folder ++ before));
-  after = after;
-  stands =
-      ap (λ (z : List Word). translate ∷ (package_words package_name ++ (out_words folder ++ z))) is ∙ sym (shifted (word ∷ after));
-  begins = begins_files package_name folder before packaged name each;
-  wrong = λ b. isnt (found b);
-} where
-  -- what stands before, and then more
-  shifted : (more : List Word) → (translate ∷ (package_words package_name ++ (out_words folder ++ before))) ++ more
-      ≡ translate ∷ (package_words package_name ++ (out_words folder ++ (before ++ more)))
-  shifted more =
-      ap (λ (z : List Word). translate ∷ z) (append_assoc (package_words package_name) (out_words folder ++ before) more
-      ∙ ap (λ (z : List Word). package_words package_name ++ z) (append_assoc (out_words folder) before more))
+pub lacks_files : (o : List TargetOption) (p d : Option Word) (files : List Word) → AreTargets p d o → length files ≡ 0
+    → AreWrong (translate ∷ (words_of o ++ files)) None
+lacks_files o p d files h none =
+    subst (λ (z : List Word). AreWrong (translate ∷ (words_of o ++ z)) None) (sym (empty_is files none)) (few_files o p d h)
 
-  still_unpacked : (folder' : Option Word) → (package_name ≡ None → (r : List Word) → out_words folder' ++ files ≡ pack ∷ r → ⊥)
-      → (more : List Word) → package_name ≡ None → (r : List Word) → out_words folder' ++ (before ++ word ∷ more) ≡ pack ∷ r → ⊥
-  still_unpacked None free more n = still_plain pack before word after more (λ r e. free n r (is ∙ e))
-  still_unpacked (Some f) free more n = λ r e. pack_out (sym (head_is e))
-
-  found : CanBegin AreCommand ((translate ∷ (package_words package_name ++ (out_words folder ++ before))) ++ word ∷ [])
-      → IsFileOf (codes ".scr") word
-  found (more, (command, k)) =
-      let split = append_assoc (translate ∷ (package_words package_name ++ (out_words folder ++ before))) (word ∷ []) more
-      ∙ shifted (word ∷ more) in
-      let there = subst (IsCommand command) split k in
-      let still = λ (n : folder ≡ None). still_plain out before word after more (λ r e. plain n r (is ∙ e)) in
-      All-mid (IsFileOf (codes ".scr")) before word more
-      (translate_files command package_name folder (before ++ word ∷ more) (still_unpacked folder unpacked more) still there).1
+-- options and files are the command
+pub are_translate : (o : List TargetOption) (p d : Option Word) (files : List Word) → AreTargets p d o → eqb (length files) 0 ≡ false
+    → All (IsFileOf (codes ".scr")) files → IsCommand (Translate p d files) (translate ∷ (words_of o ++ files))
+are_translate o p d files h some each = (words_of o ++ files, refl, (o, refl, h, (not_none files some, each))) where
+  not_none : (xs : List Word) → eqb (length xs) 0 ≡ false → xs ≢ []
+  not_none xs e n = never_both (eqb (length xs) 0) (ap (λ (z : List Word). eqb (length z) 0) n) e
 
 -- ---- words are one such command at most
 
 pub same_translate : (command : Command) (package_name folder : Option Word) (files rest : List Word)
-    → IsBehind (Translate package_name folder files) rest → IsCommand command (translate ∷ rest) → Translate package_name folder files ≡ command
-same_translate command package_name folder files rest (e, packaged, name, each) is =
-    let (q, d, g, same, (e', packaged', name', each')) = is_translate command rest is in
-    let (one, other, third) = same_words package_name q folder d files g (sym e ∙ e') each each' in
-    (λ i. Translate (one i) (other i) (third i)) ∙ sym same
-  where
-    same_words : (c q a d : Option Word) (f g : List Word)
-        → package_words c ++ (out_words a ++ f) ≡ package_words q ++ (out_words d ++ g) → AreFilesOf (codes ".scr") f
-        → AreFilesOf (codes ".scr") g → (c ≡ q) × (a ≡ d) × (f ≡ g)
-    same_words None None a d f g e h h' =
-        let (there, behind) = same_folder (AreFilesOf (codes ".scr")) no_file a d f g e h h' in (refl, there, behind)
-    same_words None (Some p) None d f g e h h' = absurd (no_pack (p ∷ (out_words d ++ g)) (subst (AreFilesOf (codes ".scr")) e h))
-    same_words None (Some p) (Some b) d f g e h h' = pack_out (sym (head_is e))
-    same_words (Some p) None a None f g e h h' = absurd (no_pack (p ∷ (out_words a ++ f)) (subst (AreFilesOf (codes ".scr")) (sym e) h'))
-    same_words (Some p) None a (Some b) f g e h h' = pack_out (head_is e)
-    same_words (Some p) (Some p') a d f g e h h' =
-        let (there, behind) = same_folder (AreFilesOf (codes ".scr")) no_file a d f g (tail_is (tail_is e)) h h' in
-        (ap Some (head_is (tail_is e)), there, behind)
+    → IsBehind (Translate package_name folder files) rest → IsCommand command (translate ∷ rest) → Translate package_name folder files
+    ≡ command
+same_translate command package_name folder files rest (o, e, how, are) is =
+    let goes = goes_on o files command (subst (λ (z : List Word). IsCommand command (translate ∷ z)) e is) in
+    go goes.p goes.d goes.more goes.files goes.same goes.words goes.all where
+      go : (p d : Option Word) (more : List TargetOption) (files' : List Word) → command ≡ Translate p d files' → files ≡ words_of more
+          ++ files'
+          → AreTargets p d (o ++ more) → Translate package_name folder files ≡ command
+      go p d [] files' same words all =
+          let total : AreTargets p d o = subst (AreTargets p d) (at_end o) all in
+          let one : package_name ≡ p = same_value package_name p (sym how.packages ∙ total.packages) in
+          let other : folder ≡ d = same_value folder d (sym how.folders ∙ total.folders) in
+          (λ i. Translate (one i) (other i) (words i)) ∙ sym same
+      go p d (x ∷ xs) files' same words all =
+          absurd (no_target x (words_of xs ++ files') files
+          (sym (words ∙ append_assoc (target_words x) (words_of xs) files')) are)
 
 -- ---- words in the code
 
--- an option of a package, seen through a reference
-pub named_package : (package_name : Option (Bor Word)) → IfSome package_name (λ p. IsPackage p.now)
-    → IfSome (option_map (λ p. p.now) package_name) IsPackage
-named_package None h = tt
-named_package (Some p) h = h
+-- what an option names, seen through references
+abbrev pub seen : Option (Bor Word) → Option Word
+seen = option_map (λ w. w.now)
 
-pub no_package : (package_name : Option (Bor Word)) → option_map (λ p. p.now) package_name ≡ None → package_name ≡ None
-no_package None e = refl
-no_package (Some p) e = let no : ⊥ = cc in absurd no
+pub begun : (words : List Word) → AreTargeted words None None words
+begun words = record { options = []; stand = refl; are = none_targeted }
 
--- words whose package is lacking, or can't be one
-pub wrong_packaged : (words : List Word) (word : Option (Bor Word)) → IsPackaged words (placed.Wrong word)
-    → AreWrong (translate ∷ words) (option_map (λ w. w.now) word)
-wrong_packaged words None e = subst (λ (z : List Word). AreWrong (translate ∷ z) None) (sym e) few_pack
-wrong_packaged words (Some word) (rest, e, isnt) =
-    subst (λ (z : List Word). AreWrong (translate ∷ z) (Some word.now)) (sym e) (wrong_package word.now rest isnt)
+is_none : (v : Option (Bor Word)) → is_some v ≡ false → seen v ≡ None
+is_none None e = refl
+is_none (Some w) e = absurd cc
 
--- behind a package, or where none is named: words whose folder is lacking, or can't be one
-pub wrong_placed : (package_name : Option Word) → IfSome package_name IsPackage → (words : List Word) (word : Option (Bor Word))
-    → IsPlaced words (placed.Wrong word) → AreWrong (translate ∷ (package_words package_name ++ words)) (option_map (λ w. w.now) word)
-wrong_placed package_name packaged words None e =
-    subst (λ (z : List Word). AreWrong (translate ∷ (package_words package_name ++ z)) None) (sym e) (few_out package_name packaged)
-wrong_placed package_name packaged words (Some word) (rest, e, isnt) =
-    subst (λ (z : List Word). AreWrong (translate ∷ (package_words package_name ++ z)) (Some word.now)) (sym e)
-    (wrong_folder package_name packaged word.now rest isnt)
+-- a package was read
+pub package_at : (words : List Word) (p d : Option (Bor Word)) (rest : List Word) (word value : Word) (behind left : List Word)
+    → AreTargeted words (seen p) (seen d) rest → is_some p ≡ false → rest ≡ word ∷ behind → word ≡ pack → behind ≡ value ∷ left
+    → IsPackage value → AreTargeted words (Some value) (seen d) left
+package_at words p d rest word value behind left h free is name is' packaged = record {
+  options = h.options ++ Package value ∷ [];
+  stand =
+      h.stand ∙ ap (λ (z : List Word). words_of h.options ++ z) (is ∙ (λ i. name i ∷ is' i))
+      ∙ sym (append_assoc (words_of h.options) (pack ∷ value ∷ []) left)
+      ∙ ap (λ (z : List Word). z ++ left) (sym (words_on h.options (Package value ∷ [])));
+  are = with_package h.options (seen d) value
+      (subst (λ (z : Option Word). AreTargets z (seen d) h.options) (is_none p free) h.are) packaged;
+}
 
--- and words with a folder, or without one, and then these files
-pub placed_at : (package_name : Option Word) (words before files : List Word) (word : Option Word) → words ≡ before ++ files
-    → AreWrong (translate ∷ (package_words package_name ++ (before ++ files))) word → AreWrong (translate ∷ (package_words package_name ++ words)) word
-placed_at package_name words before files word e h =
-    subst (λ (z : List Word). AreWrong (translate ∷ (package_words package_name ++ z)) word) (sym e) h
+pub folder_at : (words : List Word) (p d : Option (Bor Word)) (rest : List Word) (word value : Word) (behind left : List Word)
+    → AreTargeted words (seen p) (seen d) rest → is_some d ≡ false → rest ≡ word ∷ behind → word ≡ out → behind ≡ value ∷ left
+    → IsFileName value → AreTargeted words (seen p) (Some value) left
+folder_at words p d rest word value behind left h free is name is' placed = record {
+  options = h.options ++ Folder value ∷ [];
+  stand =
+      h.stand ∙ ap (λ (z : List Word). words_of h.options ++ z) (is ∙ (λ i. name i ∷ is' i))
+      ∙ sym (append_assoc (words_of h.options) (out ∷ value ∷ []) left)
+      ∙ ap (λ (z : List Word). z ++ left) (sym (words_on h.options (Folder value ∷ [])));
+  are = with_folder h.options (seen p) value
+      (subst (λ (z : Option Word). AreTargets (seen p) z h.options) (is_none d free) h.are) placed;
+}
+
+-- an option was named before
+taken : {P : Type 0} (v : Option (Bor Word)) → is_some v ≡ true → seen v ≡ None → P
+taken None e n = absurd cc
+taken (Some w) e n = absurd cc
+
+pub package_twice : (words : List Word) (p d : Option (Bor Word)) (rest : List Word) (word : Word) (behind : List Word)
+    → AreTargeted words (seen p) (seen d) rest → is_some p ≡ true → rest ≡ word ∷ behind → word ≡ pack → AreWrong (translate ∷ words) (Some word)
+package_twice words p d rest word behind h is_there is name =
+    subst (λ (z : List Word). AreWrong (translate ∷ z) (Some word)) (sym (h.stand ∙ ap (λ (z : List Word). words_of h.options ++ z) is))
+    (wrong_behind h.options [] word behind (begins_targets h.options (seen p) (seen d) h.are) (λ command more goes.
+    let (v, others, at, rest_is) =
+    package_there goes.more more goes.files (ap (λ (w : Word). w ∷ more) (sym name) ∙ goes.words) goes.are in
+    taken p is_there (package_free h.options others (seen p) goes.p goes.d v h.are.packages
+    (subst (λ (z : List TargetOption). AreTargets goes.p goes.d (h.options ++ z)) at goes.all))))
+
+pub folder_twice : (words : List Word) (p d : Option (Bor Word)) (rest : List Word) (word : Word) (behind : List Word)
+    → AreTargeted words (seen p) (seen d) rest → is_some d ≡ true → rest ≡ word ∷ behind → word ≡ out → AreWrong (translate ∷ words) (Some word)
+folder_twice words p d rest word behind h is_there is name =
+    subst (λ (z : List Word). AreWrong (translate ∷ z) (Some word)) (sym (h.stand ∙ ap (λ (z : List Word). words_of h.options ++ z) is))
+    (wrong_behind h.options [] word behind (begins_targets h.options (seen p) (seen d) h.are) (λ command more goes.
+    let (v, others, at, rest_is) =
+    folder_there goes.more more goes.files (ap (λ (w : Word). w ∷ more) (sym name) ∙ goes.words) goes.are in
+    taken d is_there (folder_free h.options others (seen d) goes.p goes.d v h.are.folders
+    (subst (λ (z : List TargetOption). AreTargets goes.p goes.d (h.options ++ z)) at goes.all))))
+
+-- the value of an option is lacking, or can't be one
+module _ (words : List Word) (p d : Option (Bor Word)) (rest : List Word) (word : Word) (behind : List Word)
+    (h : AreTargeted words (seen p) (seen d) rest) (is : rest ≡ word ∷ behind) where
+  begins_package : is_some p ≡ false → CanBegin AreCommand (translate ∷ (words_of h.options ++ pack ∷ []))
+  begins_package free =
+      begins_option h.options (Package some_package) (Some some_package) (seen d)
+      (with_package h.options (seen d) some_package
+      (subst (λ (z : Option Word). AreTargets z (seen d) h.options) (is_none p free) h.are) some_packaged)
+
+  begins_folder : is_some d ≡ false → CanBegin AreCommand (translate ∷ (words_of h.options ++ out ∷ []))
+  begins_folder free =
+      begins_option h.options (Folder some_class) (seen p) (Some some_class)
+      (with_folder h.options (seen p) some_class
+      (subst (λ (z : Option Word). AreTargets (seen p) z h.options) (is_none d free) h.are) folder_named)
+
+  pub few_package : is_some p ≡ false → word ≡ pack → length behind ≡ 0 → AreWrong (translate ∷ words) None
+  few_package free name none =
+      subst (λ (z : List Word). AreWrong (translate ∷ z) None)
+      (sym (h.stand ∙ ap (λ (z : List Word). words_of h.options ++ z) (is ∙ (λ i. name i ∷ empty_is behind none i))))
+      (few_behind h.options (pack ∷ []) (begins_package free) (λ command goes.
+      filled (package_there goes.more [] goes.files goes.words goes.are).3))
+
+  pub few_folder : is_some d ≡ false → word ≡ out → length behind ≡ 0 → AreWrong (translate ∷ words) None
+  few_folder free name none =
+      subst (λ (z : List Word). AreWrong (translate ∷ z) None)
+      (sym (h.stand ∙ ap (λ (z : List Word). words_of h.options ++ z) (is ∙ (λ i. name i ∷ empty_is behind none i))))
+      (few_behind h.options (out ∷ []) (begins_folder free) (λ command goes.
+      filled (folder_there goes.more [] goes.files goes.words goes.are).3))
+
+  pub wrong_package : (value : Word) (left : List Word) → is_some p ≡ false → word ≡ pack → behind ≡ value ∷ left → (IsPackage value → ⊥)
+      → AreWrong (translate ∷ words) (Some value)
+  wrong_package value left free name is' isnt =
+      subst (λ (z : List Word). AreWrong (translate ∷ z) (Some value))
+      (sym (h.stand ∙ ap (λ (z : List Word). words_of h.options ++ z) (is ∙ (λ i. name i ∷ is' i))))
+      (wrong_behind h.options (pack ∷ []) value left (begins_package free) (λ command more goes.
+      let (v, others, at, rest_is) = package_there goes.more (value ∷ more) goes.files goes.words goes.are in
+      let right : IsTarget (Package v) =
+      All-mid IsTarget h.options (Package v) others
+      (subst (λ (z : List TargetOption). AreTargets goes.p goes.d (h.options ++ z)) at goes.all).right in
+      isnt (subst IsPackage (sym (head_is rest_is)) right)))
+
+  pub wrong_folder : (value : Word) (left : List Word) → is_some d ≡ false → word ≡ out → behind ≡ value ∷ left → (IsFileName value → ⊥)
+      → AreWrong (translate ∷ words) (Some value)
+  wrong_folder value left free name is' isnt =
+      subst (λ (z : List Word). AreWrong (translate ∷ z) (Some value))
+      (sym (h.stand ∙ ap (λ (z : List Word). words_of h.options ++ z) (is ∙ (λ i. name i ∷ is' i))))
+      (wrong_behind h.options (out ∷ []) value left (begins_folder free) (λ command more goes.
+      let (v, others, at, rest_is) = folder_there goes.more (value ∷ more) goes.files goes.words goes.are in
+      let right : IsTarget (Folder v) =
+      All-mid IsTarget h.options (Folder v) others
+      (subst (λ (z : List TargetOption). AreTargets goes.p goes.d (h.options ++ z)) at goes.all).right in
+      isnt (subst IsFileName (sym (head_is rest_is)) right)))
+
+-- the words end behind options
+pub end_at : (words : List Word) (p d : Option Word) (rest : List Word) → AreTargeted words p d rest → length rest ≡ 0
+    → AreWrong (translate ∷ words) None
+end_at words p d rest h none =
+    subst (λ (z : List Word). AreWrong (translate ∷ z) None)
+    (sym (h.stand ∙ ap (λ (z : List Word). words_of h.options ++ z) (empty_is rest none))) (few_files h.options p d h.are)
+
+pub other_word : (rest : List Word) (word other : Word) (behind : List Word) → rest ≡ word ∷ behind → (word ≡ other → ⊥)
+    → (more : List Word) → rest ≡ other ∷ more → ⊥
+other_word rest word other behind is isnt more e = isnt (head_is (sym is ∙ e))

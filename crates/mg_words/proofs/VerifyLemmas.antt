@@ -1,11 +1,10 @@
 -- Which words are the command `verify`, and which can't follow.
-use Rattle.std.proofs.Common.{◌≡◌, List, [], ◌∷◌, ◌++◌, All, length, Some, None, codes, refl, sym, ap, ◌∙◌, subst, append_assoc}
-use Rattle.mg_words.specs.Words.{Word, Command, Translate, Conform, Check, Compile, Run, Exec, Refine, Project, Load, Verify, IsFileOf}
+use Rattle.std.proofs.Common.{◌≡◌, List, [], ◌∷◌, ◌++◌, All, length, Some, None, codes, refl, sym, ap, ◌∙◌, subst, append_assoc, arith}
+use Rattle.mg_words.specs.Words.{Word, Command, Verify, IsFileOf}
 use Rattle.mg_words.specs.Words.{AreFilesOf}
 use Rattle.mg_words.specs.Words.{IsBehind, IsCommand, AreCommand, CanBegin, AreWrong}
 use Rattle.mg_words.specs.inner.Judging.{IsFirstOther}
-use Rattle.mg_words.proofs.Verbs.{verify, translate_verify, conform_verify, check_verify, compile_verify, run_verify, exec_verify}
-use Rattle.mg_words.proofs.Verbs.{refine_verify, project_verify, load_verify}
+use Rattle.mg_words.proofs.Verbs.{verify, mark}
 use Rattle.mg_words.proofs.WordsLemmas.{head_is, tail_is, few, pushed_filled, none_yet, All-push, All-mid}
 
 named : IsFileOf (codes ".class") (codes "P.class")
@@ -31,16 +30,8 @@ begins_verify = begins_files [] (none_yet _)
 -- the word tells the command
 pub is_verify : (command : Command) (rest : List Word) → IsCommand command (verify ∷ rest)
     → (files : List Word) × (command ≡ Verify files) × IsBehind (Verify files) rest
-is_verify (Translate package_name folder files) rest (r, e, b) = translate_verify (sym (head_is e))
-is_verify (Conform files) rest (r, e, b) = conform_verify (sym (head_is e))
-is_verify (Check files) rest (r, e, b) = check_verify (sym (head_is e))
-is_verify (Compile folder files) rest (r, e, b) = compile_verify (sym (head_is e))
-is_verify (Run asked files) rest (r, e, b) = run_verify (sym (head_is e))
-is_verify (Exec asked files) rest (r, e, b) = exec_verify (sym (head_is e))
-is_verify (Refine files) rest (r, e, b) = refine_verify (sym (head_is e))
-is_verify (Project folder files) rest (r, e, b) = project_verify (sym (head_is e))
-is_verify (Load branches seed) rest (r, e, b) = load_verify (sym (head_is e))
 is_verify (Verify files) rest (r, e, b) = (files, refl, subst (IsBehind (Verify files)) (sym (tail_is e)) b)
+is_verify other rest (r, e, b) = absurd (omega (arith, ap mark (head_is e)))
 
 -- what stands behind it are class files
 verify_files : (command : Command) (rest : List Word) → IsCommand command (verify ∷ rest) → AreFilesOf (codes ".class") rest

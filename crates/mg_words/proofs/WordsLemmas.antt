@@ -1,5 +1,5 @@
 -- Which words are a command, and which can't follow: of `conform`, `check` and `compile`, and what others need too.
-use Rattle.std.proofs.Common.{◌≡◌, ℕ, ◌<◌, ◌≤◌, ◌⊎◌, inl, inr, List, [], ◌∷◌, ◌++◌, All, length, get_or, take, drop, take-append-drop}
+use Rattle.std.proofs.Common.{◌≡◌, ℕ, ◌<◌, ◌≤◌, List, [], ◌∷◌, ◌++◌, All, length, get_or, take, drop, take-append-drop}
 use Rattle.std.proofs.Common.{drop-cons, ◌-◌, zero, suc, Option, Some, None, Bool, true, false, ◌&&◌, eqb, codes, refl, sym, ap, ◌∙◌, subst}
 use Rattle.std.proofs.Common.{arith, append_assoc, length-append, Bor}
 use Rattle.std.specs.Prelude.{IfSome, option_map}
@@ -9,19 +9,11 @@ use Rattle.std.specs.List.{ends_with, list_all}
 use Rattle.mg_read.specs.Passes.{AllPasses}
 use Rattle.scr_tree.specs.Words.{reserved, IsName}
 use Rattle.mg_sources.specs.Files.{EndsWith, Kind, Scribble, Typestates, Java, suffix_of, HaveKinds}
-use Rattle.mg_words.specs.Words.{Word, Command, Translate, Conform, Check, Compile, Run, Exec, Refine, Project, Load, Verify, Asked}
+use Rattle.mg_words.specs.Words.{Word, Command, Translate, Conform, Check, Compile, Run, Exec, Refine, Project, Load, Verify, Fit, Asked}
 use Rattle.mg_words.specs.Words.{AreOptions}
-use Rattle.api_package.specs.Package.{IsPackage}
-use Rattle.mg_words.specs.Words.{AreProtocolAndCalls, IsFileName, IsFileOf, IsSourceName, AreSourceNames, AreFilesOf, out_words, verb}
-use Rattle.mg_words.specs.Words.{package_words}
+use Rattle.mg_words.specs.Words.{AreProtocolAndCalls, IsFileName, IsFileOf, IsSourceName, AreSourceNames, out_words, verb}
 use Rattle.mg_words.specs.Words.{IsBehind, IsCommand, AreCommand, CanBegin, AreWrong}
-use Rattle.mg_words.proofs.Verbs.{translate, conform, check, compile, run, exec, refine, project, load, translate_conform, translate_check}
-use Rattle.mg_words.proofs.Verbs.{translate_compile, translate_run, conform_check, conform_compile, conform_run, check_compile, check_run}
-use Rattle.mg_words.proofs.Verbs.{compile_run, translate_exec, conform_exec, check_exec, compile_exec, run_exec, translate_refine}
-use Rattle.mg_words.proofs.Verbs.{conform_refine, check_refine, compile_refine, run_refine, exec_refine, translate_project, conform_project}
-use Rattle.mg_words.proofs.Verbs.{check_project, compile_project, run_project, exec_project, translate_load, conform_load, check_load}
-use Rattle.mg_words.proofs.Verbs.{compile_load, run_load, exec_load}
-use Rattle.mg_words.proofs.Verbs.{verify, translate_verify, conform_verify, check_verify, compile_verify, run_verify, exec_verify}
+use Rattle.mg_words.proofs.Verbs.{translate, conform, check, compile, run, exec, refine, project, load, verify, fit, mark}
 use Rattle.mg_words.specs.declared.runs.Input.{Input}
 use Rattle.mg_words.specs.declared.runs.Input.TheVariants as input
 use Rattle.mg_words.specs.declared.words.Placed.TheVariants as placed
@@ -118,30 +110,6 @@ pub pushed_filled : (xs : List Word) (x : Word) → xs ++ x ∷ [] ≡ [] → �
 pushed_filled [] x e = cc
 pushed_filled (y ∷ ys) x e = cc
 
--- options and files can be followed by a file
-pub begins_files : (package_name folder : Option Word) (before : List Word) → IfSome package_name IsPackage → IfSome folder IsFileName
-    → All (IsFileOf (codes ".scr")) before → CanBegin AreCommand (translate ∷ (package_words package_name ++ (out_words folder ++ before)))
-begins_files package_name folder before packaged name each = (
-  some_source ∷ [],
-  (
-    Translate package_name folder (before ++ some_source ∷ []),
-    (
-      (package_words package_name ++ (out_words folder ++ before)) ++ some_source ∷ [],
-      refl,
-      (
-        append_assoc (package_words package_name) (out_words folder ++ before) (some_source ∷ [])
-            ∙ ap (λ (z : List Word). package_words package_name ++ z) (append_assoc (out_words folder) before (some_source ∷ [])),
-        packaged,
-        name,
-        (pushed_filled before some_source, All-push (IsFileOf (codes ".scr")) before some_source each named),
-      ),
-    ),
-  ),
-)
-
-pub begins_empty : CanBegin AreCommand []
-begins_empty = let b = begins_files None None [] tt tt (none_yet _) in (translate ∷ b.0, b.1)
-
 begins_calls : (protocol calls : Word) → IsFileOf (codes ".scr") protocol → IsFileName calls
     → CanBegin AreCommand (conform ∷ protocol ∷ calls ∷ [])
 begins_calls protocol calls h h' = (
@@ -174,6 +142,9 @@ begins_sources before each = (
 begins_check : CanBegin AreCommand (check ∷ [])
 begins_check = begins_sources [] (none_yet _)
 
+pub begins_empty : CanBegin AreCommand []
+begins_empty = let b = begins_check in (check ∷ b.0, b.1)
+
 -- the same of compile
 begins_classes : (folder : Option Word) (before : List Word) → IfSome folder IsFileName → All IsSourceName before
     → CanBegin AreCommand (compile ∷ (out_words folder ++ before))
@@ -198,79 +169,31 @@ begins_class_out = let b = begins_classes (Some some_class) [] is_name (none_yet
 
 -- ---- what words of a command are
 
--- its first word is one of the verbs
-first_word : (command : Command)
-    → (verb command ≡ translate) ⊎ (verb command ≡ conform) ⊎ (verb command ≡ check) ⊎ (verb command ≡ compile) ⊎ (verb command ≡ run)
-    ⊎ (verb command ≡ exec) ⊎ (verb command ≡ refine) ⊎ (verb command ≡ project) ⊎ (verb command ≡ load)
-    ⊎ (verb command ≡ verify)
-first_word (Translate package_name folder files) = inl refl
-first_word (Conform files) = inr (inl refl)
-first_word (Check files) = inr (inr (inl refl))
-first_word (Compile folder files) = inr (inr (inr (inl refl)))
-first_word (Run asked files) = inr (inr (inr (inr (inl refl))))
-first_word (Exec asked files) = inr (inr (inr (inr (inr (inl refl)))))
-first_word (Refine files) = inr (inr (inr (inr (inr (inr (inl refl))))))
-first_word (Project folder files) = inr (inr (inr (inr (inr (inr (inr (inl refl)))))))
-first_word (Load branches seed) = inr (inr (inr (inr (inr (inr (inr (inr (inl refl))))))))
-first_word (Verify files) = inr (inr (inr (inr (inr (inr (inr (inr (inr refl))))))))
-
 none_is_none : (command : Command) → IsCommand command [] → ⊥
 none_is_none command (rest, e, b) = filled e
 
--- and tells the command
+-- its first word tells the command
 pub is_translate : (command : Command) (rest : List Word) → IsCommand command (translate ∷ rest)
     → (package_name folder : Option Word) × (files : List Word) × (command ≡ Translate package_name folder files)
     × IsBehind (Translate package_name folder files) rest
 is_translate (Translate package_name folder files) rest (r, e, b) =
     (package_name, folder, files, refl, subst (IsBehind (Translate package_name folder files)) (sym (tail_is e)) b)
-is_translate (Conform files) rest (r, e, b) = translate_conform (head_is e)
-is_translate (Check files) rest (r, e, b) = translate_check (head_is e)
-is_translate (Compile folder files) rest (r, e, b) = translate_compile (head_is e)
-is_translate (Run asked files) rest (r, e, b) = translate_run (head_is e)
-is_translate (Exec asked files) rest (r, e, b) = translate_exec (head_is e)
-is_translate (Refine files) rest (r, e, b) = translate_refine (head_is e)
-is_translate (Project folder files) rest (r, e, b) = translate_project (head_is e)
-is_translate (Load branches seed) rest (r, e, b) = translate_load (head_is e)
-is_translate (Verify files) rest (r, e, b) = translate_verify (head_is e)
+is_translate other rest (r, e, b) = absurd (omega (arith, ap mark (head_is e)))
 
 pub is_conform : (command : Command) (rest : List Word) → IsCommand command (conform ∷ rest)
     → (files : List Word) × (command ≡ Conform files) × IsBehind (Conform files) rest
-is_conform (Translate package_name folder files) rest (r, e, b) = translate_conform (sym (head_is e))
 is_conform (Conform files) rest (r, e, b) = (files, refl, subst (IsBehind (Conform files)) (sym (tail_is e)) b)
-is_conform (Check files) rest (r, e, b) = conform_check (head_is e)
-is_conform (Compile folder files) rest (r, e, b) = conform_compile (head_is e)
-is_conform (Run asked files) rest (r, e, b) = conform_run (head_is e)
-is_conform (Exec asked files) rest (r, e, b) = conform_exec (head_is e)
-is_conform (Refine files) rest (r, e, b) = conform_refine (head_is e)
-is_conform (Project folder files) rest (r, e, b) = conform_project (head_is e)
-is_conform (Load branches seed) rest (r, e, b) = conform_load (head_is e)
-is_conform (Verify files) rest (r, e, b) = conform_verify (head_is e)
+is_conform other rest (r, e, b) = absurd (omega (arith, ap mark (head_is e)))
 
 pub is_check : (command : Command) (rest : List Word) → IsCommand command (check ∷ rest)
     → (files : List Word) × (command ≡ Check files) × IsBehind (Check files) rest
-is_check (Translate package_name folder files) rest (r, e, b) = translate_check (sym (head_is e))
-is_check (Conform files) rest (r, e, b) = conform_check (sym (head_is e))
 is_check (Check files) rest (r, e, b) = (files, refl, subst (IsBehind (Check files)) (sym (tail_is e)) b)
-is_check (Compile folder files) rest (r, e, b) = check_compile (head_is e)
-is_check (Run asked files) rest (r, e, b) = check_run (head_is e)
-is_check (Exec asked files) rest (r, e, b) = check_exec (head_is e)
-is_check (Refine files) rest (r, e, b) = check_refine (head_is e)
-is_check (Project folder files) rest (r, e, b) = check_project (head_is e)
-is_check (Load branches seed) rest (r, e, b) = check_load (head_is e)
-is_check (Verify files) rest (r, e, b) = check_verify (head_is e)
+is_check other rest (r, e, b) = absurd (omega (arith, ap mark (head_is e)))
 
 pub is_compile : (command : Command) (rest : List Word) → IsCommand command (compile ∷ rest)
     → (folder : Option Word) × (files : List Word) × (command ≡ Compile folder files) × IsBehind (Compile folder files) rest
-is_compile (Translate package_name folder files) rest (r, e, b) = translate_compile (sym (head_is e))
-is_compile (Conform files) rest (r, e, b) = conform_compile (sym (head_is e))
-is_compile (Check files) rest (r, e, b) = check_compile (sym (head_is e))
 is_compile (Compile folder files) rest (r, e, b) = (folder, files, refl, subst (IsBehind (Compile folder files)) (sym (tail_is e)) b)
-is_compile (Run asked files) rest (r, e, b) = compile_run (head_is e)
-is_compile (Exec asked files) rest (r, e, b) = compile_exec (head_is e)
-is_compile (Refine files) rest (r, e, b) = compile_refine (head_is e)
-is_compile (Project folder files) rest (r, e, b) = compile_project (head_is e)
-is_compile (Load branches seed) rest (r, e, b) = compile_load (head_is e)
-is_compile (Verify files) rest (r, e, b) = compile_verify (head_is e)
+is_compile other rest (r, e, b) = absurd (omega (arith, ap mark (head_is e)))
 
 -- what stands behind the word of a run
 abbrev pub IsRunBehind : Input → Asked → (files rest : List Word) → Type 0
@@ -279,27 +202,11 @@ IsRunBehind k asked files rest = (options : List Word) × (rest ≡ options ++ f
 
 pub is_run : (k : Input) (command : Command) (rest : List Word) → IsCommand command (verb_of k ∷ rest)
     → (asked : Asked) × (files : List Word) × (command ≡ made k asked files) × IsRunBehind k asked files rest
-is_run input.Sources (Translate package_name folder files) rest (r, e, b) = translate_run (sym (head_is e))
-is_run input.Sources (Conform files) rest (r, e, b) = conform_run (sym (head_is e))
-is_run input.Sources (Check files) rest (r, e, b) = check_run (sym (head_is e))
-is_run input.Sources (Compile folder files) rest (r, e, b) = compile_run (sym (head_is e))
 is_run input.Sources (Run asked files) rest (r, e, (options, is, how, are)) = (asked, files, refl, (options, tail_is e ∙ is, how, tt, are))
-is_run input.Sources (Exec asked files) rest (r, e, b) = run_exec (head_is e)
-is_run input.Sources (Refine files) rest (r, e, b) = run_refine (head_is e)
-is_run input.Sources (Project folder files) rest (r, e, b) = run_project (head_is e)
-is_run input.Sources (Load branches seed) rest (r, e, b) = run_load (head_is e)
-is_run input.Sources (Verify files) rest (r, e, b) = run_verify (head_is e)
-is_run input.Classes (Translate package_name folder files) rest (r, e, b) = translate_exec (sym (head_is e))
-is_run input.Classes (Conform files) rest (r, e, b) = conform_exec (sym (head_is e))
-is_run input.Classes (Check files) rest (r, e, b) = check_exec (sym (head_is e))
-is_run input.Classes (Compile folder files) rest (r, e, b) = compile_exec (sym (head_is e))
-is_run input.Classes (Run asked files) rest (r, e, b) = run_exec (sym (head_is e))
+is_run input.Sources other rest (r, e, b) = absurd (omega (arith, ap mark (head_is e)))
 is_run input.Classes (Exec asked files) rest (r, e, (options, is, how, none, are)) =
     (asked, files, refl, (options, tail_is e ∙ is, how, none, are))
-is_run input.Classes (Refine files) rest (r, e, b) = exec_refine (head_is e)
-is_run input.Classes (Project folder files) rest (r, e, b) = exec_project (head_is e)
-is_run input.Classes (Load branches seed) rest (r, e, b) = exec_load (head_is e)
-is_run input.Classes (Verify files) rest (r, e, b) = exec_verify (head_is e)
+is_run input.Classes other rest (r, e, b) = absurd (omega (arith, ap mark (head_is e)))
 
 -- and such words are that command
 pub run_is : (k : Input) (asked : Asked) (files rest : List Word) → IsRunBehind k asked files rest →
@@ -308,9 +215,6 @@ run_is input.Sources asked files rest (options, is, how, keeps, are) = (rest, re
 run_is input.Classes asked files rest h = (rest, refl, h)
 
 -- the option isn't a file
-pub no_file : (rest : List Word) → AreFilesOf (codes ".scr") (out ∷ rest) → ⊥
-no_file rest (_, each) = let first : IsFileOf (codes ".scr") out = All-first (IsFileOf (codes ".scr")) out rest each in first.0 refl
-
 pub no_source : (rest : List Word) → AreSourceNames (out ∷ rest) → ⊥
 no_source rest (_, each) = let first : IsSourceName out = All-first IsSourceName out rest each in first.0 refl
 
@@ -427,32 +331,23 @@ pub wrong_at : (before rest : List Word) (word : Word) (more : List Word) → re
 wrong_at before rest word more e can cannot = subst (λ (ws : List Word). AreWrong (before ++ ws) (Some word)) (sym e)
     (first_wrong before word more can cannot)
 
-pub wrong_command : (rest : List Word) (word : Word) (more : List Word) → rest ≡ word ∷ more → (word ≡ translate → ⊥)
-    → (word ≡ conform → ⊥)
+pub wrong_command : (word : Word) (rest : List Word) → (word ≡ fit → ⊥) → (word ≡ translate → ⊥) → (word ≡ conform → ⊥)
     → (word ≡ check → ⊥) → (word ≡ compile → ⊥) → (word ≡ run → ⊥) → (word ≡ exec → ⊥) → (word ≡ refine → ⊥)
-    → (word ≡ project → ⊥) → (word ≡ load → ⊥) → (word ≡ verify → ⊥) → AreWrong rest (Some word)
-wrong_command rest word more e is_no_translate is_no_conform is_no_check is_no_compile is_no_run is_no_exec is_no_refine is_no_project
-    is_no_load is_no_verify =
-    wrong_at [] rest word more e begins_empty (λ b. cannot b.0 b.1.0 b.1.1) where
-      neither : (word ≡ translate) ⊎ (word ≡ conform) ⊎ (word ≡ check) ⊎ (word ≡ compile) ⊎ (word ≡ run) ⊎ (word ≡ exec) ⊎ (word ≡ refine)
-          ⊎ (word ≡ project) ⊎ (word ≡ load) ⊎ (word ≡ verify) → ⊥
-      neither (inl h) = is_no_translate h
-      neither (inr (inl h)) = is_no_conform h
-      neither (inr (inr (inl h))) = is_no_check h
-      neither (inr (inr (inr (inl h)))) = is_no_compile h
-      neither (inr (inr (inr (inr (inl h))))) = is_no_run h
-      neither (inr (inr (inr (inr (inr (inl h)))))) = is_no_exec h
-      neither (inr (inr (inr (inr (inr (inr (inl h))))))) = is_no_refine h
-      neither (inr (inr (inr (inr (inr (inr (inr (inl h)))))))) = is_no_project h
-      neither (inr (inr (inr (inr (inr (inr (inr (inr (inl h))))))))) = is_no_load h
-      neither (inr (inr (inr (inr (inr (inr (inr (inr (inr h))))))))) = is_no_verify h
-
-      cannot : (after : List Word) (command : Command) → IsCommand command (word ∷ after) → ⊥
-      cannot after command (r, is, behind) = neither
-          (subst (λ (w : Word). (w ≡ translate) ⊎ (w ≡ conform) ⊎ (w ≡ check) ⊎ (w ≡ compile) ⊎ (w ≡ run) ⊎ (w ≡ exec) ⊎ (w ≡ refine)
-          ⊎ (w ≡ project)
-          ⊎ (w ≡ load) ⊎ (w ≡ verify))
-          (sym (head_is is)) (first_word command))
+    → (word ≡ project → ⊥) → (word ≡ load → ⊥) → (word ≡ verify → ⊥) → AreWrong (word ∷ rest) (Some word)
+wrong_command word rest no_fit no_translate no_conform no_check no_compile no_run no_exec no_refine no_project no_load no_verify =
+    first_wrong [] word rest begins_empty (λ b. cannot b.1.0 (head_is b.1.1.1)) where
+      cannot : (command : Command) → word ≡ verb command → ⊥
+      cannot (Translate package_name folder files) = no_translate
+      cannot (Conform files) = no_conform
+      cannot (Check files) = no_check
+      cannot (Compile folder files) = no_compile
+      cannot (Run asked files) = no_run
+      cannot (Exec asked files) = no_exec
+      cannot (Refine files) = no_refine
+      cannot (Project folder files) = no_project
+      cannot (Load branches seed) = no_load
+      cannot (Verify files) = no_verify
+      cannot (Fit roles files) = no_fit
 
 pub wrong_protocol : (rest : List Word) (word : Word) (more : List Word) → rest ≡ word ∷ more → (IsFileOf (codes ".scr") word → ⊥)
     → AreWrong (conform ∷ rest) (Some word)
@@ -534,7 +429,7 @@ wrong_class_source folder files word name plain (before, after, is, each, isnt) 
       All-mid IsSourceName before word more (compile_files command folder (before ++ word ∷ more) still there).1
 
 -- the names of files of a program tell of which kinds they are
-have_kinds : (files : List Word) → AreSourceNames files → HaveKinds files
+pub have_kinds : (files : List Word) → AreSourceNames files → HaveKinds files
 have_kinds files (some, each) k d lt = (each k d lt).1
 
 pub kinds_of_classes : (words : List Word) (folder : Option Word) (files : List Word) → IsCommand (Compile folder files) words
@@ -549,7 +444,7 @@ kinds_of_run words asked files (r, e, (options, behind, how, are)) = have_kinds 
 
 pub protocols_of : (words files : List Word) (package_name folder : Option Word) → IsCommand (Translate package_name folder files) words
     → All (IsFileOf (codes ".scr")) files
-protocols_of words files package_name folder (r, e, (behind, packaged, name, are)) = are.1
+protocols_of words files package_name folder (r, e, (options, behind, how, are)) = are.1
 
 pub protocol_of_two : (words files : List Word) (first : Word) → IsCommand (Conform files) words → first ≡ get_or files 0 first
     → EndsWith (codes ".scr") first

@@ -82,6 +82,8 @@ pub data Command : Type 0 where
   Load : (branches seed : ℕ) → Command
   -- tell how many methods these class files have, where each has a typing
   Verify : (files : List Word) → Command
+  -- tell whether the program of these files but the first, run by these roles, fits the global protocol of the first
+  Fit : (roles : List RoleClass) → (files : List Word) → Command
 
 -- the files that a command reads, in their order
 abbrev pub files_of : Command → List Word
@@ -95,6 +97,7 @@ files_of (Refine files) = files
 files_of (Project folder files) = files
 files_of (Load branches seed) = []
 files_of (Verify files) = files
+files_of (Fit roles files) = files
 
 -- no name of a file or folder is empty or begins with "-"
 abbrev pub IsFileName : Word → Type 0
@@ -139,6 +142,14 @@ pub record IsOneProtocol (files : List Word) : Type 0 where
   pub one : files ≡ file ∷ []
   pub scribble : IsFileOf (codes ".scr") file
 
+-- the name of a file of a global protocol, and one or more of a program's
+pub record AreGlobalAndSources (files : List Word) : Type 0 where
+  pub global : Word
+  pub sources : List Word
+  pub stand : files ≡ global ∷ sources
+  pub scribble : IsFileOf (codes ".scr") global
+  pub are : AreSourceNames sources
+
 -- how many branches a workload may have, and which numbers may pick their order
 pub record IsWorkload (branches seed : ℕ) : Type 0 where
   pub some : 1 ≤ branches
@@ -150,10 +161,48 @@ abbrev pub out_words : Option Word → List Word
 out_words None = []
 out_words (Some folder) = codes "--out" ∷ folder ∷ []
 
--- the option that names a package
-abbrev pub package_words : Option Word → List Word
-package_words None = []
-package_words (Some package_name) = codes "--package" ∷ package_name ∷ []
+-- The options of a translation: the package of its Java files, and the folder for all of them.
+pub data TargetOption : Type 0 where
+  Package : (name : Word) → TargetOption
+  Folder : (name : Word) → TargetOption
+
+abbrev pub target_words : TargetOption → List Word
+target_words (Package name) = codes "--package" ∷ name ∷ []
+target_words (Folder name) = codes "--out" ∷ name ∷ []
+
+-- what an option may name
+abbrev pub IsTarget : TargetOption → Type 0
+IsTarget (Package name) = IsPackage name
+IsTarget (Folder name) = IsFileName name
+
+-- the package and the folder that an option names
+abbrev pub target_package : TargetOption → Option Word
+target_package (Package name) = Some name
+target_package (Folder name) = None
+
+abbrev pub target_folder : TargetOption → Option Word
+target_folder (Package name) = None
+target_folder (Folder name) = Some name
+
+-- These are options, in any order and each at most once, that name this package and this folder.
+pub record AreTargets (package_name folder : Option Word) (options : List TargetOption) : Type 0 where
+  pub right : All IsTarget options
+  pub packages : filter_map target_package options ≡ option_to_list package_name
+  pub folders : filter_map target_folder options ≡ option_to_list folder
+
+-- the option that names a role and its class, between which stands "="
+abbrev pub role_words : RoleClass → List Word
+role_words r = codes "--role" ∷ (r.role ++ 61 ∷ r.class) ∷ []
+
+-- roles and classes have names as Scribble has them
+abbrev pub HasNames : RoleClass → Type 0
+HasNames r = IsName r.role × IsName r.class
+
+-- one role or more, no two of one name, each with its class
+pub record AreCast (roles : List RoleClass) : Type 0 where
+  pub some : roles ≢ []
+  pub named : All HasNames roles
+  pub distinct : IsDistinct bytes_eq (role_names roles)
 
 -- The options of a run.
 pub data RunOption : Type 0 where
@@ -164,19 +213,19 @@ pub data RunOption : Type 0 where
   Trace : RunOption
   Out : (folder : Word) → RunOption
 
--- between a role and its class stands "=", between the names of an order ","
+-- between the names of an order stands ","
 abbrev pub option_words : RunOption → List Word
 option_words (Main class) = codes "--main" ∷ class ∷ []
-option_words (Role r) = codes "--role" ∷ (r.role ++ 61 ∷ r.class) ∷ []
+option_words (Role r) = role_words r
 option_words (Order names) = codes "--order" ∷ join_with_byte 44 names ∷ []
 option_words (Steps n) = codes "--steps" ∷ decimal n ∷ []
 option_words Trace = codes "--trace" ∷ []
 option_words (Out folder) = codes "--out" ∷ folder ∷ []
 
--- what an option may name: roles and classes have names as Scribble has them
+-- what an option may name
 abbrev pub IsOption : RunOption → Type 0
 IsOption (Main class) = IsName class
-IsOption (Role r) = IsName r.role × IsName r.class
+IsOption (Role r) = HasNames r
 IsOption (Order names) = (names ≢ []) × All IsName names
 IsOption (Steps n) = (1 ≤ n) × (n ≤ 20000000)
 IsOption Trace = ⊤
@@ -243,11 +292,12 @@ verb (Refine files) = codes "refine"
 verb (Project folder files) = codes "project"
 verb (Load branches seed) = codes "load"
 verb (Verify files) = codes "verify"
+verb (Fit roles files) = codes "fit"
 
 -- the words behind the first: options and then files, or numbers
 abbrev pub IsBehind : Command → List Word → Type 0
 IsBehind (Translate package_name folder files) rest =
-    (rest ≡ package_words package_name ++ (out_words folder ++ files)) × IfSome package_name IsPackage × IfSome folder IsFileName
+    (options : List TargetOption) × (rest ≡ flat_map target_words options ++ files) × AreTargets package_name folder options
     × AreFilesOf (codes ".scr") files
 IsBehind (Conform files) rest = (rest ≡ files) × AreProtocolAndCalls files
 IsBehind (Check files) rest = (rest ≡ files) × AreSourceNames files
@@ -256,6 +306,7 @@ IsBehind (Refine files) rest = (rest ≡ files) × AreTwoTypestates files
 IsBehind (Project folder files) rest = (rest ≡ out_words folder ++ files) × IfSome folder IsFileName × IsOneProtocol files
 IsBehind (Load branches seed) rest = (rest ≡ decimal branches ∷ decimal seed ∷ []) × IsWorkload branches seed
 IsBehind (Verify files) rest = (rest ≡ files) × AreFilesOf (codes ".class") files
+IsBehind (Fit roles files) rest = (rest ≡ flat_map role_words roles ++ files) × AreCast roles × AreGlobalAndSources files
 IsBehind (Run asked files) rest = (options : List Word) × (rest ≡ options ++ files) × AreOptions asked options × AreSourceNames files
 IsBehind (Exec asked files) rest =
     (options : List Word) × (rest ≡ options ++ files) × AreOptions asked options × (asked.folder ≡ None) × AreFilesOf (codes ".class") files

@@ -4,7 +4,7 @@ ghost use Rattle.std.specs.Prelude.{◌≡◌, ◌≢◌, ◌<◌, ◌^◌, ℕ,
 ghost use Rattle.std.specs.List.{IsDistinct, range_with_len};
 ghost use Rattle.std.specs.Str.{bytes_eq};
 ghost use Rattle.mg_words.specs.Words.{Alone, mains_in, mains_of, role_names, order_of, order_among, are_named};
-ghost use Rattle.mg_words.specs.inner.Judging.{asked_of, role_classes_of, roles_in, names_in, IsAsked};
+ghost use Rattle.mg_words.specs.inner.Judging.{asked_of, cast_of, role_classes_of, roles_in, names_in, IsAsked};
 
 use crate::roles::{first_name, next_role};
 use mg_text::{List, Memory, Names, Text};
@@ -99,6 +99,29 @@ impl Asked<'_> {
             Some(_) => name_of_one(alloc),
             None => names_of_roles(alloc, self.words),
         }
+    }
+}
+
+/// The roles that run together, each with its class.
+#[derive(Clone, Copy)]
+pub struct Cast<'a> {
+    // The words of the options, which name the roles.
+    pub(crate) words: &'a [Text],
+}
+
+impl Cast<'_> {
+    /// The roles in the order of the words, each with its class.
+    ///
+    /// # Errors
+    /// `Memory` only.
+    pub fn mains(&self, alloc: Global) -> Result<List<RoleClass>, Memory>
+        ensures items { IfOk result (λ l. role_classes_of l.items ≡ cast_of self.now) }
+        ensures few { IfOk result (λ l. length (cast_of self.now) < 2 ^ 32) }
+    {
+        let mains = roles_of(alloc, self.words)?;
+        // A list says how many items it has at most.
+        let _few = mains.len();
+        Ok(mains)
     }
 }
 

@@ -2,12 +2,14 @@
 #![tactic(auto)]
 
 mod asked;
+mod fits;
 mod names;
 mod numbers;
 mod options;
 mod roles;
 mod runs;
+mod targets;
 mod words;
 
-pub use asked::{Asked, RoleClass};
+pub use asked::{Asked, Cast, RoleClass};
 pub use words::{Command, Judged, judge};

@@ -1,17 +1,18 @@
 //! The words of the command line.
 //! They are judged from left to right, so that the first that can't follow is known.
 
-ghost use Rattle.std.specs.Prelude.{◌≡◌, ◌∷◌, ◌++◌, codes, List, IfSome, None, option_map};
-ghost use Rattle.api_package.specs.Package.{IsPackage};
-ghost use Rattle.mg_words.specs.Words.{Word, files_of, package_words};
-ghost use Rattle.mg_words.specs.inner.Judging.{IsJudged, IsPlaced, IsPackaged, command_of};
+ghost use Rattle.std.specs.Prelude.{◌≡◌, ◌≢◌, ◌∷◌, codes, IfOk};
+ghost use Rattle.mg_words.specs.Words.{files_of};
+ghost use Rattle.mg_words.specs.inner.Judging.{IsJudged, IsPlaced, command_of};
 
-use crate::asked::Asked;
+use crate::asked::{Asked, Cast};
+use crate::fits::judge_fit;
 use crate::names::{is_file, is_file_name, is_word, other_file, other_source};
 use crate::numbers::{number_of, number_up_to};
 use crate::runs::{Input, judge_run};
-use api_package::is_package;
-use mg_text::Text;
+use crate::targets::judge_translate;
+use mg_text::{Memory, Text};
+use std::alloc::Global;
 
 // The most branches that a workload may have.
 const MOST_BRANCHES: u32 = 400;
@@ -68,6 +69,11 @@ pub enum Command<'a> {
     Verify {
         files: &'a [Text],
     },
+    /// `fit`, the roles, and the files: that of a global protocol, and those of a program.
+    Fit {
+        cast: Cast<'a>,
+        files: &'a [Text],
+    },
 }
 
 impl<'a> Command<'a> {
@@ -86,6 +92,7 @@ impl<'a> Command<'a> {
             Command::Project { files, .. } => files,
             Command::Load { .. } => &[],
             Command::Verify { files } => files,
+            Command::Fit { files, .. } => files,
         }
     }
 }
@@ -99,40 +106,55 @@ pub enum Judged<'a> {
 }
 
 /// Tells which command the words are, or the first word that can't follow those before it.
-pub fn judge(words: &[Text]) -> Judged<'_>
-    ensures { IsJudged words.now result }
+///
+/// # Errors
+/// `Memory` only.
+pub fn judge(alloc: Global, words: &[Text]) -> Result<Judged<'_>, Memory>
+    ensures { IfOk result (IsJudged words.now) }
 {
     match words.split_first() {
-        None => Judged::Wrong(None),
         Some((command, rest)) => {
-            if is_word(command, "translate") {
-                judge_translate(rest)
-            } else if is_word(command, "conform") {
-                judge_conform(rest)
-            } else if is_word(command, "check") {
-                judge_check(rest)
-            } else if is_word(command, "compile") {
-                judge_compile(rest)
-            } else if is_word(command, "run") {
-                judge_run(Input::Sources, rest)
-            } else if is_word(command, "exec") {
-                judge_run(Input::Classes, rest)
-            } else if is_word(command, "refine") {
-                judge_refine(rest)
-            } else if is_word(command, "project") {
-                judge_project(rest)
-            } else if is_word(command, "load") {
-                judge_load(rest)
-            } else if is_word(command, "verify") {
-                judge_verify(rest)
+            if is_word(command, "fit") {
+                judge_fit(alloc, rest)
             } else {
-                Judged::Wrong(Some(command))
+                Ok(judge_other(command, rest))
             }
         }
+        None => Ok(Judged::Wrong(None)),
     }
 }
 
-// A package or a folder that words begin with, if they do, and the words behind it.
+// The same of the other commands.
+fn judge_other<'a>(command: &'a Text, rest: &'a [Text]) -> Judged<'a>
+    requires { command.now ≢ codes "fit" }
+    ensures { IsJudged (command.now ∷ rest.now) result }
+{
+    if is_word(command, "translate") {
+        judge_translate(rest)
+    } else if is_word(command, "conform") {
+        judge_conform(rest)
+    } else if is_word(command, "check") {
+        judge_check(rest)
+    } else if is_word(command, "compile") {
+        judge_compile(rest)
+    } else if is_word(command, "run") {
+        judge_run(Input::Sources, rest)
+    } else if is_word(command, "exec") {
+        judge_run(Input::Classes, rest)
+    } else if is_word(command, "refine") {
+        judge_refine(rest)
+    } else if is_word(command, "project") {
+        judge_project(rest)
+    } else if is_word(command, "load") {
+        judge_load(rest)
+    } else if is_word(command, "verify") {
+        judge_verify(rest)
+    } else {
+        Judged::Wrong(Some(command))
+    }
+}
+
+// A folder that words begin with, if they do, and the words behind it.
 enum Placed<'a> {
     In(Option<&'a Text>, &'a [Text]),
     // They can't go on: because of this word, or because words are lacking.
@@ -157,62 +179,6 @@ fn split_folder(words: &[Text]) -> Placed<'_>
             } else {
                 Placed::Wrong(Some(folder))
             }
-        }
-    }
-}
-
-// The package that `--package` names, where it stands first.
-fn split_package(words: &[Text]) -> Placed<'_>
-    ensures { IsPackaged words.now result }
-{
-    let Some((option, rest)) = words.split_first() else {
-        return Placed::In(None, words);
-    };
-    if !is_word(option, "--package") {
-        return Placed::In(None, words);
-    }
-    match rest.split_first() {
-        None => Placed::Wrong(None),
-        Some((package_name, behind)) => {
-            if is_package(package_name.as_str()) {
-                Placed::In(Some(package_name), behind)
-            } else {
-                Placed::Wrong(Some(package_name))
-            }
-        }
-    }
-}
-
-// The same of the words behind `translate`.
-fn judge_translate(words: &[Text]) -> Judged<'_>
-    ensures { IsJudged (codes "translate" ∷ words.now) result }
-{
-    match split_package(words) {
-        Placed::Wrong(word) => Judged::Wrong(word),
-        Placed::In(package_name, rest) => judge_packaged(package_name, rest),
-    }
-}
-
-// The same of the words behind the package, where one is named.
-fn judge_packaged<'a>(package_name: Option<&'a Text>, words: &'a [Text]) -> Judged<'a>
-    requires named { IfSome package_name (λ p. IsPackage p.now) }
-    requires plain { package_name ≡ None → (more : List Word) → words.now ≡ codes "--package" ∷ more → ⊥ }
-    ensures { IsJudged (codes "translate" ∷ (package_words (option_map (λ p. p.now) package_name.entry) ++ words.now)) result }
-{
-    match split_folder(words) {
-        Placed::Wrong(word) => Judged::Wrong(word),
-        Placed::In(folder, files) => {
-            if let Some(word) = other_file(files, b".scr") {
-                return Judged::Wrong(Some(word));
-            }
-            if files.is_empty() {
-                return Judged::Wrong(None);
-            }
-            Judged::Known(Command::Translate {
-                package_name,
-                folder,
-                files,
-            })
         }
     }
 }

@@ -1,6 +1,5 @@
-//! The commands of mungo, over a folder and sinks in memory, and before them the cores and usages of
-//! programs. Each case of the files in `data/` is run, and what it leaves is told where it isn't
-//! what is wanted.
+//! The commands of mungo, over a folder and sinks in memory. Each case of the files in `data/` is
+//! run, and what it leaves is told where it isn't what is wanted.
 //!
 //! A case of commands gives lines, and then files, each begun by a line `>>> NAME`:
 //!
@@ -27,19 +26,17 @@ mod asked;
 mod calling;
 mod classes;
 mod given;
-mod programs;
 mod torn;
 mod world;
 
 use crate::commands::asked::tell_asked;
-use crate::commands::programs::Programs;
 use cases::{Answer, Answers, CasesFault, tell};
 use mg_text::Memory;
 use std::alloc::Global;
 use std::rt::Files;
 
 /// The files of cases of commands, in the order in which they are answered.
-const FILES: [&str; 15] = [
+const FILES: [&str; 17] = [
     "translate.txt",
     "conform.txt",
     "check.txt",
@@ -52,6 +49,8 @@ const FILES: [&str; 15] = [
     "faults.txt",
     "refine.txt",
     "project.txt",
+    "fit.txt",
+    "fitting.txt",
     "load.txt",
     "verify.txt",
     "words.txt",
@@ -81,8 +80,7 @@ impl<'a, R: Files> Answers for Commands<'a, R> {
     }
 }
 
-/// Tells the cases of programs and of commands.
+/// Tells the cases of commands.
 pub(crate) fn tell_all<R: Files + Print + AllocGlobal>(rt: &R) -> Result<(), CasesFault> {
-    tell(rt, &Programs, &programs::FILES)?;
     tell(rt, &Commands { rt }, &FILES)
 }

@@ -186,7 +186,9 @@ Choice-Message p at bs n = alike _ _ _ _ (front-Choice p at bs) (front-Message n
 
 pub Choice-Choice : (p : Place) (at : Name) (bs : Row (Row Statement)) (q : Place) (by : Name) (cs : Row (Row Statement)) →
     one_same (kinds.Choice p at bs) (kinds.Choice q by cs) ≡ (bytes_eq at by && branches_same bs.items cs.items)
-Choice-Choice p at bs q by cs = alike _ _ _ _ (front-Choice p at bs) (front-Choice q by cs) ∙ ap (λ (z : Bool). bytes_eq at by && z) (sym (and_true (branches_same bs.items cs.items)))
+Choice-Choice p at bs q by cs =
+    alike _ _ _ _ (front-Choice p at bs) (front-Choice q by cs)
+    ∙ ap (λ (z : Bool). bytes_eq at by && z) (sym (and_true (branches_same bs.items cs.items)))
 
 pub Choice-Rec : (p : Place) (at : Name) (bs : Row (Row Statement)) (q : Place) (word : Name) (inner : Row Statement) →
     one_same (kinds.Choice p at bs) (kinds.Rec q word inner) ≡ false
@@ -210,7 +212,9 @@ Rec-Choice p name body q by cs = alike _ _ _ _ (front-Rec p name body) (front-Ch
 
 pub Rec-Rec : (p : Place) (name : Name) (body : Row Statement) (q : Place) (word : Name) (inner : Row Statement) →
     one_same (kinds.Rec p name body) (kinds.Rec q word inner) ≡ (bytes_eq name word && lists_same body.items inner.items)
-Rec-Rec p name body q word inner = alike _ _ _ _ (front-Rec p name body) (front-Rec q word inner) ∙ ap (λ (z : Bool). bytes_eq name word && z) (sym (and_true (lists_same body.items inner.items)))
+Rec-Rec p name body q word inner =
+    alike _ _ _ _ (front-Rec p name body) (front-Rec q word inner)
+    ∙ ap (λ (z : Bool). bytes_eq name word && z) (sym (and_true (lists_same body.items inner.items)))
 
 pub Rec-Continue : (p : Place) (name : Name) (body : Row Statement) (q : Place) (word : Name) →
     one_same (kinds.Rec p name body) (kinds.Continue q word) ≡ false

@@ -117,8 +117,9 @@ module _ (j : Sources) (inputs : Inputs) where
           (behind _ (λ t. either t (turns.turn here (Do p l s e) h) (gives Normal tt))))
       straight (Switch p e groups end) h =
           behind (within (λ locals. valued (eval j inputs low here locals e) >>= constant)) (λ v.
-          behind (within (λ locals. found (enum_named j v.0))) (λ k. after (either (has_group (case_label k v.1) groups) (from_straight (case_label k v.1) groups h)
-          (from_straight is_default groups h)) switched))
+          behind (within (λ locals. found (enum_named j v.0))) (λ k.
+          after (either (has_group (case_label k v.1) groups) (from_straight (case_label k v.1) groups h) (from_straight is_default groups h))
+          switched))
       straight (Break p l) h = gives (Breaks l) tt
       straight (Continue p l) h = gives (Continues l) tt
       straight (Return p e) h = absurd h

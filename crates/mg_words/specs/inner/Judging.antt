@@ -9,11 +9,12 @@ use Rattle.std.specs.Str.{bytes_eq}
 use Rattle.mg_words.specs.declared.asked.Asked.{Asked as Kept}
 use Rattle.mg_words.specs.declared.asked.RoleClass.{RoleClass as KeptRole}
 use Rattle.mg_words.specs.Words.{Word, RoleClass, Roles, Alone, Several, role_names, Asked, Command, Translate, Conform, Check, Compile}
-use Rattle.mg_words.specs.Words.{Run, Exec, Refine, Project, Load, Verify, IsFileOf, IsSourceName, IsCommand, AreWrong, RunOption, Main}
+use Rattle.mg_words.specs.Words.{Run, Exec, Refine, Project, Load, Verify, Fit, IsFileOf, IsSourceName, IsCommand, AreWrong, RunOption, Main}
 use Rattle.mg_words.specs.Words.{Role}
 use Rattle.mg_words.specs.Words.{Order, Steps, Trace, Out, option_words, IsOption, class_in, role_in, order_in, steps_in, is_trace}
-use Rattle.mg_words.specs.Words.{folder_in, AreOptions, IsFileName, out_words, package_words}
-use Rattle.api_package.specs.Package.{IsPackage}
+use Rattle.mg_words.specs.Words.{folder_in, AreOptions, IsFileName, out_words, TargetOption, target_words, AreTargets}
+use Rattle.mg_words.specs.Words.{role_words, HasNames}
+use Rattle.mg_words.specs.declared.asked.Cast.{Cast}
 use Rattle.mg_words.specs.declared.words.Command.{Command as Found}
 use Rattle.mg_words.specs.declared.words.Command.TheVariants as found
 use Rattle.mg_words.specs.declared.words.Judged.{Judged}
@@ -86,6 +87,10 @@ role_classes_of = map role_class_of
 abbrev pub role_word_of : RoleWord → RoleClass
 role_word_of r = record { role = r.role.now; class = r.class.now }
 
+-- the roles that a cast names
+abbrev pub cast_of : Cast → List RoleClass
+cast_of cast = roles_in cast.words.now
+
 -- the command that was found
 abbrev pub command_of : Found → Command
 command_of (found.Translate package_name folder files) = Translate (option_map (λ w. w.now) package_name) (option_map (λ w. w.now) folder) files.now
@@ -98,6 +103,7 @@ command_of (found.Refine files) = Refine files.now
 command_of (found.Project folder files) = Project (option_map (λ w. w.now) folder) files.now
 command_of (found.Load branches seed) = Load branches seed
 command_of (found.Verify files) = Verify files.now
+command_of (found.Fit cast files) = Fit (cast_of cast) files.now
 
 -- the command that runs this, with what is asked for
 abbrev pub made : Input → Asked → (files : List Word) → Command
@@ -138,15 +144,6 @@ IsPlaced words (placed.In folder files) =
 IsPlaced words (placed.Wrong None) = words ≡ codes "--out" ∷ []
 IsPlaced words (placed.Wrong (Some word)) =
     (rest : List Word) × (words ≡ codes "--out" ∷ word.now ∷ rest) × (IsFileName word.now → ⊥)
-
--- the package that words begin with, if they do, and the words behind it, or what makes that none
-abbrev pub IsPackaged : List Word → Placed → Type 0
-IsPackaged words (placed.In package_name rest) =
-    (words ≡ package_words (option_map (λ p. p.now) package_name) ++ rest.now) × IfSome package_name (λ p. IsPackage p.now)
-    × (package_name ≡ None → (more : List Word) → rest.now ≡ codes "--package" ∷ more → ⊥)
-IsPackaged words (placed.Wrong None) = words ≡ codes "--package" ∷ []
-IsPackaged words (placed.Wrong (Some word)) =
-    (rest : List Word) × (words ≡ codes "--package" ∷ word.now ∷ rest) × (IsPackage word.now → ⊥)
 
 -- the first word of which this doesn't hold, or none where it holds of all
 abbrev pub IsFirstOther : (Word → Type 0) → List Word → Option Word → Type 0
@@ -344,3 +341,32 @@ abbrev pub IsRunnable : Input → Asked → List Word → Judged → Type 0
 IsRunnable k asked files result =
     (options : List RunOption) → AreGiven options asked → Keeps k asked.folder →
     IsJudged (verb_of k ∷ (flat_map option_words options ++ files)) result
+
+-- a role of such a name can be named behind those of these names, with a class, by this word
+abbrev pub CanBeNamed : List Word → Word → Type 0
+CanBeNamed names word = HasNames (role_read word) × (Contains names (role_read word).role → ⊥)
+
+-- the words name roles, which have these names, and then the rest
+pub record AreNamed (words names rest : List Word) : Type 0 where
+  pub roles : List RoleClass
+  pub stand : words ≡ flat_map role_words roles ++ rest
+  pub named : names ≡ role_names roles
+  pub right : All HasNames roles
+  pub distinct : IsDistinct bytes_eq names
+
+-- what the words are, where these files stand behind the words of a cast
+abbrev pub IsFitting : List Word → List Word → Judged → Type 0
+IsFitting cast files result =
+    (roles : List RoleClass) → cast ≡ flat_map role_words roles → All HasNames roles → IsDistinct bytes_eq (role_names roles) →
+    IsJudged (codes "fit" ∷ (flat_map role_words roles ++ files)) result
+
+-- the words are options that name this package and this folder, and then the rest
+pub record AreTargeted (words : List Word) (package_name folder : Option Word) (rest : List Word) : Type 0 where
+  pub options : List TargetOption
+  pub stand : words ≡ flat_map target_words options ++ rest
+  pub are : AreTargets package_name folder options
+
+-- what the words are, where these files stand behind options that name this package and this folder
+abbrev pub IsTranslated : (package_name folder : Option Word) → List Word → Judged → Type 0
+IsTranslated package_name folder files result = (options : List TargetOption) → AreTargets package_name folder options →
+    IsJudged (codes "translate" ∷ (flat_map target_words options ++ files)) result

@@ -1,12 +1,13 @@
 use Rattle.std.proofs.Common.{◌≡◌, ◌∙◌, length, option_map, subst, sym, arith}
 use Rattle.mg_words.specs.declared.words.Command.{Command}
 use Rattle.mg_words.specs.Words.{files_of, IsCommand}
-use Rattle.mg_words.specs.inner.Judging.{command_of, asked_of}
+use Rattle.mg_words.specs.inner.Judging.{command_of, asked_of, cast_of}
 use Rattle.mg_words.proofs.LawLemmas.{asked_of_run, asked_of_exec}
 use Rattle.mg_words.proofs.WordsLemmas.{kinds_of, kinds_of_classes, kinds_of_run, protocols_of}
 use Rattle.mg_words.proofs.RefineLemmas.{two_files, kinds_of_two}
 use Rattle.mg_words.proofs.ProjectLemmas.{one_file}
 use Rattle.mg_words.proofs.LoadLemmas.{workload_of}
+use Rattle.mg_words.proofs.FitLemmas.{fit_files}
 use Rattle.mg_top.specs.inner.Preparing.{IsCarried}
 use Rattle.mg_top.proofs.ConformLemmas.{conform_carried, two_contents, two_conformed}
 use Rattle.mg_top.proofs.top.carried_out.Goals as goal
@@ -118,3 +119,9 @@ pub returns-in-Load : goal.returns-in-Load
 returns-in-Load c =
     subst (λ (z : Command). IsCarried (command_of z) c.args.contents.now c.load.result) (sym c.in-Load.is)
     (c.load.ensures c.args.contents.now)
+
+pub fit-requires-clause-files : goal.fit-requires-clause-files
+fit-requires-clause-files c =
+    let known = c.requires.known in
+    fit_files known.0 (cast_of c.in-Fit.cast) c.in-Fit.files.now (subst (λ (z : Command). IsCommand (command_of z) known.0) c.in-Fit.is
+    known.1)

@@ -1,0 +1,61 @@
+-- What the command `fit` answers.
+use Rattle.std.proofs.Common.{◌≡◌, ℕ, ◌<◌, ◌^◌, List, [], ◌∷◌, length, sym, ap, subst, arith}
+use Rattle.mg_text.specs.Call.{Name}
+use Rattle.vm_world_law.specs.declared.role.RoleMain.{RoleMain}
+use Rattle.mg_refusal.specs.Refusals.{Refusal}
+use Rattle.mg_sources.specs.Files.{Source, source_of, sources}
+use Rattle.mg_accepted.proofs.OneCore.{one_core}
+use Rattle.mg_fits.specs.Fits.{Fits}
+use Rattle.mg_fitted.specs.Fitted.{AreFitted, FirstRefusal}
+use Rattle.mg_delivery.specs.declared.status.Status.TheVariants as statuses
+use Rattle.mg_delivery.specs.declared.delivery.Action.TheVariants.{Print}
+use Rattle.mg_delivery.specs.declared.delivery.Delivery.{Delivery}
+use Rattle.mg_words.specs.Words.{Word, RoleClass, Fit, AreGlobalAndSources}
+use Rattle.mg_top.specs.Commands.{cast_mains_of, fits_text, Gives, fitted, IsRefused}
+use Rattle.mg_top.specs.Commands as commands
+use Rattle.mg_top.specs.Fitting.{NoRunGetsStuck}
+use Rattle.mg_top.proofs.CommandLemmas.{gives_so}
+
+-- a run of files that fit has their core, and by its own record none of its roles gets stuck
+pub no_run_gets_stuck : (global : Source) (files : List Source) (mains : List RoleMain) → AreFitted global files mains →
+    NoRunGetsStuck global files mains
+no_run_gets_stuck global files mains f order limit run is =
+    let same : f.core ≡ run.core = one_core files f.core run.core f.can_run.accepted.have is.accepted.have in
+    let fits : Fits global files mains run.core = subst (Fits global files mains) same f.fits in
+    record { fits = fits; none = is.fitting global fits }
+
+-- ---- the words and what was read of their files
+
+-- there is a first file
+pub some_file : (files : List Word) (n : ℕ) → AreGlobalAndSources files → length files ≡ n → n ≡ 0 → ⊥
+some_file files n are same none = let e = ap length are.stand in absurd (omega arith)
+
+pub as_many_behind : (files : List Word) (contents : List (List ℕ)) (name : Word) (names : List Word) (bytes : List ℕ)
+    (rest : List (List ℕ)) → length files ≡ length contents → files ≡ name ∷ names → contents ≡ bytes ∷ rest → length names ≡ length rest
+as_many_behind files contents name names bytes rest same is read =
+    let e = ap length is in let f = ap length read in omega arith
+
+pub few_behind : (contents : List (List ℕ)) (bytes : List ℕ) (rest : List (List ℕ)) → length contents < 2 ^ 32 → contents ≡ bytes ∷ rest →
+    length rest < 2 ^ 32
+few_behind contents bytes rest few read = let f = ap length read in omega arith
+
+module _ (roles : List RoleClass) (files : List Word) (contents : List (List ℕ)) (name : Word) (names : List Word) (bytes : List ℕ)
+    (rest : List (List ℕ)) (mains : List RoleMain) (is : files ≡ name ∷ names) (read : contents ≡ bytes ∷ rest)
+    (run : mains ≡ cast_mains_of roles) where
+  abbrev pub global : Source
+  global = source_of (length names) name bytes
+
+  pub fits_given : (d : Delivery) → ((given : Name) → AreFitted (source_of (length names) given bytes) (sources names rest) mains) →
+      d.actions.items ≡ Print fits_text ∷ [] → d.status ≡ statuses.Done → Gives (Fit roles files) contents d.actions.items d.status
+  fits_given d fit a s =
+      let f : AreFitted global (sources names rest) (cast_mains_of roles) = subst (AreFitted global (sources names rest)) run (fit name) in
+      subst (λ (z : List Word). Gives (Fit roles z) contents d.actions.items d.status) (sym is)
+      (subst (λ (z : List (List ℕ)). Gives (Fit roles (name ∷ names)) z d.actions.items d.status) (sym read)
+      (gives_so (Fit roles (name ∷ names)) (bytes ∷ rest) (Print fits_text ∷ []) statuses.Done d a s
+      (fitted f (no_run_gets_stuck global (sources names rest) (cast_mains_of roles) f))))
+
+  pub unfit_given : (r : Refusal) → FirstRefusal global (sources names rest) mains r → IsRefused (Fit roles files) contents r
+  unfit_given r h =
+      subst (λ (z : List Word). IsRefused (Fit roles z) contents r) (sym is)
+      (subst (λ (z : List (List ℕ)). IsRefused (Fit roles (name ∷ names)) z r) (sym read)
+      (commands.fit (subst (λ (z : List RoleMain). FirstRefusal global (sources names rest) z r) run h)))

@@ -1,6 +1,0 @@
-use Rattle.std.specs.List.{IsDistinct}
-use Rattle.mungo_cases.proofs.machine.running.no_ports.Goals as goal
-
-pub new-requires : goal.new-requires
-unfolding IsDistinct
-new-requires c = tt
