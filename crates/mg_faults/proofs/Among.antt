@@ -18,7 +18,7 @@ use Rattle.mg_faults.specs.Faults.{AreRefused, read, refused, AllRefusals, reade
 use Rattle.mg_faults.specs.Faults.{NoneWhereAccepted}
 
 -- the first of all that the readers refuse is what the first reader that refuses says
-first_read : {files : List Source} {r : Refusal} {rs : List Refusal} → AreRefused files (r ∷ rs) → Judged Refuses files (Some r)
+pub first_read : {files : List Source} {r : Refusal} {rs : List Refusal} → AreRefused files (r ∷ rs) → Judged Refuses files (Some r)
 first_read (read {source = source} {part = part} x rest) = later (λ r. excludes source part r x) (first_read rest)
 first_read (refused x rest) = here x
 

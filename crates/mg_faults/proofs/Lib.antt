@@ -4,4 +4,5 @@ pub mod Saying
 pub mod Reading
 pub mod Among
 pub mod Laws
+pub mod Alike
 pub mod Finding

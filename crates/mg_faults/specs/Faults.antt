@@ -1,5 +1,5 @@
 -- All that is wrong with files at once: of what follows, the first group that isn't empty.
-use Rattle.std.specs.Prelude.{List, [], ◌∷◌, Some, Contains}
+use Rattle.std.specs.Prelude.{◌×◌, List, [], ◌∷◌, Some, Contains}
 use Rattle.mg_read.specs.First.{Judged, with_earlier}
 use Rattle.jv_core.specs.Tree as Core
 use Rattle.use_rules.specs.declared.demand.Demand.{Demand}
@@ -44,3 +44,14 @@ FirstIsAmong = (files : List Source) (first : Refusal) (rs : List Refusal) → F
 -- Files that are accepted have none.
 abbrev pub NoneWhereAccepted : Type 0
 NoneWhereAccepted = (files : List Source) (core : Core.Program) (rs : List Refusal) → AreAccepted files core → AllRefusals files rs → ⊥
+
+-- Two lists of refusals are alike, one by one.
+abbrev pub AreAllAlike : List Refusal → List Refusal → Type 0
+AreAllAlike [] [] = Unit {0}
+AreAllAlike [] (q ∷ qs) = ⊥
+AreAllAlike (r ∷ rs) [] = ⊥
+AreAllAlike (r ∷ rs) (q ∷ qs) = AreAlike r q × AreAllAlike rs qs
+
+-- Files have one list, but for the places of Syntax.
+abbrev pub OneList : Type 0
+OneList = (files : List Source) (rs qs : List Refusal) → AllRefusals files rs → AllRefusals files qs → AreAllAlike rs qs

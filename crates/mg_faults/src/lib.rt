@@ -2,7 +2,7 @@
 #![tactic(auto)]
 
 ghost use Rattle.mg_faults.specs.Demands.{FaultsAreLines, OneFaults};
-ghost use Rattle.mg_faults.specs.Faults.{FirstIsAmong, NoneWhereAccepted};
+ghost use Rattle.mg_faults.specs.Faults.{FirstIsAmong, NoneWhereAccepted, OneList};
 
 mod judged;
 mod readings;
@@ -22,4 +22,9 @@ pub fn first_is_among()
 pub fn each_is_told()
     ensures lines { FaultsAreLines }
     ensures one { OneFaults }
+{}
+
+/// Files have one list of what is wrong with them, but for the places of Syntax. The function carries a law.
+pub fn one_list()
+    ensures { OneList }
 {}
