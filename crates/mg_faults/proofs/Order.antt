@@ -1,5 +1,5 @@
 -- Demands that are sorted by a key stand in order; and there is one list of all that fail.
-use Rattle.std.proofs.Common.{◌≡◌, ℕ, Bool, List, ◌×◌, refl, sym, ap, ◌∙◌, subst}
+use Rattle.std.proofs.Common.{◌≡◌, ℕ, Bool, List, refl, sym, ap, ◌∙◌, subst}
 use Rattle.std.specs.Prelude.{nat_eq, nat_lt, if◌then◌else◌}
 use Rattle.std.specs.List.Sorted.{IsSortedBy, IsStableBy, IsSortedByKey, IsStableByKey}
 use Rattle.std.specs.Ordering.{Ordering, Less, Equal, Greater, is_lt, nat_cmp, ordering_then}

@@ -1,5 +1,5 @@
 -- Calls that are sorted by a key of their places are sorted by these.
-use Rattle.std.proofs.Common.{◌≡◌, ℕ, Bool, cond, not, ◌&&◌, List, [], ◌∷◌, ◌×◌, refl, sym, ap, ap₂, ◌∙◌}
+use Rattle.std.proofs.Common.{◌≡◌, ℕ, Bool, cond, not, ◌&&◌, List, [], ◌∷◌, refl, sym, ap, ap₂, ◌∙◌}
 use Rattle.std.specs.Prelude.{filter, nat_eq, nat_lt, if◌then◌else◌}
 use Rattle.std.specs.List.Sorted.{IsSortedBy, IsStableBy, IsSortedByKey, IsStableByKey, ties}
 use Rattle.std.specs.Ordering.{Ordering, is_lt, nat_cmp, ordering_then}
