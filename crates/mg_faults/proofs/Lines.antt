@@ -109,7 +109,7 @@ none_mem f [] h y m = absurd m
 none_mem f (x ∷ xs) h y m = ⊎_elim (λ e. ap f e ∙ first_not (f x) (list_any f xs) h)
     (λ r. none_mem f xs (others_not (f x) (list_any f xs) h) y r) m
 
-unnamed : (n : Name) → name_or_none (unless_empty n) ≡ n
+pub unnamed : (n : Name) → name_or_none (unless_empty n) ≡ n
 unnamed [] = refl
 unnamed (c ∷ cs) = refl
 
