@@ -1,5 +1,5 @@
 -- What is found of files is all that is wrong with them, or that they are accepted.
-use Rattle.std.proofs.Common.{◌≡◌, ◌<◌, ◌×◌, List, [], ◌∷◌, length, Result, Ok, Err, IfOk, refl, sym, ap, ◌∙◌, subst, arith}
+use Rattle.std.proofs.Common.{◌≡◌, ◌<◌, List, [], ◌∷◌, length, Result, Ok, Err, IfOk, refl, sym, ap, ◌∙◌, subst, arith}
 use Rattle.std.specs.List.Sorted.{IsPermutation, IsStableBy}
 use Rattle.std.proofs.lemmas.List.Sorted.{length_permutation}
 use Rattle.jv_core.specs.Tree as Core

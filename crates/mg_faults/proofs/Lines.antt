@@ -1,5 +1,5 @@
 -- Each line once: what is kept of demands in order is in order, says nothing twice, and says all.
-use Rattle.std.proofs.Common.{◌≡◌, ℕ, zero, suc, Bool, true, false, cond, ◌&&◌, ◌||◌, ◌×◌, ◌⊎◌, List, [], ◌∷◌, ◌++◌, map, Option, Some, None}
+use Rattle.std.proofs.Common.{◌≡◌, ℕ, zero, suc, Bool, true, false, cond, ◌&&◌, ◌||◌, ◌⊎◌, List, [], ◌∷◌, ◌++◌, map, Option, Some, None}
 use Rattle.std.proofs.Common.{slice_get, refl, sym, ap, ◌∙◌, subst, ⊎_elim, inl, inr}
 use Rattle.std.specs.Prelude.{nat_lt, Contains}
 use Rattle.std.specs.List.{list_any}
@@ -89,11 +89,12 @@ all_true false b c e f g = absurd (false≢true e)
 
 any_mem : (f : Demand → Bool) (xs : List Demand) → list_any f xs ≡ true → (y : Demand) × Mem y xs × (f y ≡ true)
 any_mem f [] h = absurd (false≢true h)
-any_mem f (x ∷ xs) h = go (f x) refl h
+any_mem f (x ∷ xs) h = go (f x) refl (any_mem f xs) h
   where
-    go : (b : Bool) → f x ≡ b → (b || list_any f xs) ≡ true → (y : Demand) × Mem y (x ∷ xs) × (f y ≡ true)
-    go true e k = (x, inl refl, e)
-    go false e k = let r = any_mem f xs k in (r.0, inr r.1, r.2)
+    go : (b : Bool) → f x ≡ b → (list_any f xs ≡ true → (y : Demand) × Mem y xs × (f y ≡ true)) → (b || list_any f xs) ≡ true →
+        (y : Demand) × Mem y (x ∷ xs) × (f y ≡ true)
+    go true e more k = (x, inl refl, e)
+    go false e more k = let r = more k in (r.0, inr r.1, r.2)
 
 first_not : (a b : Bool) → (a || b) ≡ false → a ≡ false
 first_not true b h = absurd (false≢true (sym h))
@@ -108,7 +109,7 @@ none_mem f [] h y m = absurd m
 none_mem f (x ∷ xs) h y m = ⊎_elim (λ e. ap f e ∙ first_not (f x) (list_any f xs) h)
     (λ r. none_mem f xs (others_not (f x) (list_any f xs) h) y r) m
 
-unnamed : (n : Name) → name_or_none (unless_empty n) ≡ n
+pub unnamed : (n : Name) → name_or_none (unless_empty n) ≡ n
 unnamed [] = refl
 unnamed (c ∷ cs) = refl
 
@@ -228,17 +229,21 @@ module _ (p : Program) where
 
   -- It is in order.
 
+  line_rises : (ds : List Demand) (e : Demand) → Rise ds → ((y : Demand) → Mem y ds → stands_before e y ≡ false) → Rise (with_line p ds e)
+  line_rises ds e a h = go (list_any (same_line p e) ds)
+    where
+      go : (b : Bool) → Rise (cond b ds (ds ++ e ∷ []))
+      go true = a
+      go false = rising_more stands_before not_itself no_later ds e a h
+
   lines_rise : (ds es : List Demand) → Rise ds → ((y z : Demand) → Mem y ds → Mem z es → stands_before z y ≡ false) → Rise es →
       Rise (with_lines p ds es)
   lines_rise ds [] a h r = a
-  lines_rise ds (e ∷ es) a h r = go (list_any (same_line p e) ds)
-    where
-      go : (b : Bool) → Rise (with_lines p (cond b ds (ds ++ e ∷ [])) es)
-      go true = lines_rise ds es a (λ y z m k. h y z m (inr k)) r.1
-      go false = lines_rise (ds ++ e ∷ []) es
-          (rising_more stands_before not_itself no_later ds e a (λ y m. h y e m (inl refl)))
-          (λ y z m k. ⊎_elim (λ l. h y z l (inr k)) (λ i. subst (λ w. stands_before z w ≡ false) (sym i) (r.0 z k)) (of_appended ds e y m))
-          r.1
+  lines_rise ds (e ∷ es) a h r =
+      lines_rise (with_line p ds e) es (line_rises ds e a (λ y m. h y e m (inl refl)))
+      (λ y z m k. ⊎_elim (λ l. h y z l (inr k)) (λ i. subst (λ w. stands_before z w ≡ false) (sym i) (r.0 z k))
+      (line_from (list_any (same_line p e) ds) ds e y m))
+      r.1
 
   once_rises : (xs : List Demand) → IsSortedBy stands_before xs → IsSortedBy stands_before (once p xs)
   once_rises xs h = sorted_of stands_before not_itself no_later (once p xs)

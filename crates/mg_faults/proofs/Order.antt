@@ -1,8 +1,9 @@
 -- Demands that are sorted by a key stand in order; and there is one list of all that fail.
-use Rattle.std.proofs.Common.{◌≡◌, ℕ, Bool, List, ◌×◌, refl, sym, ap, ◌∙◌, subst}
+use Rattle.std.proofs.Common.{◌≡◌, ℕ, Bool, List, refl, sym, ap, ◌∙◌, subst}
 use Rattle.std.specs.Prelude.{nat_eq, nat_lt, if◌then◌else◌}
 use Rattle.std.specs.List.Sorted.{IsSortedBy, IsStableBy, IsSortedByKey, IsStableByKey}
-use Rattle.std.specs.Ordering.{Ordering, Less, Equal, Greater, is_lt, nat_cmp, ordering_then}
+use Rattle.std.proofs.Common.{Ordering}
+use Rattle.std.specs.Ordering.{Less, Equal, Greater, is_lt, nat_cmp, ordering_then}
 use Rattle.jv_core.specs.Tree.{Program}
 use Rattle.use_rules.specs.declared.demand.Demand.{Demand}
 use Rattle.use_rules.specs.Tables.{all_failed, Least}

@@ -8,12 +8,13 @@ use Rattle.std.proofs.lemmas.Bool.{false≢true}
 use Rattle.std.proofs.lemmas.List.{at_drop_more, at_drop_all, map-append}
 use Rattle.jv_core.specs.Tree.{Program}
 use Rattle.use_rules.specs.declared.demand.Demand.{Demand}
-use Rattle.mg_refusal.specs.Refusals.{Refusal}
+use Rattle.mg_refusal.specs.Refusals.{Refusal, name_or_none}
 use Rattle.mg_accepted.specs.Demands.{demand_word, demand_name, demand_refusal}
 use Rattle.mg_faults.specs.declared.said.LineKey.{LineKey}
 use Rattle.mg_faults.specs.contracts.said.LineKeyPartialEq.TheImpl as line_key
 use Rattle.mg_faults.specs.Demands.{said_of, same_line, with_line, with_lines, once}
 use Rattle.mg_faults.specs.inner.Keys.{IsKey, AreKeys, AreSaid, AreSaidSoFar}
+use Rattle.mg_faults.proofs.Lines.{unnamed}
 
 abbrev pub key_eq : LineKey → LineKey → Bool
 key_eq = (line_key.ghosts).eq
@@ -38,6 +39,17 @@ two : {A B : Type 0} (f : A → A → B) (a b a' b' : A) → a ≡ a' → b ≡ 
 two f a b a' b' e h = ap (λ x. f x b) e ∙ ap (f a') h
 
 module _ (p : Program) where
+  -- the key of what is said of a demand
+  pub key_is : (d : Demand) (r : Refusal) (k : LineKey) → r ≡ demand_refusal p d → k.kind.now ≡ r.kind → k.file ≡ d.place.file →
+      k.line ≡ d.place.line → k.column ≡ d.place.column → string_bytes k.name ≡ name_or_none r.name → IsKey p d k
+  key_is d r k e kind file line column name = record {
+    kind = kind ∙ ap (λ (r : Refusal). r.kind) e;
+    file = file;
+    line = line;
+    column = column;
+    name = name ∙ ap (λ (r : Refusal). name_or_none r.name) e ∙ unnamed (demand_name p d);
+  }
+
   key_line : (d e : Demand) (k l : LineKey) → IsKey p d k → IsKey p e l → key_eq k l ≡ same_line p d e
   key_line d e k l a b =
       five (bytes_eq k.kind.now l.kind.now) (nat_eq k.file l.file) (nat_eq k.line l.line) (nat_eq k.column l.column)

@@ -1,5 +1,5 @@
 -- All that is wrong with files at once: of what follows, the first group that isn't empty.
-use Rattle.std.specs.Prelude.{◌×◌, List, [], ◌∷◌, Some, Contains}
+use Rattle.std.specs.Prelude.{List, [], ◌∷◌, Some, Contains}
 use Rattle.mg_read.specs.First.{Judged, with_earlier}
 use Rattle.jv_core.specs.Tree as Core
 use Rattle.use_rules.specs.declared.demand.Demand.{Demand}

@@ -42,9 +42,10 @@ fn all_of(
     ensures { IfOk result (λ v. AllRefusals (sources names.now contents.now) v.items) }
 {
     let mut refusals = read_each(alloc, names, contents)?;
-    if refusals.is_empty() {
-        refusals.push(first)?;
+    if !refusals.is_empty() {
+        return Ok(refusals);
     }
+    refusals.push(first)?;
     Ok(refusals)
 }
 

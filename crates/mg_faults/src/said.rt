@@ -1,10 +1,11 @@
 //! What is said of demands, in order, each line once.
 //! Lines are looked up by hashing, so that the work grows with the demands but for their sorting.
 
-ghost use Rattle.std.specs.Prelude.{◌≡◌, List as Seq, IfOk, OnOk};
+ghost use Rattle.std.specs.Prelude.{◌≡◌, List as Seq, IfOk, OnOk, string_bytes};
 ghost use Rattle.std.specs.List.Sorted.{IsPermutation, IsSortedBy, IsStableBy};
 ghost use Rattle.jv_core.specs.Tree.{Program};
 ghost use Rattle.use_rules.specs.declared.demand.Demand.{Demand as DemandOf};
+ghost use Rattle.mg_refusal.specs.Refusals.{name_or_none};
 ghost use Rattle.mg_accepted.specs.Demands.{demand_refusal};
 ghost use Rattle.mg_faults.specs.Demands.{element_number, said_of, once, stands_before, with_line};
 ghost use Rattle.mg_faults.specs.inner.Keys.{IsKey, AreSaid, IsTold};
@@ -58,14 +59,21 @@ fn sorted(failed: List<Demand>) -> Result<Vec<Demand>, Memory>
     Ok(demands)
 }
 
+// What a refusal names, empty where nothing is named.
+fn name_in(alloc: Global, refusal: &Refusal) -> Result<String, Memory>
+    ensures { IfOk result (λ s. string_bytes s ≡ name_or_none refusal.now.name) }
+{
+    match refusal.name() {
+        Some(name) => Ok(String::from_str(alloc, name.as_str())?),
+        None => Ok(String::new(alloc)),
+    }
+}
+
 // The line that is said of a demand, as a key.
 fn key_of(alloc: Global, demand: &Demand, refusal: &Refusal) -> Result<LineKey, Memory>
     ensures { IfOk result (λ k. (core : Program) → refusal.now ≡ demand_refusal core demand.now → IsKey core demand.now k) }
 {
-    let mut name = String::new(alloc);
-    if let Some(named) = refusal.name() {
-        name.push_str(named.as_str())?;
-    }
+    let name = name_in(alloc, refusal)?;
     Ok(LineKey {
         kind: refusal.kind(),
         file: demand.place.file,
@@ -88,9 +96,10 @@ fn say(
 {
     let refusal = refusal_of(alloc, core, demand)?;
     let key = key_of(alloc, demand, &refusal)?;
-    if lines.insert(key)? {
-        said.push(refusal)?;
+    if !lines.insert(key)? {
+        return Ok(());
     }
+    said.push(refusal)?;
     Ok(())
 }
 

@@ -4,7 +4,7 @@ use Rattle.std.proofs.Common.{refl, sym, ap, ◌∙◌, arith}
 use Rattle.std.specs.Prelude.{◌||◌, nat_eq, filter, if◌then◌else◌}
 use Rattle.std.proofs.lemmas.Bool.{false≢true, eq-eqb}
 use Rattle.std.proofs.lemmas.Bool.Decides.{nat_tests}
-use Rattle.std.proofs.lemmas.List.{take_more, take_all, map-append}
+use Rattle.std.proofs.lemmas.List.{take_more, take_all, map-append, append-nil}
 use Rattle.std.proofs.lemmas.List.Elements.{filter-append}
 use Rattle.mg_text.specs.declared.place.Place.{Place}
 use Rattle.use_rules.specs.Elements.{Set, union}
@@ -103,12 +103,8 @@ module _ (s : Sight) (old new : PlaceKey → Option Set) where
           ∙ ap (λ b. together (sights_at q ss ++ cond b (s ∷ []) [])) (sym e)
       go q false e =
           ap (λ b. if b then union (at_place old q) s.set else at_place old q) e
-          ∙ seen.each q ∙ ap together (sym (nothing_behind (sights_at q ss)))
+          ∙ seen.each q ∙ ap together (sym (append-nil (sights_at q ss)))
           ∙ ap (λ b. together (sights_at q ss ++ cond b (s ∷ []) [])) (sym e)
-        where
-          nothing_behind : (xs : List Sight) → xs ++ [] ≡ xs
-          nothing_behind [] = refl
-          nothing_behind (x ∷ xs) = ap (λ r. x ∷ r) (nothing_behind xs)
 
 -- Sight by sight.
 

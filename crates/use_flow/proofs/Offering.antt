@@ -273,11 +273,11 @@ among_append s [] b = refl
 among_append s (q ∷ a) b = append_turn (has s q) q (members_among s a) (members_among s b) (members_among s (a ++ b)) (among_append s a b)
 
 module _ (t : Typestate) (name : Name) where
-  abbrev offers_at : ℕ → Bool
-  offers_at k = is_some (offered t k name)
+  abbrev is_offered : ℕ → Bool
+  is_offered k = is_some (offered t k name)
 
   -- the state and those after it
-  chosen_state : (k : ℕ) (v b : Bool) (ms : List ℕ) → offers_at k ≡ v →
+  chosen_state : (k : ℕ) (v b : Bool) (ms : List ℕ) → is_offered k ≡ v →
       offering_states t (if b then k ∷ ms else ms) name
       ≡ (if b then (if v then k ∷ offering_states t ms name else offering_states t ms name) else offering_states t ms name)
   chosen_state k v true ms e = ap (λ w. if w then k ∷ offering_states t ms name else offering_states t ms name) e
@@ -332,7 +332,7 @@ module _ (t : Typestate) (name : Name) where
           by_state s r (suc k) ss (λ j. ap (slice_get t.states) (from_suc k j) ∙ at (suc j)) (λ j. ap (has s) (from_suc k j) ∙ in_set (suc j))
           apart.1 in
       let mine : has s k ≡ b = ap (has s) (from_zero k) ∙ in_set 0 in
-      let here : offers_at k ≡ is_some (offered_in x.methods name) =
+      let here : is_offered k ≡ is_some (offered_in x.methods name) =
           (let here_at : slice_get t.states k ≡ Some x = ap (slice_get t.states) (from_zero k) ∙ at 0 in
           ap (λ o. is_some (option_and_then (λ (x : State). offered_in x.methods name) o)) here_at) in
       among_append s (by_methods k x.methods name) (by_states (suc k) ss name)

@@ -1,7 +1,7 @@
 //! All that is met under the least tables of a program: each demand that fails, and what each call is made on.
 //! Contexts are followed once more, in their order.
 
-ghost use Rattle.std.specs.Prelude.{◌≡◌, ◌<◌, ◌×◌, ◌++◌, length, map, IfErr, IfOk, OnOk};
+ghost use Rattle.std.specs.Prelude.{◌≡◌, ◌<◌, ◌++◌, length, map, IfErr, IfOk, OnOk};
 ghost use Rattle.jv_core.specs.Tree.{Program};
 ghost use Rattle.use_rules.specs.Tables.{all_failed, all_sights};
 ghost use Rattle.use_flow.specs.View.{tables_of, reached_of, contexts_of, sight_of, AreFor};

@@ -1,5 +1,5 @@
 -- What is said of demands, as the code keeps it: a key for each line.
-use Rattle.std.specs.Prelude.{◌≡◌, List, [], ◌∷◌, ◌×◌, string_bytes}
+use Rattle.std.specs.Prelude.{◌≡◌, List, [], ◌∷◌, string_bytes}
 use Rattle.std.specs.List.Sorted.{IsPermutation, IsSortedBy, IsStableBy}
 use Rattle.jv_core.specs.Tree.{Program}
 use Rattle.use_rules.specs.declared.demand.Demand.{Demand}

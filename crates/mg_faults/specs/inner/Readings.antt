@@ -1,5 +1,5 @@
 -- What is found of a file by its reader.
-use Rattle.std.specs.Prelude.{◌×◌, Option, Some, None}
+use Rattle.std.specs.Prelude.{Option, Some, None}
 use Rattle.mg_refusal.specs.Refusals.{Refusal}
 use Rattle.mg_sources.specs.Files.{Source}
 use Rattle.mg_sources.specs.Reading.{Part, Reads, Refuses}
