@@ -101,23 +101,50 @@ function put_in(text, mark, word,    at, front) {
     return front text
 }
 function sentence(text, name,    words) {
-    split(name, words, " ")
+    split(name, words, / /)
     text = put_in(text, "%1", words[1])
     return put_in(text, "%2", words[2] == "end" ? "its end" : words[2])
+}
+# A text in one line, in which a terminal finds nothing to obey: with \xHH for a byte below 32, and for 127.
+BEGIN { for (byte = 1; byte < 32; byte++) hex[sprintf("%c", byte)] = sprintf("\\x%02x", byte); hex["\177"] = "\\x7f" }
+function shown(text,    front) {
+    while (match(text, /[\001-\037\177]/)) {
+        front = front substr(text, 1, RSTART - 1) hex[substr(text, RSTART, 1)]; text = substr(text, RSTART + 1)
+    }
+    return front text
+}
+# The same of a line of a file, which keeps its tabs.
+function shown_line(text,    at, front) {
+    while ((at = index(text, "\t")) > 0) { front = front shown(substr(text, 1, at - 1)) "\t"; text = substr(text, at + 1) }
+    return front shown(text)
 }
 # At a place of a text.
 function explain_place(file, row, col, fault, name,    text, mark, said) {
     text = line_of(file, row); sub(/\r$/, "", text)
-    mark = substr(text, 1, col - 1); gsub(/[\200-\277]/, "", mark); gsub(/[^\t]/, " ", mark)
+    mark = shown_line(substr(text, 1, col - 1)); gsub(/[\200-\277]/, "", mark); gsub(/[^\t]/, " ", mark)
     said = hint_of(file, row, col, fault, name)
     if (said == "" || said ~ /^;/) said = sentence(fault in say ? say[fault] : "see docs/FAULTS.md", name) said
-    printf "%5d | %s\n      | %s^ %s\n", row, text, mark, said
+    printf "%5d | %s\n      | %s^ %s\n", row, shown_line(text), mark, shown(said)
 }
 function explain_bare(table_has, text, name) {
-    printf "      | %s\n", table_has ? sentence(text, name) : "see docs/FAULTS.md"
+    printf "      | %s\n", shown(table_has ? sentence(text, name) : "see docs/FAULTS.md")
+}
+# The names with line feeds among the words, which are no files that are to be read here.
+BEGIN { for (i = 1; i < ARGC; i++) { if (index(ARGV[i], "\n")) broken[++count] = ARGV[i]; delete ARGV[i] } }
+# The line with those that stand behind it, where a name with line feeds begins it.
+function joined(line,    i, k, part, parts, bare) {
+    bare = line; sub(/^(mungo: (read|write) |      )/, "", bare)
+    for (i = 1; i <= count; i++) {
+        parts = split(broken[i], part, "\n")
+        if (bare != part[1]) continue
+        for (k = 2; k <= parts && (getline bare) > 0; k++) line = line "\n" bare
+        return line
+    }
+    return line
 }
 {
-    print
+    $0 = joined($0)
+    print shown($0)
     if (match($0, /:[0-9]+:[0-9]+: [A-Z][A-Za-z]+( [^:]*)?$/) && RSTART > 1) {
         file = substr($0, 1, RSTART - 1)
         split(substr($0, RSTART + 1), part, ":")

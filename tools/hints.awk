@@ -1,17 +1,28 @@
 # What tools/explain says of a fault beyond its sentence, read off the file: of the token at which the grammar is left, by
 # it and those before it; of a variable, where its object was handed on; of a name of Java that is none of the program.
 # `tokenize` keeps the tokens of a file, without comments; `hint_of` gives the words, or "" where there is nothing to say.
-# tools/check runs it with variables: `answers` has methods that answer with labels, as `hasNext next`.
-BEGIN { if (answers != "") print outside_switch(file, row, col, name, answers) }
+# tools/check runs it with variables: `answers` has methods that answer with labels, as `hasNext next`, and the variable
+# `file` of the shell the name of the file, which may have letters that awk would take for others.
+BEGIN { if (answers != "") print outside_switch(ENVIRON["file"], row, col, name, answers) }
 
-function line_of(file, row,    text, number) {
-    for (number = 1; number <= row; number++) if ((getline text <file) <= 0) { text = ""; break }
-    close(file)
+# A name as one word of the shell.
+function quoted(name,    at, front) {
+    while ((at = index(name, "'")) > 0) { front = front substr(name, 1, at - 1) "'\\''"; name = substr(name, at + 1) }
+    return "'" front name "'"
+}
+function is_file(name) { return system("test -f " quoted(name)) == 0 }
+# The command that gives what mungo reads of a file: of a device, which may have no end, nothing.
+function text_of(name) { return "test -f " quoted(name) " && exec head -c 1048576 <" quoted(name) }
+
+function line_of(file, row,    text, number, command) {
+    command = text_of(file)
+    for (number = 1; number <= row; number++) if ((command | getline text) <= 0) { text = ""; break }
+    close(command)
     return text
 }
-function tokenize(file,    line, text, row, at, size, open, more) {
-    total = 0; row = 0; open = 0
-    while ((more = (getline line <file)) > 0) {
+function tokenize(file,    line, text, row, at, size, open, command) {
+    total = 0; row = 0; open = 0; command = text_of(file)
+    while ((command | getline line) > 0) {
         row++; at = 1; size = 1000
         # A long line is looked at piece by piece; a token that a piece may cut takes a longer one.
         while (at <= length(line)) {
@@ -33,9 +44,8 @@ function tokenize(file,    line, text, row, at, size, open, more) {
             at += RLENGTH; size = 1000
         }
     }
-    close(file)
+    close(command)
     token[total + 1] = ""; row_of[total + 1] = row + 1
-    return more == 0
 }
 # The number of the token at a place; one more than there are where none stands at it.
 function token_at(row, col,    i) {
@@ -450,7 +460,8 @@ function hint_of(file, row, col, fault, name,    at) {
     if (fault == "BadByte") return byte_hint(file, row, col)
     if (fault == "LeftOpen" && name ~ /^value /) return "what this gives is an object in " substr(name, 7) ", and nothing takes it: assign it"
     if (!is_one_of(fault, "Syntax UseMoved MixedChoice Unguarded")) return ""
-    if (!tokenize(file)) return ""
+    if (!is_file(file)) return ""
+    tokenize(file)
     if (total == 0) return fault == "Syntax" ? "the file has nothing in it" : ""
     if (is_one_of(fault, "MixedChoice Unguarded")) return protocol_hint(row, col, fault, name)
     at = token_at(row, col)

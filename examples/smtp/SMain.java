@@ -1,4 +1,4 @@
-// The mail server: knows one recipient, and numbers the mails that it takes. A static method for each part of the protocol.
+// The mail server: knows one recipient, and numbers the mails it takes. A static method for each part of the protocol.
 class SMain {
     static SRole recipients(SRole s) {
         loop: do {

@@ -12,6 +12,8 @@ function withoutComments(text) {
 
 // Judges files, a map from names to texts. The answer:
 //   verdict     what the first command gave that refuses them, or `check`
+//   fitted      what `fit` gave of an accepted program and its one global protocol; null where there is nothing to fit
+//   told        what refuses: the verdict, or else what `fit` gave; null where nothing does
 //   fault       of a refusal, { file, line, column, kind, about }; file is null where it has no place; else null
 //   globals     the names of the files with global protocols
 //   sources     the files that are one program, a map in order; those are among them that `project` made
@@ -37,9 +39,18 @@ function judge(files) {
     if (translated) give(translated, 'translate');
     if (program.length) verdict ??= answer(['check', ...program], sources);
     verdict ??= { status: 0, out: '', err: '', written: new Map() };
-    const fault = verdict.status === 0 ? null : faultOf(verdict.err);
+    const words = verdict.status === 0 && globals.length === 1 ? fitWords(globals[0], sources) : [];
+    const fitted = words.length ? answer(words, new Map([...sources, ...files])) : null;
+    const told = [verdict, fitted].find(it => it && it.status !== 0) ?? null, fault = told && faultOf(told.err);
     const isTranslated = !translated || translated.status === 0;
-    return { verdict, fault, globals, sources, program, given, isTranslated, ...meaningOf(sources, given) };
+    const made = { globals, sources, program, given, isTranslated };
+    return { verdict, fitted, told, fault, ...made, ...meaningOf(sources, given) };
+}
+
+// The words that ask whether the roles of a program fit a global protocol; none where no class plays a role.
+function fitWords(global, sources) {
+    const roles = runWords(sources).split(' ');
+    return roles[0] === '--role' ? ['fit', ...roles, global, ...sources.keys()] : [];
 }
 
 // The typestates and the classes in sources, and in files that were made of them.

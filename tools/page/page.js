@@ -69,9 +69,10 @@ function openProgram({ files, at, words = null }, about = '') {
     scrollText();
 }
 function openExample(number) {
-    const { of, about, files, at } = examples[number];
+    const { of, about, files, at, without = [] } = examples[number];
+    const isKept = ([name]) => !without.includes(name);
     element('pick').value = String(number);
-    openProgram({ files: Object.entries({ ...examples[of]?.files, ...files }), at }, about);
+    openProgram({ files: Object.entries({ ...examples[of]?.files, ...files }).filter(isKept), at }, about);
 }
 async function makeLink() {
     history.replaceState(null, '', await linkOf(page));

@@ -32,20 +32,23 @@ function showFile(page) {
 
 // ---- the verdict ----
 function showVerdict(page) {
-    element('say').innerHTML = page.judged.fault ? refusedText(page.judged) : acceptedText(page.judged);
+    element('say').innerHTML = page.judged.told ? refusedText(page.judged) : acceptedText(page.judged);
 }
-function acceptedText({ verdict, program }) {
+function acceptedText({ verdict, fitted, globals, program }) {
     const rows = verdict.out.split('\n').filter(Boolean).map(line => line.split(' = '));
     const row = ([what, held = '']) => tag('tr', {}, tag('td', {}, escaped(what)), tag('td', {}, escaped(held)));
     const table = tag('p', {}, 'What variables may hold:') + tag('table', {}, ...rows.map(row));
-    const verdictText = program.length ? 'Accepted.' : 'Nothing is refused.';
-    return tag('div', { class: 'yes' }, verdictText) + (rows.length ? table : '');
+    const fits = fitted ? ` The roles fit ${globals[0]}: in no run do they get stuck on one another.` : '';
+    const verdictText = program.length ? `Accepted.${fits}` : 'Nothing is refused.';
+    return tag('div', { class: 'yes' }, escaped(verdictText)) + (rows.length ? table : '');
 }
 function refusedText(judged) {
-    const { verdict, fault } = judged, section = faults[fault.kind];
-    const told = verdict.err.trim() || statusText(verdict.status);
-    const line = tag('button', { class: 'no', id: 'fault', title: 'goes to the place' }, escaped(told));
-    return line + offersText(stateOf(judged)) + (section ? explanation(section, fault.file) : '');
+    const { verdict, told, fault, globals } = judged, section = faults[fault.kind];
+    const text = told.err.trim() || statusText(told.status);
+    const line = tag('button', { class: 'no', id: 'fault', title: 'goes to the place' }, escaped(text));
+    const alone = `Each file is accepted by itself, and the program runs; but its roles don’t fit ${globals[0]}.`;
+    const which = verdict.status === 0 ? tag('p', {}, escaped(alone)) : '';
+    return line + which + offersText(stateOf(judged)) + (section ? explanation(section, fault.file) : '');
 }
 // What the state offers that a fault tells.
 function offersText(found) {

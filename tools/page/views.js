@@ -55,6 +55,19 @@ const views = {
             return hint(text) + writtenFiles(projected.written);
         },
     },
+    fit: {
+        title: 'Fit',
+        controls: list('mungo fit', 'whole'),
+        body(page) {
+            const { globals, sources, verdict } = page.judged, chosen = fill('whole', globals);
+            if (!chosen) return hint('No file here has a global protocol. The example `global_adder` has one.');
+            const words = verdict.status === 0 ? fitWords(chosen, sources) : [];
+            if (!words.length) return hint('Asks for an accepted program, with a class that plays each role.');
+            const text = 'Whether the roles can get stuck on one another, in any run: not, where they fit.';
+            const said = answer(words, joinedTexts(sources, page.files));
+            return hint(text) + block(`mungo ${words.join(' ')}`) + given(said);
+        },
+    },
     conform: {
         title: 'Conform',
         controls: list('mungo conform', 'protocol') + list('with the calls of', 'calls'),

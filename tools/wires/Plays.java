@@ -1,6 +1,9 @@
 import java.net.InetAddress;
 import java.net.InetSocketAddress;
 import java.net.ServerSocket;
+import java.nio.charset.StandardCharsets;
+import java.nio.file.Files;
+import java.nio.file.Paths;
 import java.util.Collections;
 import java.util.HashMap;
 import java.util.Map;
@@ -50,21 +53,34 @@ public final class Plays {
             done += "done".equals(one) && "done".equals(other[0]) ? 1 : 0;
         }
         System.out.println("both: done " + done + " times");
-        for (int tries = 0; tries < 50 && Thread.activeCount() > 1; tries++) {
+        for (int tries = 0; tries < 3000 && Thread.activeCount() > 1; tries++) {
             Thread.sleep(100);
         }
         System.out.println("both, " + (Thread.activeCount() == 1 ? "no" : Thread.activeCount()) + " threads are left");
     }
 
-    /** A role that waits in a thread which is interrupted. */
+    /** Whether a thread waits within a method of this name. */
+    private static boolean waitsIn(Thread thread, String method) {
+        for (StackTraceElement place : thread.getStackTrace()) {
+            if (place.getMethodName().equals(method)) {
+                return thread.getState() == Thread.State.TIMED_WAITING;
+            }
+        }
+        return false;
+    }
+
+    /** A role that waits for a message in a thread which is interrupted. */
     private static void interrupted() throws Exception {
         try (ServerSocket door = new ServerSocket(0, 1, InetAddress.getLoopbackAddress())) {
             Map<String, InetSocketAddress> addresses = addresses("A=" + door.getLocalPort());
             String[] ending = new String[1];
-            Thread thread = new Thread(() -> ending[0] = Session.play("S", NONE, addresses, () -> Session.take("A", "hi")));
+            Thread thread = new Thread(
+                    () -> ending[0] = Session.play("S", NONE, addresses, () -> Session.take("A", "hi")));
             thread.start();
             door.accept();
-            Thread.sleep(300);
+            while (!waitsIn(thread, "receive")) {
+                Thread.sleep(10);
+            }
             thread.interrupt();
             thread.join();
             System.out.println("interrupted: " + ending[0]);
@@ -75,7 +91,21 @@ public final class Plays {
         return 1 + deep(n + 1);
     }
 
+    /** A role that is sent more than there is memory for, up to when its peer has said that it has gone, in a file. */
+    private static void dies(String port, String file) throws Exception {
+        System.out.println(
+                Session.play("C", NONE, addresses("C=" + port, "S=1"), () -> Session.takeString("S", "hi")));
+        while (!new String(Files.readAllBytes(Paths.get(file)), StandardCharsets.UTF_8).endsWith("gone\n")) {
+            Thread.sleep(50);
+        }
+        System.out.println("the peer has gone");
+    }
+
     public static void main(String[] words) throws Exception {
+        if (words.length == 2) {
+            dies(words[0], words[1]);
+            return;
+        }
         both();
         interrupted();
         try {
@@ -96,7 +126,8 @@ public final class Plays {
             }
         }));
         try (ServerSocket door = new ServerSocket(0, 1, InetAddress.getLoopbackAddress())) {
-            System.out.println(Session.play("C", NONE, addresses("C=" + door.getLocalPort(), "S=1"), () -> Session.take("S", "hi")));
+            Map<String, InetSocketAddress> taken = addresses("C=" + door.getLocalPort(), "S=1");
+            System.out.println(Session.play("C", NONE, taken, () -> Session.take("S", "hi")));
         }
         try {
             Session.play("a b", NONE, addresses(), () -> {});

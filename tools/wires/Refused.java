@@ -4,7 +4,9 @@ import java.nio.file.Files;
 import java.nio.file.Paths;
 import mungo.lib.Lines;
 
-/** Reads the wire files of a file of cases: below a line `= WHY` the text that is refused so. Prints a line for each. */
+/**
+ * Reads the wire files of a file of cases: below a line `= WHY` the text that is refused so. Prints a line for each.
+ */
 public final class Refused {
     private Refused() {}
 

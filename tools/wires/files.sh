@@ -2,7 +2,7 @@
 
 # Wants a wire file to have lines for all messages of a protocol with a peer: FILE PROTOCOL PEER.
 covers() {
-    jvm -cp "$room/lib" mungo.lib.Lines "$top/examples/$1" "$top/examples/$2" "$3" >"$room/said" 2>&1
+    jvm -cp "$lib" mungo.lib.Lines "$top/examples/$1" "$top/examples/$2" "$3" >"$room/said" 2>&1
     count "$1 has all messages of $2" $? "$room/said"
 }
 
@@ -15,16 +15,16 @@ part_files() {
     covers smtp/server_wire smtp/S.scr C
     covers smtp_codes/wire smtp_codes/C.scr S
     covers maven/src/main/resources/mail.wire maven/src/main/mungo/C.scr S
-    jvm -cp "$room/lib" mungo.lib.Lines "$top/tools/wires/odd.wire" "$top/examples/adder/C.scr" S >"$room/said" 2>&1
+    jvm -cp "$lib" mungo.lib.Lines "$top/tools/wires/odd.wire" "$top/examples/adder/C.scr" S >"$room/said" 2>&1
     is "a wire without a protocol's messages" $? 1 "$room/said"
     says "a wire without a protocol's messages: which" <(sed 's/.*: //' "$room/said") "no lines for add(int) to S
 no lines for total(int) from S
 no lines for bye() to S"
     printf 'limit 1\nlimit 0\n' >"$room/w"
-    jvm -cp "$room/lib" mungo.lib.Lines "$room/w" >"$room/said" 2>&1
+    jvm -cp "$lib" mungo.lib.Lines "$room/w" >"$room/said" 2>&1
     is "a wire file that is wrong" $? 1 "$room/said"
     says "a wire file that is wrong: why" "$room/said" "$room/w:2: limit can't be 0"
-    jvm -cp "$room/lib" Refused "$top/tools/wires/refused" >"$room/said" 2>&1
+    jvm -cp "$lib" Refused "$top/tools/wires/refused" >"$room/said" 2>&1
     local line
     while IFS= read -r line; do
         [ "${line%% *}" = ok ]
@@ -37,9 +37,22 @@ no lines for bye() to S"
 wrong() {
     local name=$1 status=$2 line=$3
     shift 3
-    jvm "$@" -cp "$room/taker/class:$room/lib" CMain >"$room/out" 2>"$room/err"
+    jvm "$@" -cp "$room/taker/class:$lib" CMain >"$room/out" 2>"$room/err"
     is "$name" $? "$status" "$room/err"
     says "$name: the line" <(tail -1 "$room/err") "$line"
+}
+
+# Wants that a role has no peer S with these options, for the REASON: NAME REASON OPTIONS..
+lonely() {
+    local seconds was
+    for seconds in "${vain[@]}"; do
+        jvm "${@:3}" -Dmungo.patience="$seconds" -cp "$room/taker/class:$lib" CMain >"$room/out" 2>"$room/err"
+        was=$?
+        [ "$(head -1 "$room/err")" = "$2" ] && break
+    done
+    is "$1" $was 7 "$room/err"
+    says "$1: the lines" "$room/err" "$2
+${2%%:*}: no peer S"
 }
 
 part_settings() {
@@ -58,11 +71,10 @@ part_settings() {
     wrong "no address of one's own" 70 "mungo: C can't listen: no address is known" -Dmungo.role=C -Dmungo.roles=S=127.0.0.1:4
     wrong "no host of one's own" 70 "mungo: C can't listen at 127.0.0.1.1.:4: no host has the name 127.0.0.1.1." -Dmungo.role=C \
         -Dmungo.roles=S=127.0.0.1:4,C=127.0.0.1.1.:4
-    wrong "a host that isn't there" 7 "T: no peer S" -Dmungo.role=T -Dmungo.roles=S=127.0.0.1.1.:4 -Dmungo.patience=1
-    says "a host that isn't there: why" <(head -1 "$room/err") "T: S at 127.0.0.1.1.:4: no host has the name 127.0.0.1.1."
-    wrong "nobody there" 7 "T: no peer S" -Dmungo.role=T -Dmungo.roles=S=127.0.0.1:"$at" -Dmungo.patience=1
-    says "nobody there: why" <(head -1 "$room/err") "T: S at 127.0.0.1:$at: Connection refused"
-    wrong "nobody comes" 7 "C: no peer S" -Dmungo.role=C -Dmungo.roles=S=127.0.0.1:4,C=127.0.0.1:"$at" -Dmungo.patience=1
+    lonely "a host that isn't there" "T: S at 127.0.0.1.1.:4: no host has the name 127.0.0.1.1." -Dmungo.role=T \
+        -Dmungo.roles=S=127.0.0.1.1.:4
+    lonely "nobody there" "T: S at 127.0.0.1:$at: Connection refused" -Dmungo.role=T -Dmungo.roles=S=127.0.0.1:"$at"
+    lonely "nobody comes" "C: S at 127.0.0.1:4: it hasn't connected" -Dmungo.role=C -Dmungo.roles=S=127.0.0.1:4,C=127.0.0.1:"$at"
     start "$room/holder" "${peer[@]}" wait
     at=$(first_line "$room/holder")
     wrong "a port that is taken" 70 "mungo: C can't listen at 127.0.0.1:$at: Address already in use" -Dmungo.role=C \
@@ -72,9 +84,9 @@ part_settings() {
     wrong "no such wire" 70 "mungo: mungo.wire has S=NoSuch:it: NoSuch" -Dmungo.roles=S=127.0.0.1:4 -Dmungo.wire=S=NoSuch:it
     wrong "no wire at all" 70 "mungo: mungo.wire has S, and not ROLE=lines:FILE or ROLE=CLASS:WORD" -Dmungo.wire=S
     wrong "no address of a wire" 70 "mungo: mungo.wire has S=lines:$wire: mungo.roles has no address of S" -Dmungo.wire=S="lines:$wire"
-    jvm -cp "$room/taker/class:$room/lib" mungo.lib.Session C=CMain D=DMain >"$room/out" 2>"$room/err"
+    jvm -cp "$room/taker/class:$lib" mungo.lib.Session C=CMain D=DMain >"$room/out" 2>"$room/err"
     is "no main" $? 1 "$room/err"
     says "no main: the line" "$room/err" "mungo: NoMain DMain"
-    jvm -cp "$room/taker/class:$room/lib" mungo.lib.Session C=CMain C=CMain >"$room/out" 2>"$room/err"
+    jvm -cp "$room/taker/class:$lib" mungo.lib.Session C=CMain C=CMain >"$room/out" 2>"$room/err"
     is "a role twice" $? 2 "$room/err"
 }

@@ -4,17 +4,23 @@
 read            reads a line
 rest            reads all that comes
 send:BYTES      sends bytes, with the escapes of Python
-drip:BYTES      sends them one by one, five a second
-flood:BYTES     sends them again and again, until for a second nothing more is taken, and says how many bytes were
+slow:BYTES      sends them one by one, five a second
+drip:BYTES      the same again and again, until the other side has gone
+pour:BYTES      sends them again and again, until the other side has gone
+flood:BYTES     the same, or until for a second nothing more is taken, and says how many bytes were
 wait            does nothing until the other side has gone, without reading
-sleep:SECONDS   does nothing
+say:TEXT        prints a text
+until:FILE      does nothing until the file has a line
 close, reset    ends the connection
 strangers:N     connects N times more to the port, and says nothing there
 greet:ME,PEER   says the names with which a role begins its line
 prove:ME,PEER,SECRET   the same by a secret, and wants to see that the other side has it
 reflect:ME,PEER        the same without the secret: it sends back the proof of the other side
+replay:ME,PEER,SECRET  the same with the proof that another connection would have wanted
 text:TEXT       sends a text behind its length, as a role does
 told:LENGTH     sends the length of a text
+
+It says `gone` where the other side has gone before it, and `late` where for 300 seconds nothing has happened.
 """
 import codecs
 import hashlib
@@ -26,7 +32,7 @@ import struct
 import sys
 import time
 
-LIMIT = 200
+LIMIT = 300
 
 
 def told(text):
@@ -44,20 +50,36 @@ def connected(port):
             time.sleep(0.05)
 
 
+def seal(secret, whose, names, mine, theirs):
+    return hmac.new(secret, told(whose) + names + mine + theirs, hashlib.sha256).digest()
+
+
 def proves(peer, heard, me, other, secret):
     names = told(me) + told(other)
     mine = os.urandom(16)
     peer.sendall(b"mungo 2\n" + names + mine)
+    print("sent", flush=True)
     theirs, proof = heard.read(16), heard.read(32)
-    seal = lambda whose: hmac.new(secret, told(whose) + names + mine + theirs, hashlib.sha256).digest()
-    print("proof", "right" if proof == seal(b"answer") else "wrong", flush=True)
-    peer.sendall(seal(b"call"))
+    print("proof", "right" if proof == seal(secret, b"answer", names, mine, theirs) else "wrong", flush=True)
+    peer.sendall(seal(secret, b"call", names, mine, theirs))
 
 
 def reflects(peer, heard, me, other):
     peer.sendall(b"mungo 2\n" + told(me) + told(other) + os.urandom(16))
     heard.read(16)
     peer.sendall(heard.read(32))
+    print("sent", flush=True)
+
+
+def replays(peer, heard, before, me, other, secret):
+    names = told(me) + told(other)
+    mine = os.urandom(16)
+    before.sendall(b"mungo 2\n" + names + mine)
+    theirs = before.makefile("rb").read(16)
+    peer.sendall(b"mungo 2\n" + names + mine)
+    heard.read(48)
+    peer.sendall(seal(secret, b"call", names, mine, theirs))
+    print("sent", flush=True)
 
 
 def floods(peer, data):
@@ -72,10 +94,27 @@ def floods(peer, data):
     peer.settimeout(LIMIT)
 
 
-def waits(peer):
-    poll = select.poll()
-    poll.register(peer, select.POLLRDHUP | select.POLLHUP | select.POLLERR)
-    poll.poll(LIMIT * 1000)
+def waits(peers):
+    for peer in peers:
+        poll = select.poll()
+        poll.register(peer, select.POLLRDHUP | select.POLLHUP | select.POLLERR)
+        if not poll.poll(LIMIT * 1000):
+            raise socket.timeout()
+    print("gone", flush=True)
+
+
+def drips(peer, data):
+    for byte in data:
+        peer.sendall(bytes([byte]))
+        time.sleep(0.2)
+
+
+def has_line(file):
+    begun = time.time()
+    while not os.path.getsize(file):
+        if time.time() - begun > LIMIT:
+            raise socket.timeout()
+        time.sleep(0.05)
 
 
 def acts(peer, heard, port, action, data, kept):
@@ -85,16 +124,22 @@ def acts(peer, heard, port, action, data, kept):
         print(heard.read(), flush=True)
     elif action == "send":
         peer.sendall(data)
+    elif action == "slow":
+        drips(peer, data)
     elif action == "drip":
-        for byte in data:
-            peer.sendall(bytes([byte]))
-            time.sleep(0.2)
+        while True:
+            drips(peer, data)
+    elif action == "pour":
+        while True:
+            peer.sendall(data * (1 + 65536 // len(data)))
     elif action == "flood":
         floods(peer, data)
     elif action == "wait":
-        waits(peer)
-    elif action == "sleep":
-        time.sleep(float(data))
+        waits([peer] + kept)
+    elif action == "say":
+        print(data.decode(), flush=True)
+    elif action == "until":
+        has_line(data)
     elif action == "reset":
         peer.setsockopt(socket.SOL_SOCKET, socket.SO_LINGER, struct.pack("ii", 1, 0))
         peer.close()
@@ -110,6 +155,9 @@ def acts(peer, heard, port, action, data, kept):
         proves(peer, heard, *data.split(b","))
     elif action == "reflect":
         reflects(peer, heard, *data.split(b","))
+    elif action == "replay":
+        kept.append(connected(port))
+        replays(peer, heard, kept[-1], *data.split(b","))
     elif action == "text":
         peer.sendall(told(data))
     elif action == "told":
@@ -137,8 +185,10 @@ def main(words):
         for word in words:
             action, _, text = word.partition(":")
             acts(peer, heard, port, action, codecs.escape_decode(text.encode())[0], kept)
-    except OSError as gone:
-        print("gone:", gone, flush=True)
+    except socket.timeout:
+        print("late", flush=True)
+    except OSError:
+        print("gone", flush=True)
 
 
 main(sys.argv[1:])

@@ -14,13 +14,12 @@ settings() {
     chown -R "$user" "$3"
 }
 
+# Whether a mail was delivered below a folder.
+has_mail() { [ -n "$(find "$1" -type f -path '*/new/*')" ]; }
+
 # The mails that were delivered below a folder come into the file F, when the server gets to it, and are gone there: FOLDER F.
 mails() {
-    local try
-    for try in $(seq 100); do
-        [ -n "$(find "$1" -type f -path '*/new/*')" ] && break
-        sleep 0.1
-    done
+    await has_mail "$1"
     find "$1" -type f -path '*/new/*' -exec cat {} + | tr -d '\r' >"$2"
     find "$1" -type f -path '*/new/*' -delete
 }
@@ -29,7 +28,7 @@ mails() {
 delivers() {
     local name=$1 at=$2 folder=$3 way
     for way in class javac; do
-        plays "$room/smtp/$way" CMain "$at" "lines:$top/examples/smtp/wire"
+        plays "$room/smtp/$way" CMain "$at" "lines:$(roomy examples/smtp/wire)" -Xverify:all
         is "smtp to $name, $way" $? 0 "$room/err"
         says "smtp to $name, $way: what is printed" "$room/out" "server mail.example
 accepted bob@mail.example
@@ -40,7 +39,7 @@ queued 250"
 line 2"
         grep -q bob@mail.example "$room/mails"
         count "smtp to $name, $way: whose mail it is" $? "$room/mails"
-        plays "$room/codes/$way" CMain "$at" "lines:$top/examples/smtp_codes/wire"
+        plays "$room/codes/$way" CMain "$at" "lines:$(roomy examples/smtp_codes/wire)" -Xverify:all
         is "codes to $name, $way" $? 0 "$room/err"
         # Each server has words of its own.
         sed -nE 's/^(server: mail.example|refused: |early: |to .*|not to .*|delivered).*/\1/p' "$room/out" >"$room/said"
@@ -97,7 +96,7 @@ part_smtp_server() {
     by_both smtp_server "$top/examples/smtp/S.scr" "$top/examples/smtp/SMain.java"
     for way in class javac; do
         serves "$way"
-        timeout 240 python3 "$top/tools/wires/mail_client.py" "$at" >"$room/said" 2>&1
+        timeout 400 python3 "$top/tools/wires/mail_client.py" "$at" >"$room/said" 2>&1
         wait "$server"
         is "smtp server, $way" $? 0 "$room/err"
         says "smtp server, $way: what the client is told" "$room/said" "refused {'eve@other.example': (550, b'no such mailbox')}"
@@ -113,7 +112,7 @@ mails 1"
     done
     [ -d "$room/smtp/class" ] || by_mungo smtp "$top/examples/smtp/C.scr" "$top/examples/smtp/CMain.java"
     serves class
-    plays "$room/smtp/class" CMain "$at" "lines:$top/examples/smtp/wire"
+    plays "$room/smtp/class" CMain "$at" "lines:$(roomy examples/smtp/wire)" -Xverify:all
     is "both by wires: the client" $? 0 "$room/err"
     wait "$server"
     # As `mungo run`, but that the client is told the code of the reply, and not the mail's number.
@@ -124,8 +123,8 @@ mails 1"
 # Starts the server of examples/smtp by class files of a WAY: its number comes into `server`, its port into `at`.
 serves() {
     at=$(port)
-    jvm -Dmungo.role=S -Dmungo.roles=C=127.0.0.1:"$at" -Dmungo.wire=C="lines:$top/examples/smtp/server_wire" -Dmungo.patience=200 \
-        -cp "$room/smtp_server/$1:$room/lib" SMain >"$room/server" 2>"$room/err" &
+    jvm -Dmungo.role=S -Dmungo.roles=C=127.0.0.1:"$at" -Dmungo.wire=C="lines:$(roomy examples/smtp/server_wire)" "${long[@]}" \
+        -cp "$room/smtp_server/$1:$lib" SMain >"$room/server" 2>"$room/err" &
     server=$!
 }
 
@@ -138,7 +137,7 @@ part_redis() {
     listens "$at"
     count "Redis is there" $? "$room/redis.said"
     for way in class javac; do
-        plays "$room/redis/$way" CMain "$at" "lines:$top/examples/redis/wire"
+        plays "$room/redis/$way" CMain "$at" "lines:$(roomy examples/redis/wire)" -Xverify:all
         is "redis, $way" $? 0 "$room/err"
         says "redis, $way: what is printed" <(tr -d '\r' <"$room/out") "no absent
 counter is 41
@@ -207,7 +206,7 @@ part_http() {
         listens "$at"
         count "http.server $version is there" $? "$room/http.said"
         for way in class javac; do
-            plays "$room/http/$way" CMain "$at" "lines:$top/examples/http/wire"
+            plays "$room/http/$way" CMain "$at" "lines:$(roomy examples/http/wire)" -Xverify:all
             is "http $version, $way" $? 0 "$room/err"
             says "http $version, $way: what is printed" "$room/out" "/hello.txt: hello, größer page
 
@@ -219,18 +218,50 @@ post: Unsupported method ('POST'), 501"
     done
 }
 
-# The Maven project: its sources are judged; and it is built offline with its tests, and its program run.
+# The sources of the Maven project are judged, and built by javac alone, and its program delivers to aiosmtpd.
+part_packages() {
+    local python project=$top/examples/maven/src/main made=$room/classes
+    mkdir -p "$room/source" "$made"
+    "$mungo" check "$project"/mungo/*.scr "$project"/java/demo/mail/*.java >"$room/said" 2>&1
+    is "packages: the sources are accepted" $? 0 "$room/said"
+    "$mungo" check "$project"/mungo/*.scr "$top"/examples/maven/refused/Sure.java >"$room/said" 2>&1
+    is "packages: the variant is refused" $? 1 "$room/said"
+    "$mungo" translate --package demo.mail --out "$room/source" "$project"/mungo/*.scr >"$room/said" 2>&1
+    is "packages: translate" $? 0 "$room/said"
+    "$mungo" check "$room"/source/*.* "$project"/java/demo/mail/*.java >"$room/said" 2>&1
+    is "packages: the sources are accepted with what translate wrote" $? 0 "$room/said"
+    by_javac -Xlint:all -Werror -cp "$lib" -d "$made" "$room"/source/*.java "$project"/java/demo/*.java \
+        "$project"/java/demo/mail/*.java >"$room/said" 2>&1
+    is "packages: javac" $? 0 "$room/said"
+    cp "$(roomy examples/maven/src/main/resources/mail.wire)" "$made"
+    python=$(python_of_mail) || { lacking "no aiosmtpd here for the sources in a package"; return; }
+    demo packages "$made:$lib" "$python"
+}
+
+# The program of the Maven project delivers to aiosmtpd: NAME CLASSPATH PYTHON.
+demo() {
+    local at
+    at=$(port)
+    start "$room/aiosmtpd.said" "$3" "$top/tools/wires/mail_server.py" "$at" "$room/maildir"
+    listens "$at"
+    count "$1: aiosmtpd is there" $? "$room/aiosmtpd.said"
+    jvm "${long[@]}" -cp "$2" demo.App 127.0.0.1 "$at" >"$room/out" 2>"$room/err"
+    is "$1: the program" $? 0 "$room/err"
+    says "$1: what is printed" "$room/out" "queued: OK
+done 0
+rejected: not a mailbox here
+done 550
+unfit S recipient -1"
+    mails "$room/maildir" "$room/mails"
+    says "$1: the mail" <(sed '1,/^$/d' "$room/mails") "Hello!
+.
+QUIT
+..dots"
+}
+
+# The Maven project is built offline with its tests, and its program run.
 part_maven() {
-    local at python repository=/usr/share/maven-repo made=$room/maven
-    "$mungo" check "$top"/examples/maven/src/main/mungo/*.scr "$top"/examples/maven/src/main/java/demo/mail/*.java >"$room/said" 2>&1
-    is "maven: the sources are accepted" $? 0 "$room/said"
-    "$mungo" check "$top"/examples/maven/src/main/mungo/*.scr "$top"/examples/maven/refused/Sure.java >"$room/said" 2>&1
-    is "maven: the variant is refused" $? 1 "$room/said"
-    "$mungo" translate --package p >"$room/said" 2>&1
-    if [ "$(cat "$room/said")" != "mungo: words" ]; then
-        lacking "the program doesn't know translate --package, so the Maven project isn't built"
-        return
-    fi
+    local python repository=/usr/share/maven-repo made=$room/maven
     if ! command -v mvn >/dev/null || [ ! -e $repository/org/codehaus/mojo/exec-maven-plugin/3.1.0 ] \
         || [ ! -e $repository/org/codehaus/mojo/build-helper-maven-plugin/3.3.0 ] \
         || [ ! -e $repository/org/apache/maven/plugins/maven-surefire-plugin ]; then
@@ -239,26 +270,12 @@ part_maven() {
     fi
     cp -rs $repository "$room/m2"
     cp -r "$top/examples/maven" "$made"
-    (cd "$made" && timeout 240 mvn -B -q -o -Dmaven.repo.local="$room/m2" -Dmungo.home="$top" \
+    cp "$(roomy examples/maven/src/main/resources/mail.wire)" "$made/src/main/resources"
+    (cd "$made" && timeout 400 mvn -B -q -o -Dmaven.repo.local="$room/m2" -Dmungo.home="$top" \
         -Dmungo="$(command -v "$mungo")" test </dev/null >"$room/said" 2>&1)
     is "maven: mvn test" $? 0 "$room/said"
     grep -q 'tests="4"' "$made"/target/surefire-reports/*.xml
     count "maven: four tests have run" $? "$room/said"
     python=$(python_of_mail) || { lacking "no aiosmtpd here for the Maven project"; return; }
-    at=$(port)
-    start "$room/aiosmtpd.said" "$python" "$top/tools/wires/mail_server.py" "$at" "$made/maildir"
-    listens "$at"
-    count "maven: aiosmtpd is there" $? "$room/aiosmtpd.said"
-    jvm -cp "$made/target/classes" demo.App 127.0.0.1 "$at" >"$room/out" 2>"$room/err"
-    is "maven: the program" $? 0 "$room/err"
-    says "maven: what is printed" "$room/out" "queued: OK
-done 0
-rejected: not a mailbox here
-done 550
-unfit S recipient -1"
-    mails "$made/maildir" "$room/mails"
-    says "maven: the mail" <(sed '1,/^$/d' "$room/mails") "Hello!
-.
-QUIT
-..dots"
+    demo maven "$made/target/classes" "$python"
 }

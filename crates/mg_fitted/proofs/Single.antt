@@ -5,7 +5,6 @@ use Rattle.std.specs.Prelude.{cond, nat_eq}
 use Rattle.std.specs.List.{AllByRecursion, filter}
 use Rattle.std.proofs.lemmas.Bool.{eq-eqb}
 use Rattle.mg_text.specs.Call.{Name}
-use Rattle.mg_text.specs.declared.place.Place.{Place}
 use Rattle.mg_text.specs.Places.{start_of}
 use Rattle.mg_read.specs.FirstLaws.{IsSingle}
 use Rattle.mg_read.proofs.Judging.{one_answer}
@@ -27,7 +26,7 @@ use Rattle.mg_refusal.specs.Refusals.{Refusal, refusal_at}
 use Rattle.mg_sources.specs.Reading.{Part}
 use Rattle.fit_uses.specs.declared.usage.Use.{Use}
 use Rattle.fit_uses.specs.declared.usage.Use.TheVariants.{Talks, Makes}
-use Rattle.mg_fits.specs.Parts.{Headed, protocols_in, roles_in}
+use Rattle.mg_fits.specs.Parts.{protocols_in, roles_in}
 use Rattle.mg_fits.specs.Conditions.{Condition, Unplayed, Stranger, SharedMain, NoProtocol, OtherProtocol, OwnSession, MadeElsewhere, NotMade}
 use Rattle.mg_fits.specs.Conditions.{Of, HasOther, IsOwnSession, IsMadeElsewhere, elsewhere, IsMainOf, MakesNone}
 

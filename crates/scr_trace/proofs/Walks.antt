@@ -1,8 +1,10 @@
 -- How walks follow the protocol.
+use Rattle.std.proofs.Common.{◌<◌, length, get_or, ltb, arith}
 use Rattle.std.proofs.Common.{◌≡◌, ◌≢◌, ℕ, zero, suc, ◌-◌, List, [], ◌∷◌, ◌++◌, map, reverse, Some, None, refl, sym, ap, ◌∙◌, subst, inl}
 use Rattle.std.proofs.Common.{inr, ◌⊎◌, ⊎_elim, Bool, true, false, ◌&&◌, if◌then◌else◌, Option}
-use Rattle.std.specs.Prelude.{slice_get}
+use Rattle.std.specs.Prelude.{slice_get, IfSome}
 use Rattle.std.specs.Str.{bytes_eq}
+use Rattle.std.proofs.lemmas.Bool.{ltb-true}
 use Rattle.std.proofs.lemmas.List.{reverse-append, map-append}
 use Rattle.std.proofs.lemmas.Slice.Eq.{bytes_eq-Decides}
 use Rattle.mg_text.specs.Call.{Name, Call}
@@ -26,7 +28,7 @@ use Rattle.scr_trace.specs.Walking.{graph_of, Stands, StepsOn, HasTaken}
 use Rattle.scr_trace.specs.inner.Goes.{Among, Edged, Taken, Goes}
 use Rattle.scr_trace.specs.inner.Laying.{Work}
 use Rattle.scr_trace.specs.inner.View.{draft_of, drafts_of, cell_of, work_of, standing_of, edge_of, edges_of}
-use Rattle.scr_trace.specs.inner.Search.{first_led, is_said, is_looked, led_if}
+use Rattle.scr_trace.specs.inner.Search.{first_led, is_said, is_looked, is_called, led_if, HasArrow}
 use Rattle.scr_trace.proofs.Following.{AllSettled, all_settled, step_listed, listed_step, settled_at, edges_there, edge_of_step}
 use Rattle.scr_trace.proofs.Following.{step_of_edge, position_there, steps_from, steps_to, finished_end, end_finished}
 use Rattle.scr_trace.proofs.Telling.{DiffersFrom, AllDiffer, calls_from, Told, AllTold, valid_told}
@@ -115,6 +117,29 @@ among_edge w number xs e h =
     let d = map_among (edge_of w number) (drafts_of xs) e h in
     let a = map_among draft_of xs d.0 (reverse_among (map draft_of xs) d.0 d.1) in
     (a.0, a.1, ap (edge_of w number) a.2 ∙ d.2)
+
+arrow_has : (me : Name) (w : Work) (number : Option ℕ) (xs : List Arrow) (method : Name) (answer : Option Name) (a : Arrow) →
+    Among xs a → is_called me w number method answer a ≡ true →
+    Has me w (map (edge_of w number) (drafts_of xs)) (record { method = method; answer = answer }) a.to
+arrow_has me w None xs method None a h t = record {
+  edge = edge_of w None (draft_of a);
+  among = edge_among w None xs a h;
+  named = λ i. record { method = sym ((bytes_eq-Decides method (message_call (message_of a.message.now))).0 t) i; answer = None };
+  leads = refl;
+}
+arrow_has me w None xs method (Some label) a h t = cc
+arrow_has me w (Some c) xs method None a h t = cc
+arrow_has me w (Some c) xs method (Some label) a h t =
+    let both = both_parts (bytes_eq a.message.now.label label) (bytes_eq method (label_call me (w.choices - c) a.message.now.peer)) t in
+    record {
+      edge = edge_of w (Some c) (draft_of a);
+      among = edge_among w (Some c) xs a h;
+      named = λ i. record {
+        method = sym ((bytes_eq-Decides method (label_call me (w.choices - c) a.message.now.peer)).0 both.1) i;
+        answer = Some ((bytes_eq-Decides a.message.now.label label).0 both.0 i);
+      };
+      leads = refl;
+    }
 
 led_has : (me : Name) (w : Work) (number : Option ℕ) (xs : List Arrow) (method : Name) (answer : Option Name) (hop : Hop) →
     led_if me w number xs method answer ≡ Some hop →
@@ -207,6 +232,40 @@ goes_some walk number exits call hop to at there led is =
       };
       named = h.named;
       leads = h.leads ∙ sym is;
+    }
+
+get_or_among : {A : Type 0} (xs : List A) (k : ℕ) (d : A) → k < length xs → Among xs (get_or xs k d)
+get_or_among [] k d h = absurd (omega (arith, h))
+get_or_among (y ∷ ys) zero d h = inl refl
+get_or_among (y ∷ ys) (suc k) d h = inr (get_or_among ys k d (omega (arith, h)))
+
+pub at_among : {A : Type 0} (xs ys : List A) (k : ℕ) (x d : A) → true ≡ ltb k (length ys) → x ≡ get_or ys k d → ys ≡ xs → Among xs x
+at_among xs ys k x d h e s =
+    let inside : k < length ys = ltb-true k (length ys) (sym h) in
+    subst (λ l. Among l x) s (subst (λ z. Among ys z) (sym e) (get_or_among ys k d inside))
+
+pub some_has : {A : Type 0} (P : A → Type 0) (o : Option A) (a : A) → o ≡ Some a → IfSome o P → P a
+some_has P o a e h = subst (λ x. IfSome x P) e h
+
+-- an arrow that was found at once is the edge of the call
+pub goes_at_once : (walk : Walk) (number : ℕ) (exits : Exits) (call : Call) (hop : Hop) (to : Standing) →
+    walk.standing ≡ standings.State number → Some (cell_of exits) ≡ slice_get (work_of walk.laid).cells number →
+    HasArrow (tree_of walk.local.now).me (work_of walk.laid) exits.number exits.arrows.items call hop →
+    to ≡ standing_of (work_of walk.laid) hop → Taken walk call to
+goes_at_once walk number exits call hop to at there has is =
+    let w : Work = work_of walk.laid in
+    let h = arrow_has (tree_of walk.local.now).me w exits.number exits.arrows.items call.method call.answer has.arrow has.among has.called in
+    record {
+      edge = h.edge;
+      edged = record {
+        number = number;
+        edges = edges_of w (cell_of exits);
+        at = at;
+        there = get_map (edges_of w) w.cells number (cell_of exits) (sym there);
+        among = h.among;
+      };
+      named = h.named;
+      leads = h.leads ∙ ap (standing_of w) has.leads ∙ sym is;
     }
 
 -- it finds none

@@ -10,6 +10,7 @@ mod names;
 mod offers;
 mod search;
 mod standing;
+mod tables;
 mod walk;
 
 pub use arrow::{Arrow, Exits, Hop};

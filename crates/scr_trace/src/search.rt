@@ -2,7 +2,7 @@
 
 ghost use Rattle.std.specs.Prelude.{◌≡◌, ◌&&◌, ℕ, IfOk, option_map, slice_get};
 ghost use Rattle.std.specs.Fmt.{decimal};
-ghost use Rattle.scr_trace.specs.inner.Search.{first_led, is_said, is_looked, led_if};
+ghost use Rattle.scr_trace.specs.inner.Search.{first_led, is_said, is_looked, is_called, led_if};
 ghost use Rattle.scr_trace.specs.inner.View.{cell_of, plain_standing, standing_of, work_of};
 
 use crate::arrow::{Arrow, Exits, Hop};
@@ -116,6 +116,33 @@ impl<'a> Laying<'a> {
                 Ok(find_look(me, digits.as_str(), method, label.as_str(), arrows))
             }
             _ => Ok(None),
+        }
+    }
+
+    /// Whether an arrow of a state of this number is that of a call.
+    pub fn has_call(
+        &self,
+        alloc: Global,
+        me: &str,
+        number: Option<u32>,
+        arrow: &Arrow<'_>,
+        call: &Call,
+    ) -> Result<bool, Memory>
+        ensures { IfOk result (λ b. b ≡ is_called me.now (work_of self.now) number call.now.method call.now.answer arrow.now) }
+    {
+        let method = call.method.as_str();
+        let message = arrow.message;
+        match (number, &call.answer) {
+            (None, None) => Ok(is_message_call(method, message)),
+            (Some(behind), Some(label)) => {
+                let number = self.choice_number(behind);
+                let digits = format!(in alloc; "{number}")?;
+                Ok(
+                    message.label.as_str() == label.as_str()
+                        && is_label_call(method, me, digits.as_str(), message.peer.as_str()),
+                )
+            }
+            _ => Ok(false),
         }
     }
 }

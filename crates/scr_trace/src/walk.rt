@@ -1,6 +1,6 @@
 //! Walks along a local protocol, call by call.
 
-ghost use Rattle.std.specs.Prelude.{◌≡◌, ◌≢◌, ◌↔◌, [], ◌∷◌, ◌++◌, IfOk, OnOk, OnErr, IsTrue, Err};
+ghost use Rattle.std.specs.Prelude.{◌≡◌, ◌≢◌, ◌↔◌, [], ◌∷◌, ◌++◌, IfOk, IfSome, OnOk, OnErr, IsTrue, Err};
 ghost use Rattle.scr_tree.specs.Tree.{LocalTree};
 ghost use Rattle.scr_tree.specs.Local.{tree_of};
 ghost use Rattle.scr_tree.specs.Meaning.{protocol_of};
@@ -8,10 +8,12 @@ ghost use Rattle.scr_tree.specs.Steps.{Act, Position, start, Step, Finished};
 ghost use Rattle.scr_tree.specs.CallNames.{call_of};
 ghost use Rattle.scr_tree.specs.Traces.{Trace, Complete};
 
+use crate::arrow::{Exits, Hop};
 use crate::call::{Call, Offer};
 use crate::laying::Laying;
 use crate::offers::offers_of;
 use crate::standing::Standing;
+use crate::tables::{FEW, noted, table};
 use mg_text::{List, Memory};
 use scr_tree::Local;
 use std::alloc::Global;
@@ -21,6 +23,8 @@ pub struct Walk<'a> {
     alloc: Global,
     local: &'a Local,
     laid: Laying<'a>,
+    // Where the arrows of calls may stand.
+    slots: Vec<u64>,
     standing: Standing,
 }
 
@@ -31,6 +35,7 @@ impl Drop for Walk<'_> {
             alloc: _,
             local: _,
             laid: _,
+            slots: _,
             standing: _,
         } = self;
     }
@@ -60,6 +65,8 @@ impl<'a> Walk<'a> {
     ghost use Rattle.scr_trace.specs.Walking.{Stands, StepsOn, HasTaken, Offered, Calls, call_said, calls_offered, methods_of};
     ghost use Rattle.scr_tree.specs.Valid.{AreDistinct};
     ghost use Rattle.scr_trace.specs.inner.Goes.{Goes};
+    ghost use Rattle.scr_trace.specs.inner.Search.{HasArrow};
+    ghost use Rattle.scr_trace.specs.inner.View.{work_of};
 
     /// A walk that stands at the start of a protocol, and has taken no calls.
     /// The only error is `Memory`, where there is too little of it.
@@ -68,11 +75,13 @@ impl<'a> Walk<'a> {
         ensures taken { IfOk result (λ w. HasTaken (tree_of local.now) w []) }
     {
         let laid = Laying::of(alloc, local)?;
+        let slots = table(alloc, &laid)?;
         let standing = laid.standing(laid.start());
         Ok(Walk {
             alloc,
             local,
             laid,
+            slots,
             standing,
         })
     }
@@ -144,10 +153,45 @@ impl<'a> Walk<'a> {
         let Some(exits) = self.laid.exits_of(number) else {
             return Ok(None);
         };
+        if let Some(hop) = self.led_at_once(number, exits, call)? {
+            return Ok(Some(self.laid.standing(hop)));
+        }
         let me = self.local.me().as_str();
         match self.laid.led(self.alloc, me, exits, call)? {
             Some(hop) => Ok(Some(self.laid.standing(hop))),
             None => Ok(None),
         }
+    }
+
+    // Where a call leads by the arrow that the table tells, if that is one of the call.
+    fn led_at_once(
+        &self,
+        number: u32,
+        exits: &Exits<'_>,
+        call: &Call,
+    ) -> Result<Option<Hop>, Memory>
+        ensures { IfOk result (λ hop. IfSome hop (λ h. HasArrow (tree_of self.now.local.now).me (work_of self.now.laid)
+            exits.now.number exits.now.arrows.items (call_said call.now) h)) }
+    {
+        let arrows = exits.arrows.as_slice();
+        if arrows.len() <= FEW {
+            return Ok(None);
+        }
+        let text = match &call.answer {
+            None => call.method.as_str(),
+            Some(label) => label.as_str(),
+        };
+        let place = noted(self.slots.as_slice(), number, text);
+        let Some(arrow) = arrows.get(place) else {
+            return Ok(None);
+        };
+        let me = self.local.me().as_str();
+        if self
+            .laid
+            .has_call(self.alloc, me, exits.number, arrow, call)?
+        {
+            return Ok(Some(arrow.to));
+        }
+        Ok(None)
     }
 }

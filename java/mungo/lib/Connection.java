@@ -19,8 +19,9 @@ import java.nio.channels.ServerSocketChannel;
 import java.nio.channels.SocketChannel;
 
 /**
- * A connection to a peer. Each call that waits has a moment of System.nanoTime at which it throws SocketTimeoutException, and
- * throws InterruptedIOException where its thread is interrupted. One thread may read while another writes.
+ * A connection to a peer. Each call that waits has a moment of System.nanoTime at which it throws
+ * SocketTimeoutException, and throws InterruptedIOException where its thread is interrupted. One thread may read while
+ * another writes.
  */
 final class Connection implements Closeable {
     /** How many bytes are read or written at once. */

@@ -7,7 +7,10 @@ import java.util.Map;
 import java.util.regex.Matcher;
 import java.util.regex.Pattern;
 
-/** What a local protocol asks of a wire file. Reads no more of it than its messages, so `mungo check` has to have taken it. */
+/**
+ * What a local protocol asks of a wire file. Reads no more of it than its messages, so `mungo check` has to have taken
+ * it.
+ */
 final class Coverage {
     private static final Pattern COMMENT = Pattern.compile("(?s)/\\*.*?\\*/|//[^\n]*");
     private static final Pattern TYPE =
@@ -20,7 +23,8 @@ final class Coverage {
         String text = COMMENT.matcher(protocol).replaceAll(" ");
         Map<String, String> types = types(text);
         List<String> missing = new ArrayList<>();
-        Matcher message = Pattern.compile("(\\w+)\\s*\\(\\s*(\\w*)\\s*\\)\\s*(to|from)\\s+" + Pattern.quote(peer) + "\\s*;").matcher(text);
+        String form = "(\\w+)\\s*\\(\\s*(\\w*)\\s*\\)\\s*(to|from)\\s+" + Pattern.quote(peer) + "\\s*;";
+        Matcher message = Pattern.compile(form).matcher(text);
         while (message.find()) {
             Script.Kind kind = new Script.Kind(message.group(1), types.getOrDefault(message.group(2), "String"));
             String line = kind + " " + message.group(3) + " " + peer;
@@ -40,7 +44,8 @@ final class Coverage {
         }
         Matcher type = TYPE.matcher(text);
         while (type.find()) {
-            types.put(type.group(2), type.group(1).equals("Integer") ? "int" : type.group(1).equals("Boolean") ? "boolean" : "String");
+            String java = type.group(1);
+            types.put(type.group(2), java.equals("Integer") ? "int" : java.equals("Boolean") ? "boolean" : "String");
         }
         return types;
     }

@@ -14,8 +14,8 @@ import java.util.ArrayDeque;
 import java.util.Deque;
 
 /**
- * The messages between a role and a peer that is a role of mungo in another process. A message is its label, a letter for the
- * kind of its value, and the value; a text has its length in four bytes before it.
+ * The messages between a role and a peer that is a role of mungo in another process. A message is its label, a letter
+ * for the kind of its value, and the value; a text has its length in four bytes before it.
  *
  * <p>What the peer sends is read as it comes, up to some messages and bytes that aren't taken; the rest is left to the
  * connection, by which the peer's sending waits.

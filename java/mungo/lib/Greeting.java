@@ -13,9 +13,10 @@ import javax.crypto.Mac;
 import javax.crypto.spec.SecretKeySpec;
 
 /**
- * What a connection of two roles begins with. Without a secret the caller says `mungo 1` and both names. With one it says
- * `mungo 2`, both names and a random number; the other side answers with a random number of its own and a proof, and the
- * caller with its proof. A proof is the HMAC-SHA-256, by the secret, of whose it is, both names and both numbers.
+ * What a connection of two roles begins with. Without a secret the caller says `mungo 1` and both names. With one it
+ * says `mungo 2`, both names and a random number; the other side answers with a random number of its own and a proof,
+ * and the caller with its proof. A proof is the HMAC-SHA-256, by the secret, of whose it is, both names and both
+ * numbers.
  */
 final class Greeting {
     private static final byte[] PLAIN = "mungo 1\n".getBytes(StandardCharsets.US_ASCII);
@@ -63,7 +64,10 @@ final class Greeting {
         }
     }
 
-    /** Greets one that has connected to this role, and gives its name. Throws Stranger where it isn't a role that means this one. */
+    /**
+     * Greets one that has connected to this role, and gives its name. Throws Stranger where it isn't a role that means
+     * this one.
+     */
     String answer(Connection line, String me, long until) throws IOException {
         if (!Arrays.equals(line.read(PLAIN.length, until), secret == null ? PLAIN : KEYED)) {
             throw new Stranger(null, "its first words aren't those of a role");

@@ -96,7 +96,8 @@ final class LineReader {
         try {
             return Texts.decoded(bytes, script.charset);
         } catch (CharacterCodingException wrong) {
-            throw wrong("it isn't in " + script.charset + ": " + Texts.quoted(new String(bytes, StandardCharsets.ISO_8859_1)));
+            String read = new String(bytes, StandardCharsets.ISO_8859_1);
+            throw wrong("it isn't in " + script.charset + ": " + Texts.quoted(read));
         }
     }
 }

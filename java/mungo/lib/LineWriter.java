@@ -4,7 +4,9 @@ import java.io.ByteArrayOutputStream;
 import java.nio.charset.CharacterCodingException;
 import java.util.List;
 
-/** Makes the bytes of lines that are sent. A value can't end the line in which it stands, and so can't begin another. */
+/**
+ * Makes the bytes of lines that are sent. A value can't end the line in which it stands, and so can't begin another.
+ */
 final class LineWriter {
     private LineWriter() {}
 
@@ -38,7 +40,9 @@ final class LineWriter {
         }
     }
 
-    /** The lines of a text, and a line with a dot, which isn't ended yet. A line feed at the end begins no other line. */
+    /**
+     * The lines of a text, and a line with a dot, which isn't ended yet. A line feed at the end begins no other line.
+     */
     private static String text(String value, String end) throws Wire.Unfit {
         StringBuilder lines = new StringBuilder();
         int begin = 0;

@@ -22,9 +22,9 @@ import java.util.regex.Pattern;
 /**
  * A wire of lines of text, as those of SMTP, POP3, Redis and HTTP, which a wire file describes. Nothing here is proved.
  *
- * <p>Nothing is sent of a message whose value doesn't fit. What is received has to fit the lines of exactly one message. A
- * message is waited for as long as the file's `limit` says, also where the peer sends a byte now and then, or where a pattern
- * takes long.
+ * <p>Nothing is sent of a message whose value doesn't fit. What is received has to fit the lines of exactly one
+ * message. A message is waited for as long as the file's `limit` says, also where the peer sends a byte now and then,
+ * or where a pattern takes long.
  */
 public final class Lines implements Wire {
     private final Script script;
@@ -38,7 +38,10 @@ public final class Lines implements Wire {
     /** Messages that have been received with another, and are still to be given. */
     private final Deque<Message> ready = new ArrayDeque<>();
 
-    /** A wire by the file, or the resource of the class path, of this name. Throws IOException where it isn't there or is wrong. */
+    /**
+     * A wire by the file, or the resource of the class path, of this name. Throws IOException where it isn't there or
+     * is wrong.
+     */
     public Lines(String name) throws IOException {
         this(name, textOf(name));
     }
@@ -69,8 +72,9 @@ public final class Lines implements Wire {
     }
 
     private static byte[] resource(String name) throws IOException {
-        ClassLoader loader = Thread.currentThread().getContextClassLoader();
-        try (InputStream in = (loader == null ? ClassLoader.getSystemClassLoader() : loader).getResourceAsStream(name)) {
+        ClassLoader own = Thread.currentThread().getContextClassLoader();
+        ClassLoader loader = own == null ? ClassLoader.getSystemClassLoader() : own;
+        try (InputStream in = loader.getResourceAsStream(name)) {
             if (in == null) {
                 throw new IOException("no file and no resource " + name);
             }

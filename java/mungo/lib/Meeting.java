@@ -7,9 +7,9 @@ import java.util.Deque;
 import java.util.Map;
 
 /**
- * Brings a role together with its peers in other processes: of two roles the one whose name comes first in the order of names
- * listens, and the other connects. Who connects has some seconds for its greeting; where too many greet at a time, the one
- * that came first has to go.
+ * Brings a role together with its peers in other processes: of two roles the one whose name comes first in the order of
+ * names listens, and the other connects. Who connects has some seconds for its greeting; where too many greet at a
+ * time, the one that came first has to go.
  */
 final class Meeting {
     private static final int MOST_GREETED = 32;
@@ -35,8 +35,8 @@ final class Meeting {
             try {
                 door = new Connection.Door(own, MOST_GREETED);
             } catch (IOException fault) {
-                throw new IOException(me + " can't listen" + (own == null ? "" : " at " + own.getHostString() + ":" + own.getPort())
-                        + ": " + Texts.reason(fault));
+                String at = own == null ? "" : " at " + own.getHostString() + ":" + own.getPort();
+                throw new IOException(me + " can't listen" + at + ": " + Texts.reason(fault));
             }
             inBackground("mungo: " + me + " listens", this::listen);
         }

@@ -120,7 +120,8 @@ final class Role {
                 peer.wire.open(peer.address, Connection.in(patience));
                 peer.open = true;
             } catch (IOException gone) {
-                String at = peer.address == null ? "" : " at " + Texts.name(peer.address.getHostString()) + ":" + peer.address.getPort();
+                String at = peer.address == null ? ""
+                        : " at " + Texts.name(peer.address.getHostString()) + ":" + peer.address.getPort();
                 say(name + at + ": " + Texts.reason(gone));
                 throw ends("no peer " + name, 7);
             }

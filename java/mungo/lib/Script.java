@@ -49,12 +49,15 @@ final class Script {
 
         @Override
         public String toString() {
-            String type = value == Void.class ? "" : value == Integer.class ? "int" : value == Boolean.class ? "boolean" : "String";
+            String type = value == Void.class ? "" : value == Integer.class ? "int"
+                    : value == Boolean.class ? "boolean" : "String";
             return label + "(" + type + ")";
         }
     }
 
-    /** What stands in the lines of a message that is sent: a text as it is, the end of a line, or a place for the value. */
+    /**
+     * What stands in the lines of a message that is sent: a text as it is, the end of a line, or a place for the value.
+     */
     enum Slot { LITERAL, END, VALUE, SIZE, BYTES, DOTTED, TEXT }
 
     static final class Part {

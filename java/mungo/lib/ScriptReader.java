@@ -14,7 +14,8 @@ import java.util.regex.PatternSyntaxException;
 final class ScriptReader {
     private static final Pattern SETTING = Pattern.compile("(charset|end|limit|longest|listen)(?: +(\\S+))?");
     private static final Pattern HEADER =
-            Pattern.compile("([A-Za-z0-9_]+ *\\(.*?\\)(?: *, *[A-Za-z0-9_]+ *\\(.*?\\))*)(?: +(first|anew|after +(.+)))?");
+            Pattern.compile("([A-Za-z0-9_]+ *\\(.*?\\)(?: *, *[A-Za-z0-9_]+ *\\(.*?\\))*)"
+                    + "(?: +(first|anew|after +(.+)))?");
     private static final Pattern MESSAGE = Pattern.compile("([A-Za-z0-9_]+) *\\( *(|int|boolean|String) *\\)");
     private static final Pattern BLOCK = Pattern.compile("(\\(?)\\{(text|bytes)\\}(\\)?)(\\\\?)");
     private static final int MOST_SECONDS = 86_400;
@@ -115,7 +116,8 @@ final class ScriptReader {
     private Charset charset(String name) throws Fault {
         try {
             Charset charset = Charset.forName(name);
-            if (charset.canEncode() && "\r\n.".equals(new String("\r\n.".getBytes(charset), StandardCharsets.US_ASCII))) {
+            if (charset.canEncode()
+                    && "\r\n.".equals(new String("\r\n.".getBytes(charset), StandardCharsets.US_ASCII))) {
                 return charset;
             }
         } catch (IllegalArgumentException unknown) {
@@ -248,7 +250,8 @@ final class ScriptReader {
             boolean value = !block.group(1).isEmpty();
             boolean ended = block.group(4).isEmpty();
             if (many || value == block.group(3).isEmpty() || !bytes && !ended) {
-                throw fault("a block is {text}, ({text}), {bytes} or ({bytes}), and {bytes}\\ where no line ends behind it");
+                throw fault("a block is {text}, ({text}), {bytes} or ({bytes}), "
+                        + "and {bytes}\\ where no line ends behind it");
             }
             return new Script.Item(bytes ? Script.Step.BYTES : Script.Step.TEXT, null, false, value ? 1 : 0, ended);
         }

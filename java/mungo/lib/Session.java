@@ -15,21 +15,23 @@ import java.util.Map;
 /**
  * The messages between roles, for programs that run on a Java virtual machine. Nothing here is proved.
  *
- * <p>A role in a process of its own, `java CMain`: the property mungo.role or the variable MUNGO_ROLE names the role, and
- * mungo.roles or MUNGO_ROLES the addresses of all, as "C=127.0.0.1:4001,S=127.0.0.1:4002". Of two roles the one whose
- * name comes first in the order of names listens, and the other connects. A role waits for a peer for so many seconds as
- * mungo.patience says (30), and for a message as mungo.limit says (3,600). Where mungo.secret is set, peers have to prove that
- * they know it. Messages are neither signed nor hidden: use it on loopback or inside a network that is trusted.
+ * <p>A role in a process of its own, `java CMain`: the property mungo.role or the variable MUNGO_ROLE names the role,
+ * and mungo.roles or MUNGO_ROLES the addresses of all, as "C=127.0.0.1:4001,S=127.0.0.1:4002". Of two roles the one
+ * whose name comes first in the order of names listens, and the other connects. A role waits for a peer for so many
+ * seconds as mungo.patience says (30), and for a message as mungo.limit says (3,600). Where mungo.secret is set, peers
+ * have to prove that they know it. Messages are neither signed nor hidden: use it on loopback or inside a network that
+ * is trusted.
  *
- * <p>A peer that is no role of mungo, as a mail server, has a {@link Wire}: mungo.wire says which, as "S=lines:smtp.wire".
+ * <p>A peer that is no role of mungo, as a mail server, has a {@link Wire}: mungo.wire says which, as
+ * "S=lines:smtp.wire".
  *
- * <p>Several roles in one process, `java mungo.lib.Session C=CMain S=SMain`: each runs in a thread, the messages stand in
- * memory, each printed line begins with its role, and at the end a line for each role says how it ended. In a larger program
- * `Session.play` plays a role, and the program goes on.
+ * <p>Several roles in one process, `java mungo.lib.Session C=CMain S=SMain`: each runs in a thread, the messages stand
+ * in memory, each printed line begins with its role, and at the end a line for each role says how it ended. In a larger
+ * program `Session.play` plays a role, and the program goes on.
  *
- * <p>An ending other than `done` is told on standard error in the words of `mungo run`, but for the count of instructions,
- * and ends the process with the number of `mungo run`: 6 `zero divisor`, 7 `mismatch PEER FOUND` or `no peer NAME`,
- * 8 `waits PEER`; besides 7 `unfit PEER LABEL`, where a message can't be sent. Lines before it may say why.
+ * <p>An ending other than `done` is told on standard error in the words of `mungo run`, but for the count of
+ * instructions, and ends the process with the number of `mungo run`: 6 `zero divisor`, 7 `mismatch PEER FOUND` or `no
+ * peer NAME`, 8 `waits PEER`; besides 7 `unfit PEER LABEL`, where a message can't be sent. Lines before it may say why.
  */
 public final class Session {
     /** The role that the thread plays. */
@@ -85,16 +87,18 @@ public final class Session {
     // A role in a larger program.
 
     /**
-     * Plays a role in this thread, over connections of its own, as often as wanted and beside other roles: the work makes an
-     * object of the role's class and finishes it. A peer with a wire is reached by it, at its address; any other peer that
-     * has an address is a role of mungo, and where it is this role that listens, its own address is there too.
+     * Plays a role in this thread, over connections of its own, as often as wanted and beside other roles: the work
+     * makes an object of the role's class and finishes it. A peer with a wire is reached by it, at its address; any
+     * other peer that has an address is a role of mungo, and where it is this role that listens, its own address is
+     * there too.
      *
-     * <p>Answers `done`, or the ending as it is told on standard error otherwise, `memory` or `zero divisor` too; `fault` where
-     * the role can't listen. What else the work throws is thrown on. The process goes on in each case.
+     * <p>Answers `done`, or the ending as it is told on standard error otherwise, `memory` or `zero divisor` too;
+     * `fault` where the role can't listen. What else the work throws is thrown on. The process goes on in each case.
      *
      * @throws IllegalArgumentException where a name is none of a role, or a setting is wrong
      */
-    public static String play(String name, Map<String, Wire> wires, Map<String, InetSocketAddress> addresses, Runnable work) {
+    public static String play(String name, Map<String, Wire> wires, Map<String, InetSocketAddress> addresses,
+            Runnable work) {
         Role before = MINE.get();
         Settings settings = new Settings();
         Role role = new Role(Settings.role("Session.play", name), settings.patience, false);
@@ -118,7 +122,8 @@ public final class Session {
     }
 
     /** Gives a role its peers: those with wires, and at the other addresses roles of mungo in other processes. */
-    private static Meeting meeting(Role role, Settings settings, Map<String, Wire> wires, Map<String, InetSocketAddress> addresses) {
+    private static Meeting meeting(Role role, Settings settings, Map<String, Wire> wires,
+            Map<String, InetSocketAddress> addresses) {
         Map<String, Frames> far = new HashMap<>();
         wires.forEach((peer, wire) -> role.join(Settings.role("Session.play", peer), wire, addresses.get(peer)));
         addresses.forEach((peer, address) -> {

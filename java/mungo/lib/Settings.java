@@ -51,8 +51,8 @@ final class Settings {
 
     private static int seconds(String property, int otherwise, int least) {
         String text = of(property, String.valueOf(otherwise));
-        return number(text, least, MOST_SECONDS, property + " has " + Texts.name(text) + ", and not seconds from " + least
-                + " to " + MOST_SECONDS);
+        return number(text, least, MOST_SECONDS, property + " has " + Texts.name(text) + ", and not seconds from "
+                + least + " to " + MOST_SECONDS);
     }
 
     private static int number(String text, int least, int most, String wrong) {
@@ -120,7 +120,8 @@ final class Settings {
             if (!addresses.containsKey(peer)) {
                 throw new Wrong(shown + ": mungo.roles has no address of " + peer);
             }
-            if (wires.put(peer, wire(shown, entry.substring(equals + 1, colon).trim(), entry.substring(colon + 1).trim())) != null) {
+            String kind = entry.substring(equals + 1, colon).trim();
+            if (wires.put(peer, wire(shown, kind, entry.substring(colon + 1).trim())) != null) {
                 throw new Wrong("mungo.wire has two wires of " + peer);
             }
         }

@@ -104,7 +104,8 @@ final class Walk {
             told = -1;
         }
         if (told < 0 || size >= 0 && size != told) {
-            throw reader.wrong("the size " + Texts.quoted(text) + " isn't one, is too large, or isn't the first one that is told");
+            throw reader.wrong("the size " + Texts.quoted(text)
+                    + " isn't one, is too large, or isn't the first one that is told");
         }
         size = told;
     }

@@ -4,11 +4,11 @@ import java.io.IOException;
 import java.net.InetSocketAddress;
 
 /**
- * How a role exchanges messages with one peer. The setting mungo.wire names a wire for a peer that is no role of mungo, as
- * "S=lines:smtp.wire". Nothing here is proved.
+ * How a role exchanges messages with one peer. The setting mungo.wire names a wire for a peer that is no role of mungo,
+ * as "S=lines:smtp.wire". Nothing here is proved.
  *
- * <p>A wire is used by the thread of its role alone, and is opened before anything else is asked of it. Each call comes back
- * within some limit of the wire.
+ * <p>A wire is used by the thread of its role alone, and is opened before anything else is asked of it. Each call comes
+ * back within some limit of the wire.
  */
 public interface Wire {
     /**
@@ -19,8 +19,8 @@ public interface Wire {
     void open(InetSocketAddress address, long deadline) throws IOException;
 
     /**
-     * Sends a message, whose value is an Integer, a Boolean, a String, or null for none. That the peer has ended is told by
-     * the next message that is received, and not here.
+     * Sends a message, whose value is an Integer, a Boolean, a String, or null for none. That the peer has ended is
+     * told by the next message that is received, and not here.
      *
      * @throws Unfit where the wire doesn't carry the message: then nothing of it has been sent
      * @throws Mismatch where the wire awaits an answer that is no message, and gets another
@@ -29,8 +29,8 @@ public interface Wire {
     void send(String label, Object value) throws IOException, Unfit, Mismatch;
 
     /**
-     * The next message of the peer. Which one it is follows from what was sent and received alone, and not from what the
-     * role expects.
+     * The next message of the peer. Which one it is follows from what was sent and received alone, and not from what
+     * the role expects.
      *
      * @throws Mismatch where what the peer sent is no message, or could be several
      * @throws IOException where no message comes: the peer has ended, or the limit has passed
@@ -40,7 +40,9 @@ public interface Wire {
     /** Ends the connection. What has been sent still arrives. */
     void close();
 
-    /** A label, a value that is an Integer, a Boolean, a String, or null for none, and what was received, for a reader. */
+    /**
+     * A label, a value that is an Integer, a Boolean, a String, or null for none, and what was received, for a reader.
+     */
     final class Message {
         public final String label;
         public final Object value;

@@ -20,4 +20,4 @@ returns-in-Err c = λ name.
     subst (λ (z : Stop). Answers (λ (written : Row RoleFile). AreWritten files written.items) (FirstRefusal files) (Err z))
     (sym c.in_file.ensures)
     (told_refused (λ (written : Row RoleFile). AreWritten files written.items) (source_of 0 name c.args.bytes.now) c.in-Err.fault
-        c.stop_of.result c.stop_of.ensures c.in-Err.ensures.answered)
+    c.stop_of.result c.stop_of.ensures c.in-Err.ensures.answered)

@@ -36,8 +36,8 @@ pub returns-in-Ok : goal.returns-in-Ok
 returns-in-Ok g c = λ o e.
     let read = c.in-Ok.ensures o e in
     given_due c.args.words.now _ _ (command_of c.in-Known.command) c.files.result.now c.in-Ok.contents.items c.as_slice.result.now _
-    c.carry_out.result (subst (IsJudged c.args.words.now) c.in-Known.is c.in_ok-command.ensures) c.files.ensures c.read_limit.ensures read.0 c.as_slice.ensures.items read.1
-    c.carry_out.ensures
+    c.carry_out.result (subst (IsJudged c.args.words.now) c.in-Known.is c.in_ok-command.ensures) c.files.ensures c.read_limit.ensures
+    read.0 c.as_slice.ensures.items read.1 c.carry_out.ensures
 
 pub returns-in_ok-line-in-Err-Failed : goal.returns-in_ok-line-in-Err-Failed
 returns-in_ok-line-in-Err-Failed g c = λ o e.

@@ -25,6 +25,11 @@ returns-clause-stands c =
 
 pub returns-clause-taken : goal.returns-clause-taken
 returns-clause-taken c =
-    let walk : Walk = record { alloc = c.args.alloc; local = c.args.local; laid = c.in_ok-laid.laid; standing = c.standing-standing.result }
-    in
+    let walk : Walk = record {
+      alloc = c.args.alloc;
+      local = c.args.local;
+      laid = c.in_ok-laid.laid;
+      slots = c.in_ok-slots.slots;
+      standing = c.standing-standing.result;
+    } in
     starts (tree_of c.args.local.now) walk (returns-clause-stands c)

@@ -11,7 +11,10 @@ import mungo.lib.Session;
 public final class App {
     private App() {}
 
-    /** Delivers a text, and tells how the role has ended, and the code by which the server refused the recipient: 0 for none. */
+    /**
+     * Delivers a text, and tells how the role has ended, and the code by which the server refused the recipient: 0 for
+     * none.
+     */
     static String deliver(String host, int port, String to, String text) throws IOException {
         int[] code = {-1};
         String ending = Session.play("C", Collections.singletonMap("S", new Lines("mail.wire")),

@@ -23,7 +23,8 @@ public class DeliveryTest {
 
     private static void serve(ServerSocket door, String[] lines) {
         try (Socket client = door.accept()) {
-            BufferedReader in = new BufferedReader(new InputStreamReader(client.getInputStream(), StandardCharsets.UTF_8));
+            BufferedReader in = new BufferedReader(
+                    new InputStreamReader(client.getInputStream(), StandardCharsets.UTF_8));
             for (String line : lines) {
                 client.getOutputStream().write((line + "\r\n").getBytes(StandardCharsets.UTF_8));
                 if (in.readLine() == null) {
@@ -38,12 +39,14 @@ public class DeliveryTest {
     @Test
     public void anUnknownRecipientIsRejected() throws IOException {
         assertEquals("done 550",
-                delivered("eve@other.example", "220 mail.example", "250 hello", "250 go on", "550 no such mailbox", "221 bye"));
+                delivered("eve@other.example",
+                        "220 mail.example", "250 hello", "250 go on", "550 no such mailbox", "221 bye"));
     }
 
     @Test
     public void whatTheServerShouldNotSayEndsTheRole() throws IOException {
-        assertEquals("mismatch S \"999 what?\" -1", delivered("bob@mail.example", "220 mail.example", "250 hello", "250 go on", "999 what?"));
+        assertEquals("mismatch S \"999 what?\" -1",
+                delivered("bob@mail.example", "220 mail.example", "250 hello", "250 go on", "999 what?"));
     }
 
     @Test
@@ -54,6 +57,7 @@ public class DeliveryTest {
     @Test
     public void aRecipientCannotBeACommand() throws IOException {
         assertEquals("unfit S recipient -1",
-                delivered("bob@mail.example>\r\nRCPT TO:<eve", "220 mail.example", "250 hello", "250 go on", "250 accepted"));
+                delivered("bob@mail.example>\r\nRCPT TO:<eve",
+                        "220 mail.example", "250 hello", "250 go on", "250 accepted"));
     }
 }

@@ -1,0 +1,4 @@
+pub mod Absent
+pub mod Projections
+pub mod Making
+pub mod Used
