@@ -1,9 +1,9 @@
 -- Files have one list of what is wrong, but for the places of Syntax.
-use Rattle.std.proofs.Common.{◌≡◌, List, [], ◌∷◌, Some, refl, sym, subst, inl}
+use Rattle.std.proofs.Common.{◌≡◌, List, [], ◌∷◌, refl, sym, subst, inl}
 use Rattle.mg_read.proofs.Judging.{no_both}
 use Rattle.jv_core.specs.Tree as Core
 use Rattle.use_rules.specs.declared.demand.Demand.{Demand}
-use Rattle.mg_refusal.specs.Refusals.{Refusal, AreAlike}
+use Rattle.mg_refusal.specs.Refusals.{Refusal}
 use Rattle.mg_refusal.specs.Order.{at_first, at_next}
 use Rattle.mg_sources.specs.Files.{Source}
 use Rattle.mg_sources.specs.Reading.{Refuses}
@@ -16,7 +16,7 @@ use Rattle.mg_accepted.specs.Program.{HaveCore, FirstRefusal}
 use Rattle.mg_accepted.proofs.OneCore.{no_refusal, one_core}
 use Rattle.mg_accepted.proofs.TypesAlike as program_alike
 use Rattle.mg_faults.specs.Demands.{said_of, AreFaults}
-use Rattle.mg_faults.specs.Faults.{AreRefused, none, read, refused, AllRefusals, readers, roles, types, usages, AreAllAlike, OneList}
+use Rattle.mg_faults.specs.Faults.{AreRefused, none, read, refused, readers, roles, types, usages, AreAllAlike, OneList}
 use Rattle.mg_faults.proofs.Among.{first_read}
 use Rattle.mg_faults.proofs.Order.{one_faults}
 

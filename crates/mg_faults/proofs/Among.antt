@@ -1,5 +1,5 @@
 -- The first refusal is among all: whatever all are, one of them is a first refusal, and two first refusals are one but for a place of Syntax.
-use Rattle.std.proofs.Common.{◌≡◌, ℕ, zero, suc, ◌<◌, List, [], ◌∷◌, length, Some, slice_get, Contains, refl, sym, arith}
+use Rattle.std.proofs.Common.{◌≡◌, ◌<◌, List, [], ◌∷◌, length, Some, slice_get, Contains, refl, arith}
 use Rattle.mg_read.specs.First.{Judged, here, later}
 use Rattle.jv_core.specs.Tree as Core
 use Rattle.use_rules.specs.declared.demand.Demand.{Demand}
@@ -12,9 +12,9 @@ use Rattle.mg_sources.specs.Reading.{Refuses}
 use Rattle.mg_sources.proofs.OneKind.{excludes}
 use Rattle.mg_accepted.specs.Demands.{demand_refusal}
 use Rattle.mg_accepted.specs.Accepted.{AreAccepted, FirstRefusal}
-use Rattle.mg_faults.specs.Demands.{AreFaults, AreLines}
+use Rattle.mg_faults.specs.Demands.{AreLines}
 use Rattle.mg_faults.proofs.Lines.{faults_are_lines}
-use Rattle.mg_faults.specs.Faults.{AreRefused, read, refused, AllRefusals, readers, roles, types, usages, IsAmong, FirstIsAmong}
+use Rattle.mg_faults.specs.Faults.{AreRefused, read, refused, AllRefusals, readers, roles, types, usages, FirstIsAmong}
 use Rattle.mg_faults.specs.Faults.{NoneWhereAccepted}
 
 -- the first of all that the readers refuse is what the first reader that refuses says

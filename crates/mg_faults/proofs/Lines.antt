@@ -1,9 +1,9 @@
 -- Each line once: what is kept of demands in order is in order, says nothing twice, and says all.
-use Rattle.std.proofs.Common.{◌≡◌, ℕ, zero, suc, Bool, true, false, cond, ◌&&◌, ◌||◌, ◌⊎◌, List, [], ◌∷◌, ◌++◌, map, Option, Some, None}
+use Rattle.std.proofs.Common.{◌≡◌, ℕ, zero, suc, Bool, true, false, cond, ◌&&◌, ◌||◌, ◌⊎◌, List, [], ◌∷◌, ◌++◌, map, Some, None}
 use Rattle.std.proofs.Common.{slice_get, refl, sym, ap, ◌∙◌, subst, ⊎_elim, inl, inr}
 use Rattle.std.specs.Prelude.{nat_lt, Contains}
 use Rattle.std.specs.List.{list_any}
-use Rattle.std.specs.List.Sorted.{IsPermutation, IsSortedBy}
+use Rattle.std.specs.List.Sorted.{IsSortedBy}
 use Rattle.std.specs.Str.{bytes_eq}
 use Rattle.std.proofs.lemmas.Bool.{false≢true}
 use Rattle.std.proofs.lemmas.List.Sorted.{IsPermutation-sym, Contains-permutation}
@@ -23,8 +23,8 @@ use Rattle.use_sights.proofs.Sorting.{IsRising, rising, steps_of, rising_more, s
 use Rattle.mg_refusal.specs.Refusals.{Refusal, refusal_at, unless_empty, name_or_none}
 use Rattle.mg_refusal.specs.declared.refusal.Spot.TheVariants as spots
 use Rattle.mg_accepted.specs.Demands.{demand_word, demand_name, demand_refusal}
-use Rattle.mg_faults.specs.Demands.{element_number, stands_before, said_of, same_line, with_line, with_lines, once, AreFaults, AreApart}
-use Rattle.mg_faults.specs.Demands.{AreLines, FaultsAreLines}
+use Rattle.mg_faults.specs.Demands.{element_number, stands_before, said_of, same_line, with_line, with_lines, once, AreApart}
+use Rattle.mg_faults.specs.Demands.{FaultsAreLines}
 
 -- The order.
 

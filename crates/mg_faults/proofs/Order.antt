@@ -1,17 +1,16 @@
 -- Demands that are sorted by a key stand in order; and there is one list of all that fail.
-use Rattle.std.proofs.Common.{◌≡◌, ℕ, Bool, List, refl, sym, ap, ◌∙◌, subst}
+use Rattle.std.proofs.Common.{◌≡◌, ℕ, List, refl, sym, ap, ◌∙◌, subst}
 use Rattle.std.specs.Prelude.{nat_eq, nat_lt, if◌then◌else◌}
 use Rattle.std.specs.List.Sorted.{IsSortedBy, IsStableBy, IsSortedByKey, IsStableByKey}
 use Rattle.std.proofs.Common.{Ordering}
 use Rattle.std.specs.Ordering.{Less, Equal, Greater, is_lt, nat_cmp, ordering_then}
-use Rattle.jv_core.specs.Tree.{Program}
 use Rattle.use_rules.specs.declared.demand.Demand.{Demand}
 use Rattle.use_rules.specs.Tables.{all_failed, Least}
 use Rattle.use_rules.proofs.Laws.{members_decide}
 use Rattle.use_flow.proofs.Reached.{reached_same}
 use Rattle.use_sights.proofs.Lexical.{by_first, by_last, grouped}
 use Rattle.use_sights.proofs.Sorting.{sorted_as, stable_as, rising, steps_of, unique}
-use Rattle.mg_faults.specs.Demands.{element_number, stands_before, once, AreFaults, OneFaults}
+use Rattle.mg_faults.specs.Demands.{element_number, stands_before, once, OneFaults}
 use Rattle.mg_faults.proofs.Lines.{not_itself, no_later}
 
 abbrev Key : Type 0

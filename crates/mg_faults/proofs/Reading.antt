@@ -1,12 +1,12 @@
 -- What the readers refuse, file by file.
-use Rattle.std.proofs.Common.{◌≡◌, ℕ, zero, suc, ◌+◌, ◌<◌, ◌≤◌, List, [], ◌∷◌, ◌++◌, length, get_or, take, Option, Some, None}
+use Rattle.std.proofs.Common.{◌≡◌, ℕ, ◌+◌, ◌<◌, ◌≤◌, List, [], ◌∷◌, ◌++◌, length, get_or, take, Option, Some, None}
 use Rattle.std.proofs.Common.{refl, sym, ap, ◌∙◌, subst}
 use Rattle.std.proofs.lemmas.List.{take_more, take_all}
-use Rattle.mg_read.specs.First.{Judged, clean, here, later}
+use Rattle.mg_read.specs.First.{Judged, here, later}
 use Rattle.mg_refusal.specs.Refusals.{Refusal}
 use Rattle.mg_refusal.specs.Order.{at_first, at_next}
 use Rattle.mg_sources.specs.Files.{Source}
-use Rattle.mg_sources.specs.Reading.{Reads, Refuses}
+use Rattle.mg_sources.specs.Reading.{Refuses}
 use Rattle.mg_sources.proofs.OneKind.{excludes}
 use Rattle.mg_accepted.specs.Program.{FirstRefusal}
 use Rattle.mg_faults.specs.Faults.{AreRefused, none, read, refused, AllRefusals, readers, roles, types}

@@ -1,10 +1,9 @@
 -- Calls that are sorted by a key of their places are sorted by these.
-use Rattle.std.proofs.Common.{◌≡◌, ℕ, Bool, cond, not, ◌&&◌, List, [], ◌∷◌, refl, sym, ap, ap₂, ◌∙◌}
-use Rattle.std.specs.Prelude.{filter, nat_eq, nat_lt, if◌then◌else◌}
-use Rattle.std.specs.List.Sorted.{IsSortedBy, IsStableBy, IsSortedByKey, IsStableByKey, ties}
+use Rattle.std.proofs.Common.{◌≡◌, ℕ, List, ap, ◌∙◌}
+use Rattle.std.specs.Prelude.{nat_eq, nat_lt, if◌then◌else◌}
+use Rattle.std.specs.List.Sorted.{IsSortedBy, IsStableBy, IsSortedByKey, IsStableByKey}
 use Rattle.std.proofs.Common.{Ordering}
 use Rattle.std.specs.Ordering.{is_lt, nat_cmp, ordering_then}
-use Rattle.mg_text.specs.declared.place.Place.{Place}
 use Rattle.use_sights.specs.declared.site.Site.{Site}
 use Rattle.use_sights.proofs.Lexical.{by_first, by_last, grouped}
 use Rattle.use_sights.proofs.Sorting.{sorted_as, stable_as}

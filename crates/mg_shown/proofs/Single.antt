@@ -4,7 +4,7 @@ use Rattle.std.specs.Prelude.{codes}
 use Rattle.std.proofs.lemmas.Bool.{false≢true}
 use Rattle.mg_text.specs.Call.{Name}
 use Rattle.mg_text.specs.declared.place.Place.{Place}
-use Rattle.mg_sets.specs.Sets.{has, members, members_from, IsSubset}
+use Rattle.mg_sets.specs.Sets.{has, members, members_from}
 use Rattle.jv_core.specs.Tree.{Method, Program}
 use Rattle.jv_core.specs.Lookup.{text_at}
 use Rattle.use_rules.specs.declared.key.Context.TheVariants as contexts
@@ -20,7 +20,7 @@ use Rattle.use_sights.proofs.Telling.{before_grows}
 use Rattle.use_check.specs.Report.{set_text}
 use Rattle.mg_refusal.specs.declared.refusal.Spot.TheVariants as spots
 use Rattle.mg_delivery.specs.Lines.{spot_text}
-use Rattle.mg_shown.specs.Shown.{call_line, site_line, shown_text, IsShown, OneShown}
+use Rattle.mg_shown.specs.Shown.{call_line, site_line, shown_text, OneShown}
 use Rattle.mg_shown.proofs.Sorting.{one_list}
 
 abbrev Within : List Bool → List Bool → Type 0

@@ -1,5 +1,5 @@
 -- The lines of calls, by what is kept of their places, are those that are shown.
-use Rattle.std.proofs.Common.{◌≡◌, Bool, List, [], ◌++◌, flat_map, map, sym, ap, ◌∙◌, refl}
+use Rattle.std.proofs.Common.{◌≡◌, Bool, List, flat_map, ap, ◌∙◌}
 use Rattle.mg_text.specs.Call.{Name}
 use Rattle.jv_core.specs.Tree.{Program}
 use Rattle.use_rules.specs.Elements.{Set}

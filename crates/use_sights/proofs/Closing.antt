@@ -1,7 +1,7 @@
 -- What is met in a flow: whatever is kept by what flows out, by demands on what is left, by reads and by calls is kept by the whole.
-use Rattle.std.proofs.Common.{◌≡◌, ℕ, suc, Bool, true, false, ◌⊎◌, List, [], ◌∷◌, ◌++◌, reverse, Option, Some, None, refl, inl, inr, ⊎_elim}
+use Rattle.std.proofs.Common.{◌≡◌, ℕ, suc, Bool, true, false, List, [], ◌∷◌, ◌++◌, reverse, Option, Some, None, refl, inl, inr}
 use Rattle.std.proofs.Common.{slice_get, subst, sym}
-use Rattle.std.specs.Prelude.{option_map, if◌then◌else◌, codes}
+use Rattle.std.specs.Prelude.{if◌then◌else◌, codes}
 use Rattle.std.specs.List.{list_any}
 use Rattle.mg_text.specs.Call.{Name}
 use Rattle.mg_text.specs.declared.place.Place.{Place}
@@ -25,13 +25,13 @@ use Rattle.use_rules.specs.declared.key.TableKey.TheVariants as keys
 use Rattle.use_rules.specs.declared.demand.Demand.{Demand}
 use Rattle.use_rules.specs.declared.demand.DemandKind.{DemandKind}
 use Rattle.use_rules.specs.declared.demand.DemandKind.TheVariants as demands
-use Rattle.use_rules.specs.Elements.{Set, if_moved, if_open, unless_called, targets}
+use Rattle.use_rules.specs.Elements.{Set, if_moved, unless_called, targets}
 use Rattle.use_rules.specs.Keys.{Tables, typestate_of}
-use Rattle.use_rules.specs.State.{Now, set_of, with_set, joined, Out, Log, sends, asks, sees, GoesOn, Flow, Argued, caught, leaving, judged}
+use Rattle.use_rules.specs.State.{Now, set_of, with_set, joined, Out, Log, sends, asks, sees, GoesOn, Flow, Argued, caught, leaving}
 use Rattle.use_rules.specs.Flow as rules
-use Rattle.use_rules.specs.Flow.{Evaluated, NullTest, after, alike, flow, placed, null_test, declared_here, all_labels}
+use Rattle.use_rules.specs.Flow.{Evaluated, NullTest, after, alike, flow, null_test, declared_here}
 use Rattle.use_rules.specs.inner.Order.{Mem}
-use Rattle.use_rules.proofs.Members.{mem_left, mem_right, mem_cases}
+use Rattle.use_rules.proofs.Members.{mem_left, mem_right}
 use Rattle.use_sights.specs.Calls.{Use, Reads, Calls, uses_in, uses_in_args, uses_of, uses_of_all, uses_of_groups}
 use Rattle.use_sights.proofs.Judging.{IsLeft, AreLeft, none_left, both_left, open_left}
 

@@ -16,19 +16,18 @@ use Rattle.use_rules.specs.declared.demand.DemandKind.TheVariants as demands
 use Rattle.use_rules.specs.declared.element.Element.TheVariants as elements
 use Rattle.use_rules.specs.Elements.{Set, element_at, if_moved, unless_called}
 use Rattle.use_rules.specs.Keys.{Tables, typestate_of, contexts_in, method_in}
-use Rattle.use_rules.specs.State.{Out, Log, Sight, set_of}
+use Rattle.use_rules.specs.State.{Log, Sight, set_of}
 use Rattle.use_rules.specs.Flow as rules
 use Rattle.use_rules.specs.Tables.{quiet, flow_of, all_failed, all_sights}
 use Rattle.use_rules.specs.inner.Order.{Mem}
 use Rattle.use_rules.proofs.Members.{mem_left, mem_right, mem_cases, union_left, union_right, union_cases}
 use Rattle.use_rules.proofs.Leaving.{contains_of}
 use Rattle.use_rules.proofs.Laws.{grows}
-use Rattle.use_sights.specs.declared.site.Site.{Site}
 use Rattle.use_sights.specs.Calls.{Use, Reads, Calls, uses_of_all, uses_from, all_uses}
 use Rattle.use_sights.specs.Sights.{same_place, sights_at, together}
 use Rattle.use_rules.specs.Laws.{Sees}
 use Rattle.use_sights.specs.Laws.{Fails, AllCall, NoneReads, IsAsked, SightsTell, BeforeGrows}
-use Rattle.use_sights.proofs.Judging.{IsLeft, AreLeft, IsOf, is_of, is_there, demand_of}
+use Rattle.use_sights.proofs.Judging.{IsLeft, IsOf, is_of, is_there, demand_of}
 use Rattle.use_sights.proofs.Closing.{Keeps, whole_holds}
 
 some_is : {A : Type 0} (x y : A) → Some x ≡ Some y → x ≡ y

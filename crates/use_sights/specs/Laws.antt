@@ -13,7 +13,7 @@ use Rattle.use_rules.specs.Keys.{Tables, typestate_of}
 use Rattle.use_rules.specs.Tables.{all_failed}
 use Rattle.use_rules.specs.Laws.{AreWithin}
 use Rattle.use_sights.specs.declared.site.Site.{Site}
-use Rattle.use_sights.specs.Calls.{Reads, Calls, all_uses, all_sites}
+use Rattle.use_sights.specs.Calls.{Reads, Calls, all_uses}
 use Rattle.use_sights.specs.Sights.{before}
 
 -- a demand of this kind fails at this place, by this element

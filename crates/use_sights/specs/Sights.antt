@@ -1,5 +1,5 @@
 -- What a variable may be where a method is called on it, over all contexts, and where the call leads.
-use Rattle.std.specs.Prelude.{ℕ, Bool, List, [], ◌∷◌, filter, nat_eq, ◌&&◌, Some, None, slice_get}
+use Rattle.std.specs.Prelude.{Bool, List, [], ◌∷◌, filter, nat_eq, ◌&&◌}
 use Rattle.mg_text.specs.declared.place.Place.{Place}
 use Rattle.jv_core.specs.Tree.{Program, Method}
 use Rattle.jv_core.specs.Lookup.{text_at}

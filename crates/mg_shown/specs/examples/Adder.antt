@@ -11,7 +11,7 @@ use Rattle.jv_core.specs.declared.tree.Var.TheVariants.{Slot}
 use Rattle.jv_core.specs.declared.program.CoreType.TheVariants as types
 use Rattle.jv_core.specs.declared.program.MethodKind.TheVariants as kinds
 use Rattle.jv_core.specs.Tree.{Expr, Int, Text, Variable, Binary, Protocol, Session, New, NoExpr, Argument}
-use Rattle.jv_core.specs.Tree.{Stmt, Stmts, Block, Assign, While, Return, Print, Eval, NoStmt, Then, Declare, Loop, Slot as Declared}
+use Rattle.jv_core.specs.Tree.{Stmts, Block, Assign, While, Return, Print, Eval, NoStmt, Then, Declare, Loop, Slot as Declared}
 use Rattle.jv_core.specs.Tree.{Method, Program}
 use Rattle.use_rules.specs.declared.key.TableKey.TheVariants as keys
 use Rattle.use_rules.specs.Keys.{Tables}

@@ -1,7 +1,6 @@
 -- An object that takes turns in a loop, and one of which a method is asked that it doesn't offer.
-use Rattle.std.specs.Prelude.{ℕ, zero, suc, Bool, List, [], ◌∷◌, ◌++◌, Some, None, codes, true, false}
+use Rattle.std.specs.Prelude.{ℕ, zero, suc, Bool, List, [], ◌∷◌, Some, None, codes, true, false}
 use Rattle.mg_text.specs.Call.{Name}
-use Rattle.mg_text.specs.declared.place.Place.{Place}
 use Rattle.ts_tree.specs.declared.parts.TypeName.TheVariants as written
 use Rattle.ts_tree.specs.declared.parts.To.{To}
 use Rattle.ts_tree.specs.declared.parts.To.TheVariants as tos
@@ -10,7 +9,7 @@ use Rattle.ts_tree.specs.Typestate as states
 use Rattle.jv_core.specs.declared.tree.Var.TheVariants.{Slot}
 use Rattle.jv_core.specs.declared.program.CoreType.TheVariants as types
 use Rattle.jv_core.specs.declared.program.MethodKind.TheVariants as kinds
-use Rattle.jv_core.specs.Tree.{Expr, Truth, Variable, Protocol, New, NoExpr}
+use Rattle.jv_core.specs.Tree.{Truth, Variable, Protocol, New, NoExpr}
 use Rattle.jv_core.specs.Tree.{Stmt, Stmts, Block, While, Eval, NoStmt, Then, Declare, Loop, Slot as Declared}
 use Rattle.jv_core.specs.Tree.{Method, Program}
 use Rattle.use_rules.specs.declared.key.TableKey.TheVariants as keys

@@ -1,5 +1,5 @@
 -- What is seen at each place, as the code keeps it: where nothing is kept, no element is seen.
-use Rattle.std.specs.Prelude.{◌≡◌, Bool, List, [], Option, Some, None, if◌then◌else◌}
+use Rattle.std.specs.Prelude.{◌≡◌, List, [], Option, Some, None, if◌then◌else◌}
 use Rattle.mg_text.specs.declared.place.Place.{Place}
 use Rattle.use_rules.specs.Elements.{Set, union}
 use Rattle.use_rules.specs.State.{Sight}

@@ -1,4 +1,4 @@
-use Rattle.std.proofs.Common.{◌≡◌, ◌++◌, drop, flat_map, map, sym, ap, ◌∙◌}
+use Rattle.std.proofs.Common.{◌++◌, flat_map, map, ap, ◌∙◌}
 use Rattle.std.proofs.lemmas.List.{map-append}
 use Rattle.use_rules.specs.declared.key.Context.TheVariants.{Plain}
 use Rattle.use_rules.specs.State.{Log}

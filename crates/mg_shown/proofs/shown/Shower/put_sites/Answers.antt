@@ -1,4 +1,4 @@
-use Rattle.std.proofs.Common.{List, ℕ, arith}
+use Rattle.std.proofs.Common.{arith}
 use Rattle.std.specs.Prelude.{string_bytes}
 use Rattle.indexmap.specs.IndexMap.{get}
 use Rattle.use_sights.specs.declared.site.Site.{Site}
