@@ -5,16 +5,18 @@ ghost use Rattle.std.specs.Prelude.{◌≡◌, ◌++◌, map, option_map, slice_
 ghost use Rattle.ts_tree.specs.Calls.{by_label};
 ghost use Rattle.ts_tree.specs.View.{target_of};
 ghost use Rattle.jv_core.specs.Lookup.{text_at};
-ghost use Rattle.use_rules.specs.Elements.{begin, image, along, element_of, marked, unless_called, offering};
+ghost use Rattle.use_rules.specs.Elements.{begin, image, along, element_of, marked, targets, unless_called, offering};
 ghost use Rattle.use_rules.specs.Keys.{typestate_of};
+ghost use Rattle.use_rules.specs.Shapes.{elements_in};
 ghost use Rattle.use_rules.specs.State.{judged};
 ghost use Rattle.use_flow.specs.inner.Calling.{which_of};
 ghost use Rattle.use_flow.specs.inner.Followed.{seen};
 ghost use Rattle.use_elements.specs.Mappings.{typestate_or_end, title_in};
 
-use crate::scene::Scene;
+use crate::scene::{Scene, elements_in};
 use crate::targets::MethodKey;
-use crate::{Demand, DemandKind};
+use crate::{Context, Demand, DemandKind, Tables};
+use jv_core::{Core, CoreMethod};
 use mg_sets::StateSet;
 use mg_text::{List, Memory, Names};
 use std::alloc::Global;
@@ -196,4 +198,33 @@ impl<'a> Scene<'a> {
         }
         Ok(states)
     }
+}
+
+/// Where the elements of a set lead by a call of the method of this number, whatever is answered.
+///
+/// # Errors
+/// `Memory` only.
+pub fn led(
+    alloc: Global,
+    core: &Core,
+    tables: &Tables,
+    number: u32,
+    method: &CoreMethod,
+    set: &StateSet,
+) -> Result<StateSet, Memory>
+    ensures { IfOk result (λ s. s ≡ image (elements_in core.now method.now.class) (along targets
+        (typestate_of core.now method.now.class) (text_at core.now method.now.name.0)) set.now) }
+{
+    let scene = Scene {
+        core,
+        tables,
+        context: Context::Plain { method: number },
+        method,
+    };
+    let call = MethodKey {
+        class: method.class,
+        name: method.name,
+        number,
+    };
+    scene.image_along(alloc, elements_in(core, method.class), call, None, set)
 }

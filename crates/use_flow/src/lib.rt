@@ -37,6 +37,7 @@ mod types;
 mod variables;
 
 pub use arguments::method_at;
+pub use calling::led;
 pub use entered::contexts;
 pub use fields::{FieldTable, key_of, number, sum};
 pub use followed::flow;
