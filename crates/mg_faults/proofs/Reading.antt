@@ -1,6 +1,7 @@
 -- What the readers refuse, file by file.
 use Rattle.std.proofs.Common.{◌≡◌, ℕ, ◌+◌, ◌<◌, ◌≤◌, List, [], ◌∷◌, ◌++◌, length, get_or, take, Option, Some, None}
-use Rattle.std.proofs.Common.{refl, sym, ap, ◌∙◌, subst}
+use Rattle.std.proofs.Common.{Bool, true, false, nat_eq, eqb-true, eq-eqb, refl, sym, ap, ◌∙◌, subst, arith}
+use Rattle.std.proofs.lemmas.Bool.{false≢true}
 use Rattle.std.proofs.lemmas.List.{take_more, take_all}
 use Rattle.mg_read.specs.First.{Judged, here, later}
 use Rattle.mg_refusal.specs.Refusals.{Refusal}
@@ -38,6 +39,14 @@ module _ (files : List Source) (i : ℕ) (rs : List Refusal) (was : AreRefused (
 
   pub files_found : length files ≤ i → AreRefused files rs
   files_found le = subst (λ xs. AreRefused xs rs) (take_all i files le) was
+
+-- whether there are some
+pub nothing_left : {A : Type 0} (xs : List A) (b : Bool) → b ≡ nat_eq (length xs) 0 → b ≡ true → xs ≡ []
+nothing_left [] b is e = refl
+nothing_left (x ∷ xs) b is e = let no : length (x ∷ xs) ≡ 0 = eqb-true (length (x ∷ xs)) 0 (sym is ∙ e) in absurd (omega (arith, no))
+
+pub something_left : {A : Type 0} (xs : List A) (b : Bool) → b ≡ nat_eq (length xs) 0 → b ≡ false → xs ≡ [] → ⊥
+something_left {A} xs b is e none = false≢true (sym e ∙ is ∙ eq-eqb (length xs) 0 (ap (λ (ys : List A). length ys) none))
 
 -- files that all are read have no refusal by their readers
 not_read : {files : List Source} {r : Refusal} → AreRefused files [] → Judged Refuses files (Some r) → ⊥

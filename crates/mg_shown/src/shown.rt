@@ -5,6 +5,7 @@ ghost use Rattle.std.specs.Prelude.{◌≡◌, ◌++◌, map, IfOk, OnOk, string
 ghost use Rattle.std.specs.List.{flat_map};
 ghost use Rattle.indexmap.specs.IndexMap.{get};
 ghost use Rattle.jv_core.specs.View.{field_of, method_of};
+ghost use Rattle.use_flow.specs.View.{AreFor};
 ghost use Rattle.mg_shown.specs.Shown.{IsShown};
 ghost use Rattle.mg_shown.specs.inner.Lines.{field_text, variable_text, line_of, line_at};
 ghost use Rattle.mg_shown.specs.inner.Seeing.{at_place};
@@ -71,6 +72,7 @@ impl<'a> Shower<'a> {
         called: &CoreMethod,
         before: &StateSet,
     ) -> Result<(), Memory>
+        requires { AreFor self.now.core.now self.now.tables.now }
         ensures { OnOk result (string_bytes out.new ≡ string_bytes out.old ++ line_of self.now.names.now self.now.core.now site
             (method_of within.now) (method_of called.now) before.now) }
     {
@@ -97,6 +99,7 @@ impl<'a> Shower<'a> {
         site: Site,
         before: &StateSet,
     ) -> Result<(), Memory>
+        requires { AreFor self.now.core.now self.now.tables.now }
         ensures { OnOk result (string_bytes out.new ≡ string_bytes out.old ++ line_at self.now.names.now self.now.core.now site before.now) }
     {
         let Some(within) = method_at(self.core, site.within) else {
@@ -116,6 +119,7 @@ impl<'a> Shower<'a> {
         site: Site,
         seen: &IndexMap<PlaceKey, StateSet>,
     ) -> Result<(), Memory>
+        requires { AreFor self.now.core.now self.now.tables.now }
         ensures { OnOk result (string_bytes out.new ≡ string_bytes out.old ++ line_at self.now.names.now self.now.core.now site
             (at_place (get ⟦<PlaceKey as PartialEq>⟧.eq seen.now) site.place)) }
     {
@@ -136,6 +140,7 @@ impl<'a> Shower<'a> {
         sites: &[Site],
         seen: &IndexMap<PlaceKey, StateSet>,
     ) -> Result<(), Memory>
+        requires { AreFor self.now.core.now self.now.tables.now }
         ensures { OnOk result (string_bytes out.new ≡ string_bytes out.old ++ flat_map (λ s. line_at self.now.names.now self.now.core.now s
             (at_place (get ⟦<PlaceKey as PartialEq>⟧.eq seen.now) s.place)) sites.now) }
     {

@@ -9,6 +9,7 @@ ghost use Rattle.use_rules.specs.Elements.{begin, image, along, element_of, mark
 ghost use Rattle.use_rules.specs.Keys.{typestate_of};
 ghost use Rattle.use_rules.specs.Shapes.{elements_in};
 ghost use Rattle.use_rules.specs.State.{judged};
+ghost use Rattle.use_flow.specs.View.{AreFor};
 ghost use Rattle.use_flow.specs.inner.Calling.{which_of};
 ghost use Rattle.use_flow.specs.inner.Followed.{seen};
 ghost use Rattle.use_elements.specs.Mappings.{typestate_or_end, title_in};
@@ -212,6 +213,7 @@ pub fn led(
     method: &CoreMethod,
     set: &StateSet,
 ) -> Result<StateSet, Memory>
+    requires { AreFor core.now tables.now }
     ensures { IfOk result (λ s. s ≡ image (elements_in core.now method.now.class) (along targets
         (typestate_of core.now method.now.class) (text_at core.now method.now.name.0)) set.now) }
 {
