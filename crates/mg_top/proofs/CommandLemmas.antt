@@ -79,12 +79,18 @@ report_given all files contents core d a k =
     gives_so (Check all files) contents (prints k.text) statuses.Done d k.says k.done (checked core a k.report)
 
 -- all that is wrong with files
-pub faults_given : (files : List Word) (contents : List (List ℕ)) (rs : List Refusal) (given : List ℕ) (d : Delivery) →
+faults_given : (files : List Word) (contents : List (List ℕ)) (rs : List Refusal) (given : List ℕ) (d : Delivery) →
     AllRefusals (sources files contents) rs → given ≡ refusal_lines files rs → d.actions.items ≡ Say given ∷ [] →
     d.status ≡ statuses.Refused → Gives (Check true files) contents d.actions.items d.status
 faults_given files contents rs given d h e a s =
     gives_so (Check true files) contents (Say (refusal_lines files rs) ∷ []) statuses.Refused d
     (a ∙ ap (λ (t : List ℕ). Say t ∷ []) e) s (faulted h)
+
+pub faults_said : (files : List Word) (contents : List (List ℕ)) (rs : List Refusal) (given : List ℕ) (r : Result Delivery Memory) →
+    AllRefusals (sources files contents) rs → given ≡ refusal_lines files rs → IfOk r (λ d. d.actions.items ≡ Say given ∷ []) →
+    IfOk r (λ d. d.status ≡ statuses.Refused) → IfOk r (λ d. Gives (Check true files) contents d.actions.items d.status)
+faults_said files contents rs given (Ok d) h e a s = faults_given files contents rs given d h e a s
+faults_said files contents rs given (Err x) h e a s = tt
 
 -- what is shown of a program
 pub shown_given : (files : List Word) (contents : List (List ℕ)) (core : Core.Program) (text given : List ℕ) (d : Delivery) →

@@ -4,7 +4,7 @@ ghost use Rattle.std.specs.Prelude.{◌≡◌, ◌<◌, ◌^◌, length, true, f
 ghost use Rattle.use_verdict.specs.Verdict.{AreAnswer};
 ghost use Rattle.mg_sources.specs.Files.{HaveKinds};
 ghost use Rattle.mg_words.specs.Words.{Check};
-ghost use Rattle.mg_top.specs.Commands.{prints};
+ghost use Rattle.mg_top.specs.Commands.{Gives, prints};
 ghost use Rattle.mg_top.specs.inner.Preparing.{IsCarried, IsReported};
 
 use mg_accepted::{AcceptedProgram, accept};
@@ -23,10 +23,10 @@ pub fn check(alloc: Global, all: bool, names: &[Text], contents: &[Bytes]) -> Re
     ensures { IsCarried (Check all names.now) contents.now result }
 {
     if all {
-        check_all(alloc, names, contents)
-    } else {
-        check_first(alloc, names, contents)
+        let delivery = check_all(alloc, names, contents)?;
+        return Ok(delivery);
     }
+    check_first(alloc, names, contents)
 }
 
 // The same, with the first refusal.
@@ -41,17 +41,18 @@ fn check_first(alloc: Global, names: &[Text], contents: &[Bytes]) -> Result<Deli
 }
 
 // The same, with all that is wrong.
-fn check_all(alloc: Global, names: &[Text], contents: &[Bytes]) -> Result<Delivery, Stop>
+fn check_all(alloc: Global, names: &[Text], contents: &[Bytes]) -> Result<Delivery, Memory>
     requires same { length names.now ≡ length contents.now }
     requires count { length contents.now < 2 ^ 32 }
     requires kinds { HaveKinds names.now }
-    ensures { IsCarried (Check true names.now) contents.now result }
+    ensures { IfOk result (λ d. Gives (Check true names.now) contents.now d.actions.items d.status) }
 {
-    match find(alloc, names, contents)? {
-        Finding::Accepted(program) => Ok(show(alloc, &program)?),
+    let found = find(alloc, names, contents)?;
+    match found {
+        Finding::Accepted(program) => show(alloc, &program),
         Finding::Refused(refusals) => {
-            let said = lines::all_refused(alloc, names, refusals.as_slice())?;
-            Ok(Delivery::said(alloc, said, Status::Refused)?)
+            let text = lines::all_refused(alloc, names, refusals.as_slice())?;
+            Delivery::said(alloc, text, Status::Refused)
         }
     }
 }
