@@ -10,7 +10,7 @@ returns-in-Ok c = λ files have.
     usages_right files (record { core = c.args.core; accepted = c.in-Ok.accepted }) have
     (c.in-Ok.ensures.accepted c.args.core c.in_ok-usages.ensures).1
 
-pub returns-in-Err : goal.returns-in-Err
-returns-in-Err c = λ files have.
+pub returns-in_ok-said-in-Err : goal.returns-in_ok-said-in-Err
+returns-in_ok-said-in-Err c = λ files have.
     all_told files c.args.core have c.in_ok-usages.usages c.in_ok-usages.ensures c.in-Err.failed.items c.in-Err.ensures.failed.0
-    c.in-Err.ensures.failed.1 c.in_ok-said.said.items c.in_ok-said.ensures
+    c.in-Err.ensures.failed.1 c.in_ok-said-in-Err.said.items c.in_ok-said-in-Err.ensures

@@ -10,8 +10,8 @@ invariant_of-result c = record {
   } ∣₁;
 }
 
-pub returns-clause-accepted : goal.returns-clause-accepted
-returns-clause-accepted c = λ p are. (
+pub returns-then-len-eq0-clause-accepted : goal.returns-then-len-eq0-clause-accepted
+returns-then-len-eq0-clause-accepted c = λ p are. (
   refl,
   no_demand p c.args.usages are (let e : length c.args.usages.failed.items ≡ 0 = omega arith in e)
 )
