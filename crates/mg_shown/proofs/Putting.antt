@@ -2,8 +2,22 @@
 use Rattle.std.proofs.Common.{◌≡◌, ℕ, ◌+◌, ◌<◌, ◌≤◌, List, ◌++◌, length, get_or, drop, flat_map, sym, ap, ◌∙◌, append_assoc}
 use Rattle.std.proofs.lemmas.List.{at_drop_more, at_drop_all, append-nil}
 
-pub behind : {A : Type 0} (out more end first rest : List A) → more ≡ out ++ first → end ≡ more ++ rest → end ≡ out ++ (first ++ rest)
+behind : {A : Type 0} (out more end first rest : List A) → more ≡ out ++ first → end ≡ more ++ rest → end ≡ out ++ (first ++ rest)
 behind out more end first rest e h = h ∙ ap (λ xs. xs ++ rest) e ∙ append_assoc out first rest
+
+-- nine parts, one behind another
+module _ {A : Type 0} (out m₁ m₂ m₃ m₄ m₅ m₆ m₇ m₈ end a b c d e f g h i : List A) where
+  pub nine_put : m₁ ≡ out ++ a → m₂ ≡ m₁ ++ b → m₃ ≡ m₂ ++ c → m₄ ≡ m₃ ++ d → m₅ ≡ m₄ ++ e → m₆ ≡ m₅ ++ f → m₇ ≡ m₆ ++ g → m₈ ≡ m₇ ++ h →
+      end ≡ m₈ ++ i → end ≡ out ++ (a ++ (b ++ (c ++ (d ++ (e ++ (f ++ (g ++ (h ++ i))))))))
+  nine_put one two three four five six seven eight nine =
+      behind out m₁ end a (b ++ (c ++ (d ++ (e ++ (f ++ (g ++ (h ++ i))))))) one
+      (behind m₁ m₂ end b (c ++ (d ++ (e ++ (f ++ (g ++ (h ++ i)))))) two
+      (behind m₂ m₃ end c (d ++ (e ++ (f ++ (g ++ (h ++ i))))) three
+      (behind m₃ m₄ end d (e ++ (f ++ (g ++ (h ++ i)))) four
+      (behind m₄ m₅ end e (f ++ (g ++ (h ++ i))) five
+      (behind m₅ m₆ end f (g ++ (h ++ i)) six
+      (behind m₆ m₇ end g (h ++ i) seven
+      (behind m₇ m₈ end h i eight nine)))))))
 
 module _ {X A : Type 0} (f : X → List A) (xs : List X) (i : ℕ) (out : List A) where
   pub put_more : (x : X) (new total : List A) → i < length xs → x ≡ get_or xs i x → new ≡ out ++ f x → out ++ flat_map f (drop i xs) ≡ total
