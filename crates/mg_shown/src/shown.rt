@@ -144,8 +144,8 @@ impl<'a> Shower<'a> {
         ensures { OnOk result (string_bytes out.new ≡ string_bytes out.old ++ flat_map (λ s. line_at self.now.names.now self.now.core.now s
             (at_place (get ⟦<PlaceKey as PartialEq>⟧.eq seen.now) s.place)) sites.now) }
     {
-        for site in sites {
-            self.put_seen(alloc, out, site, seen)?;
+        for number in 0..sites.len() {
+            self.put_seen(alloc, out, &sites[number], seen)?;
         }
         Ok(())
     }
