@@ -116,18 +116,18 @@ impl<'a> Shower<'a> {
         &self,
         alloc: Global,
         out: &mut String,
-        site: &Site,
+        site: Site,
         seen: &IndexMap<PlaceKey, StateSet>,
     ) -> Result<(), Memory>
         requires { AreFor self.now.core.now self.now.tables.now }
-        ensures { OnOk result (string_bytes out.new ≡ string_bytes out.old ++ line_at self.now.names.now self.now.core.now site.now
-            (at_place (get ⟦<PlaceKey as PartialEq>⟧.eq seen.now) site.now.place)) }
+        ensures { OnOk result (string_bytes out.new ≡ string_bytes out.old ++ line_at self.now.names.now self.now.core.now site
+            (at_place (get ⟦<PlaceKey as PartialEq>⟧.eq seen.now) site.place)) }
     {
         match seen.get(&key_of(site.place)) {
-            Some(before) => self.put_site(alloc, out, *site, before),
+            Some(before) => self.put_site(alloc, out, site, before),
             None => {
                 let nothing = empty_set(alloc, 0)?;
-                self.put_site(alloc, out, *site, &nothing)
+                self.put_site(alloc, out, site, &nothing)
             }
         }
     }
@@ -144,8 +144,8 @@ impl<'a> Shower<'a> {
         ensures { OnOk result (string_bytes out.new ≡ string_bytes out.old ++ flat_map (λ s. line_at self.now.names.now self.now.core.now s
             (at_place (get ⟦<PlaceKey as PartialEq>⟧.eq seen.now) s.place)) sites.now) }
     {
-        for number in 0..sites.len() {
-            self.put_seen(alloc, out, &sites[number], seen)?;
+        for site in sites {
+            self.put_seen(alloc, out, *site, seen)?;
         }
         Ok(())
     }
