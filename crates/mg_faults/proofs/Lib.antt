@@ -5,4 +5,4 @@ pub mod Reading
 pub mod Among
 pub mod Laws
 pub mod Alike
-pub mod Finding
+pub mod Found

@@ -1,5 +1,5 @@
 use Rattle.mg_sources.specs.Files.{sources}
-use Rattle.mg_faults.proofs.Finding.{accepted_found, refused_found}
+use Rattle.mg_faults.proofs.Found.{accepted_found, refused_found}
 use Rattle.mg_faults.proofs.judged.find.Goals as goal
 
 pub returns : goal.returns

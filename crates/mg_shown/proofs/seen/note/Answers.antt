@@ -10,7 +10,7 @@ use Rattle.mg_shown.proofs.seen.note.Goals as goal
 pub returns : goal.returns
 returns c =
     let s = sight_of c.args.sight.now in
-    let key : c.key_of.result ≡ key_of s.place = c.key_of.ensures in
+    let key : c.key_of-key.result ≡ key_of s.place = c.key_of-key.ensures in
     sight_noted s (get key_eq c.args.seen.now) (get key_eq c.insert.new.self) c.in_ok-all.all
     (c.in_ok-all.ensures
     ∙ ap (λ (o : Option Set). union (set_or_none o) s.set) (c.get.ensures.value ∙ ap (get key_eq c.args.seen.now) key))

@@ -27,9 +27,9 @@ returns c =
       sites = c.in_ok-sites.sites.items;
       listed = c.in_ok-sites.ensures;
       is = c.from_string.ensures ∙ c.in_ok-put_sites.ensures
-          ∙ ap (λ (xs : Name). xs ++ flat_map (λ (s : Site). line_at names p s (at_place find s.place)) c.as_slice-sites.result.now)
+          ∙ ap (λ (xs : Name). xs ++ flat_map (λ (s : Site). line_at names p s (at_place find s.place)) c.as_slice-2.result.now)
           c.new-out.ensures.bytes
-          ∙ ap (flat_map (λ (s : Site). line_at names p s (at_place find s.place))) c.as_slice-sites.ensures.items
-          ∙ all_told names p (reached_of t) (tables_of t) (map sight_of c.as_slice-met-sights.result.now) find c.in_ok-sites.sites.items
-          c.in_ok-seen.ensures (ap (map sight_of) c.as_slice-met-sights.ensures.items ∙ met.sights);
+          ∙ ap (flat_map (λ (s : Site). line_at names p s (at_place find s.place))) c.as_slice-2.ensures.value
+          ∙ all_told names p (reached_of t) (tables_of t) (map sight_of c.as_slice.result.now) find c.in_ok-sites.sites.items
+          c.in_ok-seen.ensures (ap (map sight_of) c.as_slice.ensures.items ∙ met.sights);
     }

@@ -15,10 +15,10 @@ sites_in-returns-in-Binary t c =
 
 pub sites_in-returns-in_ok-push-in-Protocol : goal.sites_in-returns-in_ok-push-in-Protocol
 sites_in-returns-in_ok-push-in-Protocol t c =
-    IfOk-weaker c.sites_in_args-in-Protocol.result _ _ (λ u e. call_found c.args.within c.args.expr.now
+    IfOk-weaker c.sites_in_args.result _ _ (λ u e. call_found c.args.within c.args.expr.now
     c.args.sites.now.items _ c.in-Protocol.receiver c.in-Protocol.method c.in-Protocol.args
-    c.as_slice-in-Protocol.result.now c.push.new.self.items c.as_slice-in-Protocol.ensures.items c.in-Protocol.is
-    c.in_ok-push-in-Protocol.ensures.items e) c.sites_in_args-in-Protocol.ensures
+    c.as_slice.result.now c.push.new.self.items c.as_slice.ensures.items c.in-Protocol.is
+    c.in_ok-push-in-Protocol.ensures.items e) c.sites_in_args.ensures
 
 pub sites_in-returns-in-Helper : goal.sites_in-returns-in-Helper
 sites_in-returns-in-Helper t c =
