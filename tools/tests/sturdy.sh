@@ -37,6 +37,7 @@ b=it's $(here).java:20:5: LeftOpen f Close
    20 |     }
       |     ^ the object of f may be in Close here, and is dropped before it is finished
       Close of FileProtocol offers: close()
+      Close comes from f.hasNext() in line 8
 TEXT
 env -C "$sturdy" "$top/tools/draw" x=y.protocol >"$room/got" && tools/draw examples/file/FileProtocol.protocol | diff - "$room/got"
 count "draw, a name that awk would obey" $?

@@ -12,3 +12,4 @@ mod unmet;
 pub use accepted::{AcceptedProgram, accept};
 pub use law::well_typed_is_resolved;
 pub use program::resolve_program;
+pub use unmet::refusal_of;

@@ -28,8 +28,11 @@ pub(crate) fn stop_of(alloc: Global, core: &Core, fault: &CheckFault) -> Stop
     }
 }
 
-// A demand that fails, as a refusal.
-fn refusal_of(alloc: Global, core: &Core, demand: &Demand) -> Result<Refusal, Memory>
+/// A demand that fails, as a refusal.
+///
+/// # Errors
+/// `Memory` only.
+pub fn refusal_of(alloc: Global, core: &Core, demand: &Demand) -> Result<Refusal, Memory>
     ensures { IfOk result (λ r. r ≡ demand_refusal core.now demand.now) }
 {
     let name = Text::from_string(name_of(alloc, core, demand)?);

@@ -1,6 +1,7 @@
 -- The lines that are said of words, refusals, files and memory.
 use Rattle.std.specs.Prelude.{ℕ, List, [], ◌∷◌, ◌++◌, Option, Some, None, codes, slice_get}
 use Rattle.std.specs.Fmt.{decimal}
+use Rattle.std.specs.List.{flat_map}
 use Rattle.mg_text.specs.Call.{Name}
 use Rattle.mg_refusal.specs.Refusals.{Refusal}
 use Rattle.mg_refusal.specs.declared.refusal.Spot.{Spot}
@@ -34,6 +35,10 @@ named_text None = []
 
 abbrev pub refusal_line : List Name → Refusal → List ℕ
 refusal_line names r = ended (spot_text names r.spot ++ codes ": " ++ r.kind ++ named_text r.name)
+
+-- several refusals, each in its line
+abbrev pub refusal_lines : List Name → List Refusal → List ℕ
+refusal_lines names rs = flat_map (refusal_line names) rs
 
 abbrev pub read_line : Name → List ℕ
 read_line file = ended (codes "mungo: read " ++ file)

@@ -2,7 +2,7 @@
 
 ghost use Rattle.std.specs.Prelude.{◌≡◌, ◌++◌, IfOk, OnOk, option_map, string_bytes};
 ghost use Rattle.std.specs.List.{flat_map};
-ghost use Rattle.mg_delivery.specs.Lines.{words_line, name_at, spot_text, named_text, refusal_line, read_line, write_line, not_offered_line};
+ghost use Rattle.mg_delivery.specs.Lines.{words_line, name_at, spot_text, named_text, refusal_line, refusal_lines, read_line, write_line, not_offered_line};
 
 use mg_refusal::{Refusal, Spot};
 use mg_text::{Memory, Text};
@@ -45,15 +45,37 @@ pub fn refused(alloc: Global, names: &[Text], refusal: &Refusal) -> Result<Text,
     ensures { IfOk result (λ t. t ≡ refusal_line names.now refusal.now) }
 {
     let mut line = String::new(alloc);
-    push_spot(&mut line, names, refusal.spot())?;
-    put(&mut line, &[": ", refusal.kind()])?;
-    push_named(&mut line, refusal.name())?;
-    line.push_str("\n")?;
+    push_refusal(&mut line, names, refusal)?;
     Ok(Text::from_string(line))
 }
 
-// Appends where a refusal stands.
-fn push_spot(line: &mut String, names: &[Text], spot: Spot) -> Result<(), Memory>
+/// The files of these names are refused, so: a line for each refusal.
+pub fn all_refused(alloc: Global, names: &[Text], refusals: &[Refusal]) -> Result<Text, Memory>
+    ensures { IfOk result (λ t. t ≡ refusal_lines names.now refusals.now) }
+{
+    let mut lines = String::new(alloc);
+    for refusal in refusals {
+        push_refusal(&mut lines, names, refusal)?;
+    }
+    Ok(Text::from_string(lines))
+}
+
+// Appends the line of a refusal.
+fn push_refusal(line: &mut String, names: &[Text], refusal: &Refusal) -> Result<(), Memory>
+    ensures { OnOk result (string_bytes line.new ≡ string_bytes line.old ++ refusal_line names.now refusal.now) }
+{
+    push_spot(line, names, refusal.spot())?;
+    put(line, &[": ", refusal.kind()])?;
+    push_named(line, refusal.name())?;
+    line.push_str("\n")?;
+    Ok(())
+}
+
+/// Appends where a refusal stands.
+///
+/// # Errors
+/// `Memory` only.
+pub fn push_spot(line: &mut String, names: &[Text], spot: Spot) -> Result<(), Memory>
     ensures { OnOk result (string_bytes line.new ≡ string_bytes line.old ++ spot_text names.now spot) }
 {
     match spot {

@@ -8,6 +8,6 @@ mod parts;
 mod sources;
 
 pub use faults::stop_of_protocol;
-pub use part::{Part, read_protocol};
+pub use part::{Part, read_part, read_protocol};
 pub use parts::{check_roles, read_parts};
 pub use sources::{Sources, read_program};

@@ -28,8 +28,11 @@ pub enum Part {
     Classes(File),
 }
 
-/// What one file spells, or its fault.
-pub(crate) fn read_part(alloc: Global, number: u32, name: &Text, bytes: &[u8]) -> Result<Part, Stop>
+/// What one file spells, by the ending of its name.
+///
+/// # Errors
+/// `Refused` with the file's fault; `Memory` where memory is wanted.
+pub fn read_part(alloc: Global, number: u32, name: &Text, bytes: &[u8]) -> Result<Part, Stop>
     requires { (kind : Kind) × IsOf kind (source_of number name.now bytes.now) }
     ensures { Answers (λ part. Reads (source_of number name.now bytes.now) (part_of part)) (Refuses (source_of number name.now bytes.now))
         result }

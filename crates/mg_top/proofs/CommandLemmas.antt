@@ -7,7 +7,7 @@ use Rattle.mg_delivery.specs.declared.status.Status.TheVariants as statuses
 use Rattle.mg_delivery.specs.declared.delivery.Action.{Action}
 use Rattle.mg_delivery.specs.declared.delivery.Action.TheVariants.{Print, Say}
 use Rattle.mg_delivery.specs.declared.delivery.Delivery.{Delivery}
-use Rattle.mg_words.specs.Words.{Word, Asked, limit_of, order_of, are_named, Command, Check, Run, Refine, Verify, files_of, IsCommand}
+use Rattle.mg_words.specs.Words.{Word, Asked, limit_of, order_of, are_named, Command, Check, Run, Refine, Verify, Show, files_of, IsCommand}
 use Rattle.mg_words.specs.Words.{IsFileOf}
 use Rattle.mg_delivery.specs.Lines.{refusal_line, read_line, memory_line}
 use Rattle.mg_compile.specs.declared.files.ClassFile.{ClassFile}
@@ -23,9 +23,13 @@ use Rattle.mg_runs.specs.Runs.{names_of}
 use Rattle.mg_runs.specs.Headline.{Course}
 use Rattle.mg_runs.specs.View.{Shows, IsOfRun}
 use Rattle.mg_top.specs.Statuses.{status_of}
-use Rattle.mg_top.specs.Commands.{prints, kept_in, role_mains_of, run_said, run_printed, Gives, checked, ran, refined}
+use Rattle.mg_top.specs.Commands.{prints, kept_in, role_mains_of, run_said, run_printed, Gives, checked, faulted, ran, refined, shown}
 use Rattle.mg_top.specs.Commands.{refined_status}
 use Rattle.mg_top.specs.Commands.{verified}
+use Rattle.mg_accepted.specs.Program.{HaveCore}
+use Rattle.mg_faults.specs.Faults.{AllRefusals}
+use Rattle.mg_shown.specs.Shown.{IsShown}
+use Rattle.mg_delivery.specs.Lines.{refusal_lines}
 use Rattle.mg_verified.specs.Verified.{AreVerified}
 use Rattle.mg_typed_law.specs.Laws.{RunsAreTypable}
 use Rattle.mg_top.specs.Commands.{IsRefused, judged_names, Yields, gives, refused}
@@ -69,11 +73,32 @@ reported core text given (Ok d) e h a s = record { text = text; says = a ∙ ap 
 reported core text given (Err x) e h a s = tt
 
 -- the report of accepted files
-pub report_given : (files : List Word) (contents : List (List ℕ)) (core : Core.Program) (d : Delivery) →
+pub report_given : (all : Bool) (files : List Word) (contents : List (List ℕ)) (core : Core.Program) (d : Delivery) →
     AreAccepted (sources files contents) core →
-    IsReported core d.actions.items d.status → Gives (Check files) contents d.actions.items d.status
-report_given files contents core d a k =
-    gives_so (Check files) contents (prints k.text) statuses.Done d k.says k.done (checked core a k.report)
+    IsReported core d.actions.items d.status → Gives (Check all files) contents d.actions.items d.status
+report_given all files contents core d a k =
+    gives_so (Check all files) contents (prints k.text) statuses.Done d k.says k.done (checked core a k.report)
+
+-- all that is wrong with files
+faults_given : (files : List Word) (contents : List (List ℕ)) (rs : List Refusal) (given : List ℕ) (d : Delivery) →
+    AllRefusals (sources files contents) rs → given ≡ refusal_lines files rs → d.actions.items ≡ Say given ∷ [] →
+    d.status ≡ statuses.Refused → Gives (Check true files) contents d.actions.items d.status
+faults_given files contents rs given d h e a s =
+    gives_so (Check true files) contents (Say (refusal_lines files rs) ∷ []) statuses.Refused d
+    (a ∙ ap (λ (t : List ℕ). Say t ∷ []) e) s (faulted h)
+
+pub faults_said : (files : List Word) (contents : List (List ℕ)) (rs : List Refusal) (given : List ℕ) (r : Result Delivery Memory) →
+    AllRefusals (sources files contents) rs → given ≡ refusal_lines files rs → IfOk r (λ d. d.actions.items ≡ Say given ∷ []) →
+    IfOk r (λ d. d.status ≡ statuses.Refused) → IfOk r (λ d. Gives (Check true files) contents d.actions.items d.status)
+faults_said files contents rs given (Ok d) h e a s = faults_given files contents rs given d h e a s
+faults_said files contents rs given (Err x) h e a s = tt
+
+-- what is shown of a program
+pub shown_given : (files : List Word) (contents : List (List ℕ)) (core : Core.Program) (text given : List ℕ) (d : Delivery) →
+    HaveCore (sources files contents) core → IsShown files core text → given ≡ text → d.actions.items ≡ prints given →
+    d.status ≡ statuses.Done → Gives (Show files) contents d.actions.items d.status
+shown_given files contents core text given d have is e a s =
+    gives_so (Show files) contents (prints text) statuses.Done d (a ∙ ap prints e) s (shown core have is)
 
 -- how many methods were verified
 pub verified_given : (files : List Word) (contents : List (List ℕ)) (line given : List ℕ) (d : Delivery) → given ≡ line →

@@ -15,7 +15,7 @@ use Rattle.mg_delivery.specs.declared.status.Status.{Status}
 use Rattle.mg_delivery.specs.declared.status.Status.TheVariants as statuses
 use Rattle.mg_delivery.specs.declared.delivery.Action.{Action}
 use Rattle.mg_delivery.specs.declared.delivery.Action.TheVariants.{Print, Say}
-use Rattle.mg_delivery.specs.Lines.{refusal_line, not_offered_line}
+use Rattle.mg_delivery.specs.Lines.{refusal_line, refusal_lines, not_offered_line}
 use Rattle.mg_refusal.specs.Refusals.{Refusal}
 use Rattle.mg_refusal.proofs.Orders.{then_never}
 use Rattle.mg_sources.specs.Files.{Source, source_of, sources}
@@ -25,6 +25,8 @@ use Rattle.mg_sources.specs.Reading.{Protocol, Reads}
 use Rattle.mg_sources.specs.Sources.{FirstRefusal}
 use Rattle.mg_sources.proofs.OneKind.{one_part, excludes}
 use Rattle.mg_accepted.proofs.Apart.{not_refused as not_unmet}
+use Rattle.mg_accepted.proofs.OneCore.{no_refusal}
+use Rattle.mg_faults.proofs.Laws.{none_where_accepted}
 use Rattle.mg_compile.proofs.Apart.{not_refused as not_exceeded}
 use Rattle.vm_world_law.specs.declared.stand.Stand.{Stand}
 use Rattle.vm_world_law.specs.Turns.{stands_in, is_bound, is_broken, is_zero, is_mismatch, is_waiting}
@@ -34,7 +36,7 @@ use Rattle.mg_runs.specs.Headline.{Course, IsRun}
 use Rattle.mg_exec.proofs.Apart.{not_refused as not_stopped, one_course}
 use Rattle.vm_world_law.specs.declared.role.RoleMain.{RoleMain}
 use Rattle.mg_top.specs.Translation.{Target, AreTranslated}
-use Rattle.mg_top.specs.Commands.{Gives, translated, conforms, checked, compiled, ran, executed, refined, projected, loaded, verified, fitted}
+use Rattle.mg_top.specs.Commands.{Gives, translated, conforms, checked, compiled, ran, executed, refined, projected, loaded, verified, fitted, faulted, shown}
 use Rattle.mg_top.specs.Commands.{refined_status}
 use Rattle.mg_top.specs.Statuses.{status_of}
 use Rattle.mg_top.specs.Commands.{load_asked, load_sources, role_mains_of, cast_mains_of, IsRefused, judged_names, Yields, gives, refused}
@@ -131,6 +133,8 @@ not_both {contents = contents} {r = r} (verified {files = files} {line = line} a
     not_unverified (sources files contents) line r a h
 not_both {r = r} (fitted {roles = roles} {global = global} {files = files} {bytes = bytes} {contents = contents} a never) (commands.fit h) =
     not_unfit (source_of (length files) global bytes) (sources files contents) (cast_mains_of roles) a r h
+not_both {contents = contents} {r = r} (shown {files = files} core have is) (commands.show h) =
+    no_refusal (sources files contents) have.program r have.are h
 
 -- ---- one status
 
@@ -150,6 +154,11 @@ gives_status {m = m} {n = n} (conforms {protocol = protocol} {calls = calls} {by
     (conforms {text = u} local' list' o' l' c') =
     conform_status (source_of 0 protocol bytes) (source_of 1 calls listed) local local' list list' t u m n o o' l l' c c'
 gives_status (checked core a r) (checked core' a' r') = refl
+gives_status {contents = contents} (checked {files = files} core a r) (faulted {rs = rs} h) =
+    absurd (none_where_accepted (sources files contents) core rs a h)
+gives_status {contents = contents} (faulted {files = files} {rs = rs} h) (checked core a r) =
+    absurd (none_where_accepted (sources files contents) core rs a h)
+gives_status (faulted h) (faulted k) = refl
 gives_status (compiled written h typable) (compiled written' h' typable') = refl
 gives_status {contents = contents} (ran {asked = asked} {files = files} r h typable) (ran s k typable') =
     ap status_of (one_stand (sources files contents) (role_mains_of asked) (order_of asked) (limit_of asked) r s h k)
@@ -163,6 +172,7 @@ gives_status (loaded {branches = n} {seed = seed} r h typable) (loaded s k typab
     ap status_of (one_stand (load_sources n seed) (role_mains_of load_asked) (order_of load_asked) (limit_of load_asked) r s h k)
 gives_status (verified h) (verified k) = refl
 gives_status (fitted h never) (fitted k never') = refl
+gives_status (shown core have is) (shown other have' is') = refl
 
 pub one_status : {command : Command} {contents : List (List ℕ)} {xa xb : List Action} {m n : Status} → Yields command contents xa m →
     Yields command contents xb n → m ≡ n
@@ -212,6 +222,7 @@ gives_proper : {command : Command} {contents : List (List ℕ)} {actions : List 
 gives_proper (translated t) = done_proper
 gives_proper (conforms local list o l c) = answer_proper c
 gives_proper (checked core a r) = done_proper
+gives_proper (faulted h) = refused_proper
 gives_proper (compiled written h typable) = done_proper
 gives_proper (ran r h typable) = stands_proper (stands_in r.program r.last)
 gives_proper (executed r h never) = stands_proper (stands_in r.program r.last)
@@ -220,6 +231,7 @@ gives_proper (projected written h) = done_proper
 gives_proper (loaded r h typable) = stands_proper (stands_in r.program r.last)
 gives_proper (verified h) = done_proper
 gives_proper (fitted h never) = done_proper
+gives_proper (shown core have is) = done_proper
 
 pub proper : {command : Command} {contents : List (List ℕ)} {actions : List Action} {status : Status} →
     Yields command contents actions status → IsYielded status
@@ -264,6 +276,7 @@ gives_says : {command : Command} {contents : List (List ℕ)} {actions : List Ac
 gives_says (translated t) e = absurd cc
 gives_says (conforms local list o l c) e = answer_says c e
 gives_says (checked core a r) e = absurd cc
+gives_says (faulted {files = files} {rs = rs} h) e = inl (refusal_lines files rs, refl)
 gives_says (compiled written h typable) e = absurd cc
 gives_says (ran r h typable) e = absurd (never_refused (stands_in r.program r.last) e)
 gives_says (executed r h never) e = absurd (never_refused (stands_in r.program r.last) e)
@@ -272,6 +285,7 @@ gives_says (projected written h) e = absurd cc
 gives_says (loaded r h typable) e = absurd (never_refused (stands_in r.program r.last) e)
 gives_says (verified h) e = absurd cc
 gives_says (fitted h never) e = absurd cc
+gives_says (shown core have is) e = absurd cc
 
 pub refusal_says : {command : Command} {contents : List (List ℕ)} {actions : List Action} {status : Status} →
     Yields command contents actions status → status ≡ statuses.Refused → SaysRefusal actions
@@ -303,6 +317,7 @@ gives_whole : {command : Command} {contents : List (List ℕ)} {actions : List A
 gives_whole (translated t) e = absurd cc
 gives_whole (conforms local list o l c) e = absurd (answer_whole c e)
 gives_whole (checked core a r) e = absurd cc
+gives_whole (faulted h) e = absurd cc
 gives_whole (compiled written h typable) e = absurd cc
 gives_whole {contents = contents} (ran {asked = asked} {files = files} r h typable) e =
     let all : List Stand = stands_in r.program r.last in
@@ -319,6 +334,7 @@ gives_whole (loaded {branches = n} {seed = seed} r h typable) e =
 gives_whole (executed {asked = asked} {files = files} r h never) e = (asked, files, refl)
 gives_whole (verified h) e = absurd cc
 gives_whole (fitted h never) e = absurd cc
+gives_whole (shown core have is) e = absurd cc
 
 pub broken_command : {command : Command} {contents : List (List ℕ)} {actions : List Action} {status : Status} →
     Yields command contents actions status → status ≡ statuses.Broken → (asked : Asked) × (files : List Word) × (command ≡ Exec asked files)

@@ -1,6 +1,6 @@
 -- A command gives one thing of the same contents, but for the place of Syntax.
-use Rattle.std.proofs.Common.{◌≡◌, ◌≢◌, ◌⊎◌, ℕ, Option, Some, List, [], ◌∷◌, ◌++◌, map, length, codes, refl, sym, ap, ◌∙◌, subst, inl, inr, arith}
-use Rattle.std.proofs.lemmas.List.{map-append}
+use Rattle.std.proofs.Common.{◌≡◌, ◌≢◌, ◌⊎◌, ℕ, Option, Some, List, [], ◌∷◌, ◌++◌, map, length, codes, refl, sym, ap, ◌∙◌, subst, inl, inr, ⊎_elim, arith}
+use Rattle.std.proofs.lemmas.List.{map-append, append-nil}
 use Rattle.mg_text.specs.Call.{Call}
 use Rattle.mg_text.specs.declared.place.Place.{Place}
 use Rattle.mg_read.specs.FirstLaws.{IsSingle}
@@ -24,6 +24,12 @@ use Rattle.mg_sources.proofs.Together.{one_api}
 use Rattle.mg_sources.proofs.Alike as sources_alike
 use Rattle.mg_accepted.proofs.OneCore.{one_core}
 use Rattle.mg_accepted.proofs.Alike as accepted_alike
+use Rattle.mg_accepted.proofs.TypesAlike as program_alike
+use Rattle.mg_faults.specs.Faults.{AreAllAlike}
+use Rattle.mg_faults.proofs.Alike.{one_list as all_alike}
+use Rattle.mg_shown.specs.Shown.{IsShown}
+use Rattle.mg_shown.proofs.Single.{one_shown}
+use Rattle.use_flow.proofs.Reached.{reached_same}
 use Rattle.mg_compile.proofs.Apart.{one_compiled}
 use Rattle.mg_compile.proofs.Alike as compiled_alike
 use Rattle.mg_load.specs.Workload.{loaded_line}
@@ -48,11 +54,11 @@ use Rattle.mg_delivery.specs.Files.{Output}
 use Rattle.mg_top.specs.Writing.{classes_written, roles_written}
 use Rattle.api_package.specs.Heads.{headed}
 use Rattle.mg_top.specs.Translation.{Target, IsTypestateFile, api_written, IsTranslation, Translates, EachTranslates, none, one}
-use Rattle.mg_delivery.specs.Lines.{refusal_line, not_offered_line}
+use Rattle.mg_delivery.specs.Lines.{refusal_line, refusal_lines, not_offered_line}
 use Rattle.mg_top.specs.Conformance.{calls_of, Conforms, complete, unfinished, not_offered, IsNoList, too_large, bad_line, ConformRefusal}
 use Rattle.mg_top.specs.Commands.{loaded, load_asked, load_sources, judged_names, prints, kept_in, role_mains_of, cast_mains_of, run_said, run_printed}
 use Rattle.mg_top.specs.Commands.{exec_said, exec_printed}
-use Rattle.mg_top.specs.Commands.{Gives, translated, conforms, checked, compiled, ran, executed, refined, projected, verified, fitted}
+use Rattle.mg_top.specs.Commands.{Gives, translated, conforms, checked, compiled, ran, executed, refined, projected, verified, fitted, faulted, shown}
 use Rattle.mg_top.specs.Commands.{IsRefused, Yields, gives, refused}
 use Rattle.mg_top.specs.Commands as commands
 use Rattle.mg_top.specs.Once.{SameActions, YieldsOnce}
@@ -182,9 +188,19 @@ conform_alike protocol calls = then_alike (alike protocol) (λ r local refuses r
 
 -- ---- what is given
 
+-- two texts of all that is wrong
+record BothFaulted (a b : List Action) (m : Status) : Type 0 where
+  names : List Word
+  rs : List Refusal
+  qs : List Refusal
+  alike : AreAllAlike rs qs
+  one : a ≡ Say (refusal_lines names rs) ∷ []
+  other : b ≡ Say (refusal_lines names qs) ∷ []
+  refused : m ≡ statuses.Refused
+
 given_once : {command : Command} {contents : List (List ℕ)} {a b : List Action} {m n : Status} → Gives command contents a m →
-    Gives command contents b n → m ≡ n → a ≡ b
-given_once (translated t) (translated u) e = each_once t.each u.each refl
+    Gives command contents b n → m ≡ n → (a ≡ b) ⊎ BothFaulted a b m
+given_once (translated t) (translated u) e = inl (each_once t.each u.each refl)
 given_once {m = m} {n = n} (conforms {protocol = protocol} {calls = calls} {bytes = bytes} {listed = listed} {text = t} local list o l c)
     (conforms {text = u} local' list' o' l' c') e =
     let local_is : local' ≡ local = same_local local' local (one_part (source_of 0 protocol bytes) (Protocol local') (Protocol local) o' o)
@@ -192,66 +208,84 @@ given_once {m = m} {n = n} (conforms {protocol = protocol} {calls = calls} {byte
     let list_is : list' ≡ list = one_list listed list' list l'.listed l.listed in
     let there : Conforms local list u n =
     subst (λ (z : List CallAt). Conforms local z u n) list_is (subst (λ (z : LocalTree). Conforms z list' u n) local_is c') in
-    ap (λ (text : List ℕ). Print text ∷ []) (answers_alike c there e)
+    inl (ap (λ (text : List ℕ). Print text ∷ []) (answers_alike c there e))
 given_once {contents = contents} (checked {files = files} {text = t} core h r) (checked {text = u} other k q) e =
     let same : core ≡ other = one_core (sources files contents) core other h.have k.have in
-    ap prints (one_report other t u (subst (λ (p : Core.Program). IsReport p t) same r) q)
+    inl (ap prints (one_report other t u (subst (λ (p : Core.Program). IsReport p t) same r) q))
 given_once {contents = contents} (compiled {folder = folder} {files = files} written h typable) (compiled written' k typable') e =
-    ap (classes_written folder) (one_compiled (sources files contents) written written' h k)
+    inl (ap (classes_written folder) (one_compiled (sources files contents) written written' h k))
 given_once {contents = contents} (ran {asked = asked} {files = files} r h typable) (ran s k typable') e =
     let same = one_of_run (sources files contents) (role_mains_of asked) (order_of asked) (limit_of asked) r s h k in
-    λ i. run_actions asked (record {
+    inl (λ i. run_actions asked (record {
       core = same.core i;
       written = same.written i;
       program = same.program i;
       first = r.first;
       last =
           same.last i;
-    })
+    }))
 given_once {contents = contents} (executed {asked = asked} {files = files} r h never) (executed s k never') e =
     let same = one_course (sources files contents) (role_mains_of asked) (order_of asked) (limit_of asked) r s h k in
-    λ i. exec_actions asked (record { program = same.program i; first = r.first; last = same.last i })
-given_once {contents = contents} (refined {files = files} {text = x} {stands = s} h) (refined {text = y} {stands = t} k) e =
-    ap (λ (text : List ℕ). Print text ∷ []) (one_telling (sources files contents) x y s t h k).0
+    inl (λ i. exec_actions asked (record { program = same.program i; first = r.first; last = same.last i }))
+given_once {contents = contents} (refined {files = files} {text = x} {stands = s} h) (refined {text = y} {stands = t} k) e = inl (ap (λ (text : List ℕ). Print text ∷ []) (one_telling (sources files contents) x y s t h k).0)
 given_once {contents = contents} (projected {folder = folder} {files = files} written h) (projected written' k) e =
-    ap (roles_written folder) (written_once (sources files contents) written written' h k)
+    inl (ap (roles_written folder) (written_once (sources files contents) written written' h k))
 given_once (loaded {branches = n} {seed = seed} r h typable) (loaded s k typable') e =
     let same = one_of_run (load_sources n seed) (role_mains_of load_asked) (order_of load_asked) (limit_of load_asked) r s h k in
-    λ i. load_actions n seed (record {
+    inl (λ i. load_actions n seed (record {
       core = same.core i;
       written = same.written i;
       program = same.program i;
       first = r.first;
       last = same.last i;
-    })
-given_once {contents = contents} (verified {files = files} {line = x} h) (verified {line = y} k) e =
-    ap (λ (line : List ℕ). Print line ∷ []) (one_line (sources files contents) x y h k)
-given_once (fitted h never) (fitted k never') e = refl
+    }))
+given_once {contents = contents} (verified {files = files} {line = x} h) (verified {line = y} k) e = inl (ap (λ (line : List ℕ). Print line ∷ []) (one_line (sources files contents) x y h k))
+given_once (fitted h never) (fitted k never') e = inl refl
+given_once (checked core h r) (faulted k) e = let no : ⊥ = cc in absurd no
+given_once (faulted k) (checked core h r) e = let no : ⊥ = cc in absurd no
+given_once {contents = contents} (faulted {files = files} {rs = rs} h) (faulted {rs = qs} k) e = inr (record {
+  names = files;
+  rs = rs;
+  qs = qs;
+  alike = all_alike (sources files contents) rs qs h k;
+  one = refl;
+  other = refl;
+  refused = refl;
+})
+given_once {contents = contents} (shown {files = files} {text = t} core have is) (shown {text = u} other have' is') e =
+    let same : core ≡ other = one_core (sources files contents) core other have have' in
+    inl (ap prints (one_shown reached_same files other t u (subst (λ (p : Core.Program). IsShown files p t) same is) is'))
 
 -- ---- what is refused
 
 say : (names : List Word) (r q : Refusal) → AreAlike r q → SameActions (Say (refusal_line names r) ∷ []) (Say (refusal_line names q) ∷ [])
-say names r q (inl e) = inl (ap (λ (z : Refusal). Say (refusal_line names z) ∷ []) e)
-say names r q (inr syntax) =
-    inr (
-      refusal_line names r,
-      refusal_line names q,
-      refl,
-      refl,
-      record {
-        names = names;
-        r = r;
-        q = q;
-        syntax = syntax;
-        says = refl;
-        also =
-            refl;
-      },
-    )
+say names r q alike = inr (
+  refusal_line names r,
+  refusal_line names q,
+  refl,
+  refl,
+  record {
+    names = names;
+    rs = r ∷ [];
+    qs = q ∷ [];
+    alike = (alike, tt);
+    says = sym (append-nil (refusal_line names r));
+    also = sym (append-nil (refusal_line names q));
+  },
+)
+
+say_all : {a b : List Action} {m : Status} → BothFaulted a b m → SameActions a b
+say_all f = inr (
+  refusal_lines f.names f.rs,
+  refusal_lines f.names f.qs,
+  f.one,
+  f.other,
+  record { names = f.names; rs = f.rs; qs = f.qs; alike = f.alike; says = refl; also = refl },
+)
 
 same_actions : {command : Command} {contents : List (List ℕ)} {a b : List Action} {m n : Status} → Yields command contents a m →
     Yields command contents b n → m ≡ n → m ≢ statuses.Refused → a ≡ b
-same_actions (gives y) (gives z) e ne = given_once y z e
+same_actions (gives y) (gives z) e ne = ⊎_elim (λ h. h) (λ f. absurd (ne f.refused)) (given_once y z e)
 same_actions (gives y) (refused r) e ne = absurd (ne e)
 same_actions (refused r) z e ne = absurd (ne refl)
 
@@ -283,10 +317,12 @@ module _ (law : RefusalsAreAlike) where
   refused_alike {r = r} {q = q} (commands.fit {roles = roles} {global = global} {files = files} {bytes = bytes} {contents = contents} h)
       (commands.fit k) =
       law (source_of (length files) global bytes) (sources files contents) (cast_mains_of roles) r q h k
+  refused_alike {contents = contents} {r = r} {q = q} (commands.show {files = files} h) (commands.show k) =
+      program_alike.same_refusal (sources files contents) r q h k
 
   yields_alike : {command : Command} {contents : List (List ℕ)} {a b : List Action} {m n : Status} → Yields command contents a m →
       Yields command contents b n → m ≡ n → SameActions a b
-  yields_alike (gives y) (gives z) e = inl (given_once y z e)
+  yields_alike (gives y) (gives z) e = ⊎_elim inl say_all (given_once y z e)
   yields_alike (gives y) (refused r) e = absurd (not_both y r)
   yields_alike (refused r) (gives y) e = absurd (not_both y r)
   yields_alike {command = command} (refused {r = r} h) (refused {r = q} k) e = say (judged_names command) r q (refused_alike h k)

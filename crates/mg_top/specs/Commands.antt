@@ -6,6 +6,10 @@ use Rattle.jv_core.specs.Tree as Core
 use Rattle.use_check.specs.Report.{IsReport}
 use Rattle.mg_accepted.specs.Accepted.{AreAccepted}
 use Rattle.mg_accepted.specs.Accepted as accepted
+use Rattle.mg_accepted.specs.Program.{HaveCore}
+use Rattle.mg_accepted.specs.Program as program
+use Rattle.mg_faults.specs.Faults.{AllRefusals}
+use Rattle.mg_shown.specs.Shown.{IsShown}
 use Rattle.mg_compile.specs.declared.files.ClassFile.{ClassFile}
 use Rattle.mg_compile.specs.Compiled.{AreCompiled}
 use Rattle.mg_compile.specs.Compiled as compiling
@@ -34,7 +38,7 @@ use Rattle.mg_delivery.specs.declared.status.Status.TheVariants.{Done, Refused}
 use Rattle.mg_delivery.specs.declared.delivery.Action.{Action}
 use Rattle.mg_delivery.specs.declared.delivery.Action.TheVariants.{Print, Say}
 use Rattle.mg_words.specs.Words.{Word, RoleClass, Asked, limit_of, mains_of, order_of, are_named, Command, Translate, Conform, Check}
-use Rattle.mg_words.specs.Words.{Compile, Run, Exec, Refine, Project, Load, Verify, Fit, Several}
+use Rattle.mg_words.specs.Words.{Compile, Run, Exec, Refine, Project, Load, Verify, Fit, Show, Several}
 use Rattle.mg_refusal.specs.Refusals.{Refusal}
 use Rattle.mg_sources.specs.Files.{Source, source_of, sources}
 use Rattle.mg_sources.specs.Reading.{Protocol, Reads}
@@ -43,7 +47,7 @@ use Rattle.mg_top.specs.Writing.{classes_written, roles_written}
 use Rattle.mg_top.specs.Translation.{AreTranslated}
 use Rattle.mg_top.specs.Statuses.{status_of}
 use Rattle.mg_top.specs.Fitting.{NoRunGetsStuck}
-use Rattle.mg_delivery.specs.Lines.{refusal_line}
+use Rattle.mg_delivery.specs.Lines.{refusal_line, refusal_lines}
 use Rattle.mg_top.specs.Conformance.{Lists, Conforms, ConformRefusal}
 
 -- an empty text isn't put
@@ -118,8 +122,11 @@ pub data Gives : Command → List (List ℕ) → List Action → Status → Type
   conforms : {protocol calls : Word} {bytes listed text : List ℕ} {status : Status} (local : LocalTree) (list : List CallAt) →
       Reads (source_of 0 protocol bytes) (Protocol local) → Lists (source_of 1 calls listed) list → Conforms local list text status →
       Gives (Conform (protocol ∷ calls ∷ [])) (bytes ∷ listed ∷ []) (Print text ∷ []) status
-  checked : {files : List Word} {contents : List (List ℕ)} {text : List ℕ} (core : Core.Program) →
-      AreAccepted (sources files contents) core → IsReport core text → Gives (Check files) contents (prints text) Done
+  checked : {all : Bool} {files : List Word} {contents : List (List ℕ)} {text : List ℕ} (core : Core.Program) →
+      AreAccepted (sources files contents) core → IsReport core text → Gives (Check all files) contents (prints text) Done
+  -- or all that is wrong, a line for each
+  faulted : {files : List Word} {contents : List (List ℕ)} {rs : List Refusal} → AllRefusals (sources files contents) rs →
+      Gives (Check true files) contents (Say (refusal_lines files rs) ∷ []) Refused
   -- each method of the classes has a typing
   compiled : {folder : Option Word} {files : List Word} {contents : List (List ℕ)} (written : List ClassFile) →
       AreCompiled (sources files contents) written → LinkTypable written →
@@ -156,6 +163,9 @@ pub data Gives : Command → List (List ℕ) → List Action → Status → Type
       AreFitted (source_of (length files) global bytes) (sources files contents) (cast_mains_of roles) →
       NoRunGetsStuck (source_of (length files) global bytes) (sources files contents) (cast_mains_of roles) →
       Gives (Fit roles (global ∷ files)) (bytes ∷ contents) (Print fits_text ∷ []) Done
+  -- a line for each call of a protocol method in the program, whether or not its demands fail
+  shown : {files : List Word} {contents : List (List ℕ)} {text : List ℕ} (core : Core.Program) → HaveCore (sources files contents) core →
+      IsShown files core text → Gives (Show files) contents (prints text) Done
 
 -- The first refusal of a command's files: one case a command.
 pub data IsRefused : Command → List (List ℕ) → Refusal → Type 0 where
@@ -166,7 +176,7 @@ pub data IsRefused : Command → List (List ℕ) → Refusal → Type 0 where
       ConformRefusal (source_of 0 protocol bytes) (source_of 1 calls listed) r → IsRefused (Conform (protocol ∷ calls ∷ []))
       (bytes ∷ listed ∷ []) r
   check : {files : List Word} {contents : List (List ℕ)} {r : Refusal} →
-      accepted.FirstRefusal (sources files contents) r → IsRefused (Check files) contents r
+      accepted.FirstRefusal (sources files contents) r → IsRefused (Check false files) contents r
   compile : {folder : Option Word} {files : List Word} {contents : List (List ℕ)} {r : Refusal} →
       compiling.FirstRefusal (sources files contents) r → IsRefused (Compile folder files) contents r
   run : {asked : Asked} {files : List Word} {contents : List (List ℕ)} {r : Refusal} →
@@ -185,6 +195,9 @@ pub data IsRefused : Command → List (List ℕ) → Refusal → Type 0 where
   fit : {roles : List RoleClass} {global : Word} {files : List Word} {bytes : List ℕ} {contents : List (List ℕ)} {r : Refusal} →
       fitting.FirstRefusal (source_of (length files) global bytes) (sources files contents) (cast_mains_of roles) r →
       IsRefused (Fit roles (global ∷ files)) (bytes ∷ contents) r
+  -- by its readers, roles and types
+  show : {files : List Word} {contents : List (List ℕ)} {r : Refusal} →
+      program.FirstRefusal (sources files contents) r → IsRefused (Show files) contents r
 
 -- names, the first of them behind the others
 abbrev pub first_last : List Word → List Word
@@ -195,7 +208,7 @@ first_last (name ∷ names) = names ++ name ∷ []
 abbrev pub judged_names : Command → List Word
 judged_names (Translate package_name folder files) = files
 judged_names (Conform files) = files
-judged_names (Check files) = files
+judged_names (Check all files) = files
 judged_names (Compile folder files) = files
 judged_names (Run asked files) = files
 judged_names (Exec asked files) = files
@@ -204,6 +217,7 @@ judged_names (Project folder files) = files
 judged_names (Load branches seed) = file_names
 judged_names (Verify files) = files
 judged_names (Fit roles files) = first_last files
+judged_names (Show files) = files
 
 -- A command gives this, or says the line of the first refusal of its files.
 pub data Yields (command : Command) (contents : List (List ℕ)) : List Action → Status → Type 0 where

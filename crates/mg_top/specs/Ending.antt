@@ -4,7 +4,7 @@ use Rattle.mg_delivery.specs.declared.status.Status.{Status}
 use Rattle.mg_delivery.specs.declared.status.Status.TheVariants as statuses
 use Rattle.mg_delivery.specs.declared.delivery.Action.{Action}
 use Rattle.mg_delivery.specs.declared.delivery.Action.TheVariants.{Say}
-use Rattle.mg_words.specs.Words.{Word, Command, Translate, Conform, Check, Compile, Run, Exec, Refine, Project, Load, Verify, Fit, files_of}
+use Rattle.mg_words.specs.Words.{Word, Command, Translate, Conform, Check, Compile, Run, Exec, Refine, Project, Load, Verify, Fit, Show, files_of}
 use Rattle.mg_words.specs.Words.{IsCommand}
 use Rattle.mg_words.specs.Words.{AreWrong}
 use Rattle.mg_delivery.specs.Lines.{words_line, read_line, memory_line}
@@ -17,13 +17,14 @@ use Rattle.mg_top.specs.Commands.{Yields}
 abbrev pub read_limit : Command → ℕ
 read_limit (Translate package_name folder files) = 1048577
 read_limit (Conform files) = 1048577
-read_limit (Check files) = 1048577
+read_limit (Check all files) = 1048577
 read_limit (Compile folder files) = 1048577
 read_limit (Run asked files) = 1048577
 read_limit (Refine files) = 1048577
 read_limit (Project folder files) = 1048577
 read_limit (Load branches seed) = 1048577
 read_limit (Fit roles files) = 1048577
+read_limit (Show files) = 1048577
 read_limit (Exec asked files) = 16777217
 read_limit (Verify files) = 16777217
 

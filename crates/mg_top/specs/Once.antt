@@ -2,26 +2,26 @@
 use Rattle.std.specs.Prelude.{◌≡◌, ◌≢◌, ◌⊎◌, ℕ, List, [], ◌∷◌}
 use Rattle.mg_words.specs.Words.{Word, Command}
 use Rattle.mg_refusal.specs.Refusals.{Refusal}
-use Rattle.mg_refusal.specs.Refusals as refusals
-use Rattle.mg_delivery.specs.Lines.{refusal_line}
+use Rattle.mg_faults.specs.Faults.{AreAllAlike}
+use Rattle.mg_delivery.specs.Lines.{refusal_lines}
 use Rattle.mg_delivery.specs.declared.status.Status.{Status}
 use Rattle.mg_delivery.specs.declared.status.Status.TheVariants as statuses
 use Rattle.mg_delivery.specs.declared.delivery.Action.{Action}
 use Rattle.mg_delivery.specs.declared.delivery.Action.TheVariants.{Say}
 use Rattle.mg_top.specs.Commands.{Yields}
 
--- two lines that say Syntax of one file, at places that are left open
-pub record SaySyntax (line other : List ℕ) : Type 0 where
+-- two texts of lines of refusals that are alike, one by one: but for the places of Syntax, which are left open
+pub record SaySyntax (text other : List ℕ) : Type 0 where
   pub names : List Word
-  pub r : Refusal
-  pub q : Refusal
-  pub syntax : refusals.SaySyntax r q
-  pub says : line ≡ refusal_line names r
-  pub also : other ≡ refusal_line names q
+  pub rs : List Refusal
+  pub qs : List Refusal
+  pub alike : AreAllAlike rs qs
+  pub says : text ≡ refusal_lines names rs
+  pub also : other ≡ refusal_lines names qs
 
--- the same actions, but for the place of Syntax in a line that is said
+-- the same actions, but for the places of Syntax in what is said
 abbrev pub SameActions : List Action → List Action → Type 0
-SameActions a b = (a ≡ b) ⊎ ((line other : List ℕ) × (a ≡ Say line ∷ []) × (b ≡ Say other ∷ []) × SaySyntax line other)
+SameActions a b = (a ≡ b) ⊎ ((text other : List ℕ) × (a ≡ Say text ∷ []) × (b ≡ Say other ∷ []) × SaySyntax text other)
 
 -- Of the same contents a command gives one status, and the same actions.
 pub record OneYield (a b : List Action) (m n : Status) : Type 0 where

@@ -13,6 +13,7 @@ mod load;
 mod project;
 mod refine;
 mod run;
+mod show;
 mod top;
 mod translate;
 mod verify;

@@ -19,6 +19,7 @@ use crate::load::load;
 use crate::project::project;
 use crate::refine::refine;
 use crate::run::run;
+use crate::show::show;
 use crate::translate::{Target, translate};
 use crate::verify::verify;
 use mg_delivery::{Delivery, Status, Unread, deliver, lines, read_all, starve};
@@ -45,7 +46,8 @@ const CLASS_LIMIT: usize = 16_777_217;
 /// roles, into the folder D where one is named.
 /// `refine A B` tells whether the typestate of the first file stands for that of the second: `yes`
 /// and how many pairs of their places calls lead to; or `no`, the calls to where it fails, and why.
-/// `check F..` tells what the least tables of the files' program have, where some tables solve it.
+/// `check [--all] F..` tells what the least tables of the files' program have, where some tables solve it; else the
+/// first that is wrong, or all of it where `--all` stands first.
 /// `compile [--out D] F..` writes the class files of the files' program, into the folder D where one
 /// is named.
 /// `run [--steps N] [--order A,B,..] [--trace] [--out D] (--main C | --role R=C ..) F..` makes the same
@@ -64,6 +66,8 @@ const CLASS_LIMIT: usize = 16_777_217;
 /// `fit --role R=C .. G F..` tells whether the roles, each run from the `main` of its class, fit the
 /// global protocol in the file G: `fits`, where it is proved that in no run of them one gets stuck on
 /// the others, or the first fault.
+/// `show F..` tells for each call of a protocol method in the files' program what its variable may be there, and where
+/// the call leads.
 /// `load N SEED` makes the files of a workload of two roles that answer each other, over a choice of
 /// N branches, from 1 to 400, in 4 * N rounds that the number SEED picks, and runs them as `run` does,
 /// up to 20,000,000 instructions. Behind what was printed stands how many rounds and messages there
@@ -125,7 +129,8 @@ fn read_limit(command: &Command<'_>) -> usize
         | Command::Refine { .. }
         | Command::Project { .. }
         | Command::Load { .. }
-        | Command::Fit { .. } => SOURCE_LIMIT,
+        | Command::Fit { .. }
+        | Command::Show { .. } => SOURCE_LIMIT,
         Command::Exec { .. } | Command::Verify { .. } => CLASS_LIMIT,
     }
 }
@@ -205,7 +210,7 @@ fn carried_out(alloc: Global, command: &Command<'_>, contents: &[Bytes]) -> Resu
         Command::Conform { .. } => {
             conform(alloc, contents[0].as_slice(), contents[1].as_slice())
         }
-        Command::Check { files } => check(alloc, files, contents),
+        Command::Check { all, files } => check(alloc, all, files, contents),
         Command::Compile { folder, files } => compile(alloc, folder, files, contents),
         Command::Run { asked, files } => run(alloc, &asked, files, contents),
         Command::Exec { asked, .. } => exec(alloc, &asked, contents),
@@ -214,5 +219,6 @@ fn carried_out(alloc: Global, command: &Command<'_>, contents: &[Bytes]) -> Resu
         Command::Load { branches, seed } => load(alloc, branches, seed),
         Command::Verify { .. } => verify(alloc, contents),
         Command::Fit { cast, files } => fit(alloc, &cast, files, contents),
+        Command::Show { files } => show(alloc, files, contents),
     }
 }

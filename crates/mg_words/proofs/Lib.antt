@@ -1,5 +1,6 @@
 pub mod Verbs
 pub mod WordsLemmas
+pub mod CheckLemmas
 pub mod TranslateLemmas
 pub mod RefineLemmas
 pub mod ProjectLemmas

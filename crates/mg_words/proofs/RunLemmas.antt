@@ -10,14 +10,15 @@ use Rattle.mg_words.specs.declared.runs.Input.TheVariants as input
 use Rattle.mg_words.specs.declared.options.Named.{Named}
 use Rattle.mg_words.specs.declared.options.Named.TheVariants as named
 use Rattle.mg_words.specs.Words.{Word, RoleClass, Roles, Alone, Several, role_names, Command, Translate, Conform, Check, Compile, Run, Exec}
-use Rattle.mg_words.specs.Words.{Refine, Project, Load, Verify, Fit, Asked, RunOption, Main, Role, Order, Steps, Trace, Out, option_words}
+use Rattle.mg_words.specs.Words.{Refine, Project, Load, Verify, Fit, Show, Asked, RunOption, Main, Role, Order, Steps, Trace, Out, option_words}
 use Rattle.mg_words.specs.Words.{IsOption}
 use Rattle.mg_words.specs.Words.{AreOptions, IsCommand, AreCommand, CanBegin, AreWrong}
 use Rattle.mg_words.specs.inner.Judging.{IsFirstOther, has_name, AreGiven, word_of, kind_of, IsPlain, IsNewRole, Fits, IsNoValue}
 use Rattle.mg_words.specs.inner.Judging.{can_follow, are_whole, roles_more, with_more, made, verb_of, IsFor, AreFor, Keeps, is_barred}
 use Rattle.mg_words.proofs.WordsLemmas.{head_is, tail_is, filled, nothing_behind, All-first, All-rest, All-push, All-mid, none_yet}
 use Rattle.mg_words.proofs.WordsLemmas.{some_for, for_named, some_class, classed, pushed_filled, IsRunBehind, is_run, run_is, first_wrong}
-use Rattle.mg_words.proofs.WordsLemmas.{same_conform, same_check, same_compile}
+use Rattle.mg_words.proofs.WordsLemmas.{same_conform, same_compile}
+use Rattle.mg_words.proofs.CheckLemmas.{same_check, same_show}
 use Rattle.mg_words.proofs.TranslateLemmas.{same_translate}
 use Rattle.mg_words.proofs.RefineLemmas.{same_refine}
 use Rattle.mg_words.proofs.ProjectLemmas.{same_project}
@@ -447,7 +448,8 @@ pub same_command : (words : List Word) (a b : Command) → IsCommand a words →
 same_command words (Translate package_name folder files) b (rest, e, behind) is =
     same_translate b package_name folder files rest behind (subst (IsCommand b) e is)
 same_command words (Conform files) b (rest, e, behind) is = same_conform b files rest behind (subst (IsCommand b) e is)
-same_command words (Check files) b (rest, e, behind) is = same_check b files rest behind (subst (IsCommand b) e is)
+same_command words (Check all files) b (rest, e, behind) is = same_check b all files rest behind (subst (IsCommand b) e is)
+same_command words (Show files) b (rest, e, behind) is = same_show b files rest behind (subst (IsCommand b) e is)
 same_command words (Compile folder files) b (rest, e, behind) is = same_compile b folder files rest behind (subst (IsCommand b) e is)
 same_command words (Run asked files) b (rest, e, (options, words_are, how, are)) is =
     same_run input.Sources b asked files rest (options, words_are, how, tt, are) (subst (IsCommand b) e is)

@@ -35,5 +35,8 @@ verify = codes "verify"
 abbrev pub fit : Word
 fit = codes "fit"
 
+abbrev pub show : Word
+show = codes "show"
+
 abbrev pub mark : Word → ℕ
 mark word = get_or word 0 0 * 256 + get_or word 2 0

@@ -1,4 +1,4 @@
--- Which words are a command, and which can't follow: of `conform`, `check` and `compile`, and what others need too.
+-- Which words are a command, and which can't follow: of `conform` and `compile`, and what others need too.
 use Rattle.std.proofs.Common.{◌≡◌, ℕ, ◌<◌, ◌≤◌, List, [], ◌∷◌, ◌++◌, All, length, get_or, take, drop, take-append-drop}
 use Rattle.std.proofs.Common.{drop-cons, ◌-◌, zero, suc, Option, Some, None, Bool, true, false, ◌&&◌, eqb, codes, refl, sym, ap, ◌∙◌, subst}
 use Rattle.std.proofs.Common.{arith, append_assoc, length-append, Bor}
@@ -9,11 +9,11 @@ use Rattle.std.specs.List.{ends_with, list_all}
 use Rattle.mg_read.specs.Passes.{AllPasses}
 use Rattle.scr_tree.specs.Words.{reserved, IsName}
 use Rattle.mg_sources.specs.Files.{EndsWith, Kind, Scribble, Typestates, Java, suffix_of, HaveKinds}
-use Rattle.mg_words.specs.Words.{Word, Command, Translate, Conform, Check, Compile, Run, Exec, Refine, Project, Load, Verify, Fit, Asked}
+use Rattle.mg_words.specs.Words.{Word, Command, Translate, Conform, Check, Compile, Run, Exec, Refine, Project, Load, Verify, Fit, Show, Asked}
 use Rattle.mg_words.specs.Words.{AreOptions}
 use Rattle.mg_words.specs.Words.{AreProtocolAndCalls, IsFileName, IsFileOf, IsSourceName, AreSourceNames, out_words, verb}
 use Rattle.mg_words.specs.Words.{IsBehind, IsCommand, AreCommand, CanBegin, AreWrong}
-use Rattle.mg_words.proofs.Verbs.{translate, conform, check, compile, run, exec, refine, project, load, verify, fit, mark}
+use Rattle.mg_words.proofs.Verbs.{translate, conform, check, compile, run, exec, refine, project, load, verify, fit, show, mark}
 use Rattle.mg_words.specs.declared.runs.Input.{Input}
 use Rattle.mg_words.specs.declared.runs.Input.TheVariants as input
 use Rattle.mg_words.specs.declared.words.Placed.TheVariants as placed
@@ -126,24 +126,8 @@ begins_protocol protocol h = let b = begins_calls protocol some_class h is_name 
 begins_conform : CanBegin AreCommand (conform ∷ [])
 begins_conform = let b = begins_protocol some_source named in (some_source ∷ b.0, b.1)
 
-begins_sources : (before : List Word) → All IsSourceName before → CanBegin AreCommand (check ∷ before)
-begins_sources before each = (
-  some_source ∷ [],
-  (
-    Check (before ++ some_source ∷ []),
-    (
-      before ++ some_source ∷ [],
-      refl,
-      (refl, (pushed_filled before some_source, All-push IsSourceName before some_source each source_named)),
-    ),
-  ),
-)
-
-begins_check : CanBegin AreCommand (check ∷ [])
-begins_check = begins_sources [] (none_yet _)
-
 pub begins_empty : CanBegin AreCommand []
-begins_empty = let b = begins_check in (check ∷ b.0, b.1)
+begins_empty = let b = begins_conform in (conform ∷ b.0, b.1)
 
 -- the same of compile
 begins_classes : (folder : Option Word) (before : List Word) → IfSome folder IsFileName → All IsSourceName before
@@ -184,11 +168,6 @@ pub is_conform : (command : Command) (rest : List Word) → IsCommand command (c
     → (files : List Word) × (command ≡ Conform files) × IsBehind (Conform files) rest
 is_conform (Conform files) rest (r, e, b) = (files, refl, subst (IsBehind (Conform files)) (sym (tail_is e)) b)
 is_conform other rest (r, e, b) = absurd (omega (arith, ap mark (head_is e)))
-
-pub is_check : (command : Command) (rest : List Word) → IsCommand command (check ∷ rest)
-    → (files : List Word) × (command ≡ Check files) × IsBehind (Check files) rest
-is_check (Check files) rest (r, e, b) = (files, refl, subst (IsBehind (Check files)) (sym (tail_is e)) b)
-is_check other rest (r, e, b) = absurd (omega (arith, ap mark (head_is e)))
 
 pub is_compile : (command : Command) (rest : List Word) → IsCommand command (compile ∷ rest)
     → (folder : Option Word) × (files : List Word) × (command ≡ Compile folder files) × IsBehind (Compile folder files) rest
@@ -263,10 +242,6 @@ conform_is_none command is = let (files, same, (e, h)) = is_conform command [] i
 protocol_is_none : (protocol : Word) (command : Command) → IsCommand command (conform ∷ protocol ∷ []) → ⊥
 protocol_is_none protocol command is = let (files, same, (e, h)) = is_conform command (protocol ∷ []) is in filled (tail_is (e ∙ h.two))
 
--- what stands behind "check" are sources
-check_files : (command : Command) (rest : List Word) → IsCommand command (check ∷ rest) → AreSourceNames rest
-check_files command rest is = let (files, same, (e, each)) = is_check command rest is in subst AreSourceNames (sym e) each
-
 -- what stands behind the options of "compile" are sources
 compile_files : (command : Command) (folder : Option Word) (rest : List Word) → (folder ≡ None → (r : List Word) → rest ≡ out ∷ r → ⊥)
     → IsCommand command (compile ∷ (out_words folder ++ rest)) → AreSourceNames rest
@@ -303,9 +278,6 @@ few_protocol rest protocol more is h e =
     subst (λ (z : List Word). AreWrong (conform ∷ z) None) (sym is) (few (conform ∷ protocol ∷ []) more e (begins_protocol protocol h)
     (protocol_is_none protocol))
 
-pub few_check : (rest : List Word) → length rest ≡ 0 → AreWrong (check ∷ rest) None
-few_check rest e = few (check ∷ []) rest e begins_check (λ command is. (check_files command [] is).0 refl)
-
 no_sources : (command : Command) (folder : Option Word) → IsCommand command (compile ∷ (out_words folder ++ [])) → ⊥
 no_sources command folder is = (compile_files command folder [] (λ n r. filled) is).0 refl
 
@@ -333,13 +305,13 @@ wrong_at before rest word more e can cannot = subst (λ (ws : List Word). AreWro
 
 pub wrong_command : (word : Word) (rest : List Word) → (word ≡ fit → ⊥) → (word ≡ translate → ⊥) → (word ≡ conform → ⊥)
     → (word ≡ check → ⊥) → (word ≡ compile → ⊥) → (word ≡ run → ⊥) → (word ≡ exec → ⊥) → (word ≡ refine → ⊥)
-    → (word ≡ project → ⊥) → (word ≡ load → ⊥) → (word ≡ verify → ⊥) → AreWrong (word ∷ rest) (Some word)
-wrong_command word rest no_fit no_translate no_conform no_check no_compile no_run no_exec no_refine no_project no_load no_verify =
+    → (word ≡ project → ⊥) → (word ≡ load → ⊥) → (word ≡ verify → ⊥) → (word ≡ show → ⊥) → AreWrong (word ∷ rest) (Some word)
+wrong_command word rest no_fit no_translate no_conform no_check no_compile no_run no_exec no_refine no_project no_load no_verify no_show =
     first_wrong [] word rest begins_empty (λ b. cannot b.1.0 (head_is b.1.1.1)) where
       cannot : (command : Command) → word ≡ verb command → ⊥
       cannot (Translate package_name folder files) = no_translate
       cannot (Conform files) = no_conform
-      cannot (Check files) = no_check
+      cannot (Check all files) = no_check
       cannot (Compile folder files) = no_compile
       cannot (Run asked files) = no_run
       cannot (Exec asked files) = no_exec
@@ -348,6 +320,7 @@ wrong_command word rest no_fit no_translate no_conform no_check no_compile no_ru
       cannot (Load branches seed) = no_load
       cannot (Verify files) = no_verify
       cannot (Fit roles files) = no_fit
+      cannot (Show files) = no_show
 
 pub wrong_protocol : (rest : List Word) (word : Word) (more : List Word) → rest ≡ word ∷ more → (IsFileOf (codes ".scr") word → ⊥)
     → AreWrong (conform ∷ rest) (Some word)
@@ -388,20 +361,6 @@ still_plain option [] word after more plain r e = plain after (ap (λ (w : Word)
 still_plain option (b ∷ bs) word after more plain r e =
     plain (bs ++ word ∷ after) (ap (λ (w : Word). w ∷ (bs ++ word ∷ after)) (head_is e))
 
-pub wrong_source : (files : List Word) (word : Word) → IsFirstOther IsSourceName files (Some word) → AreWrong (check ∷ files) (Some word)
-wrong_source files word (before, after, is, each, isnt) = record {
-  before = check ∷ before;
-  after = after;
-  stands = ap (λ (z : List Word). check ∷ z) is;
-  begins = begins_sources before each;
-  wrong = λ b. isnt (found b);
-} where
-  found : CanBegin AreCommand ((check ∷ before) ++ word ∷ []) → IsSourceName word
-  found (more, (command, k)) =
-      let split : ((check ∷ before) ++ word ∷ []) ++ more ≡ check ∷ (before ++ word ∷ more) =
-      append_assoc (check ∷ before) (word ∷ []) more in
-      All-mid IsSourceName before word more (check_files command (before ++ word ∷ more) (subst (IsCommand command) split k)).1
-
 pub wrong_class_folder : (rest : List Word) (word : Word) (more : List Word) → rest ≡ word ∷ more → (IsFileName word → ⊥)
     → AreWrong (compile ∷ out ∷ rest) (Some word)
 wrong_class_folder rest word more e isnt = wrong_at (compile ∷ out ∷ []) rest word more e begins_class_out
@@ -436,8 +395,11 @@ pub kinds_of_classes : (words : List Word) (folder : Option Word) (files : List 
     → HaveKinds files
 kinds_of_classes words folder files (r, e, (behind, name, are)) = have_kinds files are
 
-pub kinds_of : (words files : List Word) → IsCommand (Check files) words → HaveKinds files
-kinds_of words files (r, e, (behind, are)) = have_kinds files are
+pub kinds_of : (words : List Word) (all : Bool) (files : List Word) → IsCommand (Check all files) words → HaveKinds files
+kinds_of words all files (r, e, (behind, are)) = have_kinds files are
+
+pub kinds_of_show : (words files : List Word) → IsCommand (Show files) words → HaveKinds files
+kinds_of_show words files (r, e, (behind, are)) = have_kinds files are
 
 pub kinds_of_run : (words : List Word) (asked : Asked) (files : List Word) → IsCommand (Run asked files) words → HaveKinds files
 kinds_of_run words asked files (r, e, (options, behind, how, are)) = have_kinds files are
@@ -469,10 +431,6 @@ same_compile command folder files rest (e, name, each) is =
 pub same_conform : (command : Command) (files rest : List Word) → IsBehind (Conform files) rest → IsCommand command (conform ∷ rest)
     → Conform files ≡ command
 same_conform command files rest (e, two) is = let (g, same, (e', two')) = is_conform command rest is in ap Conform (sym e ∙ e') ∙ sym same
-
-pub same_check : (command : Command) (files rest : List Word) → IsBehind (Check files) rest → IsCommand command (check ∷ rest)
-    → Check files ≡ command
-same_check command files rest (e, each) is = let (g, same, (e', each')) = is_check command rest is in ap Check (sym e ∙ e') ∙ sym same
 
 -- ---- the end of a file's name
 

@@ -66,8 +66,8 @@ pub data Command : Type 0 where
   Translate : (package_name folder : Option Word) → (files : List Word) → Command
   -- tell whether the calls of the second file follow the protocol of the first
   Conform : (files : List Word) → Command
-  -- tell what the least tables of these files' program have
-  Check : (files : List Word) → Command
+  -- tell what the least tables of these files' program have; or else what is wrong with the files, at first or all of it
+  Check : (all : Bool) → (files : List Word) → Command
   -- write the class files of these files' program, into a folder where one is named
   Compile : (folder : Option Word) → (files : List Word) → Command
   -- run the `main`s of classes of these files' program
@@ -84,12 +84,14 @@ pub data Command : Type 0 where
   Verify : (files : List Word) → Command
   -- tell whether the program of these files but the first, run by these roles, fits the global protocol of the first
   Fit : (roles : List RoleClass) → (files : List Word) → Command
+  -- tell what each variable of these files' program may be where a protocol method is called on it, and where the call leads
+  Show : (files : List Word) → Command
 
 -- the files that a command reads, in their order
 abbrev pub files_of : Command → List Word
 files_of (Translate package_name folder files) = files
 files_of (Conform files) = files
-files_of (Check files) = files
+files_of (Check all files) = files
 files_of (Compile folder files) = files
 files_of (Run asked files) = files
 files_of (Exec asked files) = files
@@ -98,6 +100,7 @@ files_of (Project folder files) = files
 files_of (Load branches seed) = []
 files_of (Verify files) = files
 files_of (Fit roles files) = files
+files_of (Show files) = files
 
 -- no name of a file or folder is empty or begins with "-"
 abbrev pub IsFileName : Word → Type 0
@@ -160,6 +163,11 @@ pub record IsWorkload (branches seed : ℕ) : Type 0 where
 abbrev pub out_words : Option Word → List Word
 out_words None = []
 out_words (Some folder) = codes "--out" ∷ folder ∷ []
+
+-- the option by which all that is wrong is told
+abbrev pub all_words : Bool → List Word
+all_words false = []
+all_words true = codes "--all" ∷ []
 
 -- The options of a translation: the package of its Java files, and the folder for all of them.
 pub data TargetOption : Type 0 where
@@ -284,7 +292,7 @@ pub record AreOptions (asked : Asked) (words : List Word) : Type 0 where
 abbrev pub verb : Command → Word
 verb (Translate package_name folder files) = codes "translate"
 verb (Conform files) = codes "conform"
-verb (Check files) = codes "check"
+verb (Check all files) = codes "check"
 verb (Compile folder files) = codes "compile"
 verb (Run asked files) = codes "run"
 verb (Exec asked files) = codes "exec"
@@ -293,6 +301,7 @@ verb (Project folder files) = codes "project"
 verb (Load branches seed) = codes "load"
 verb (Verify files) = codes "verify"
 verb (Fit roles files) = codes "fit"
+verb (Show files) = codes "show"
 
 -- the words behind the first: options and then files, or numbers
 abbrev pub IsBehind : Command → List Word → Type 0
@@ -300,12 +309,13 @@ IsBehind (Translate package_name folder files) rest =
     (options : List TargetOption) × (rest ≡ flat_map target_words options ++ files) × AreTargets package_name folder options
     × AreFilesOf (codes ".scr") files
 IsBehind (Conform files) rest = (rest ≡ files) × AreProtocolAndCalls files
-IsBehind (Check files) rest = (rest ≡ files) × AreSourceNames files
+IsBehind (Check all files) rest = (rest ≡ all_words all ++ files) × AreSourceNames files
 IsBehind (Compile folder files) rest = (rest ≡ out_words folder ++ files) × IfSome folder IsFileName × AreSourceNames files
 IsBehind (Refine files) rest = (rest ≡ files) × AreTwoTypestates files
 IsBehind (Project folder files) rest = (rest ≡ out_words folder ++ files) × IfSome folder IsFileName × IsOneProtocol files
 IsBehind (Load branches seed) rest = (rest ≡ decimal branches ∷ decimal seed ∷ []) × IsWorkload branches seed
 IsBehind (Verify files) rest = (rest ≡ files) × AreFilesOf (codes ".class") files
+IsBehind (Show files) rest = (rest ≡ files) × AreSourceNames files
 IsBehind (Fit roles files) rest = (rest ≡ flat_map role_words roles ++ files) × AreCast roles × AreGlobalAndSources files
 IsBehind (Run asked files) rest = (options : List Word) × (rest ≡ options ++ files) × AreOptions asked options × AreSourceNames files
 IsBehind (Exec asked files) rest =

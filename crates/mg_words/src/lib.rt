@@ -2,6 +2,7 @@
 #![tactic(auto)]
 
 mod asked;
+mod checks;
 mod fits;
 mod names;
 mod numbers;

@@ -6,6 +6,7 @@ ghost use Rattle.mg_words.specs.Words.{files_of};
 ghost use Rattle.mg_words.specs.inner.Judging.{IsJudged, IsPlaced, command_of};
 
 use crate::asked::{Asked, Cast};
+use crate::checks::{judge_check, judge_show};
 use crate::fits::judge_fit;
 use crate::names::{is_file, is_file_name, is_word, other_file, other_source};
 use crate::numbers::{number_of, number_up_to};
@@ -31,8 +32,9 @@ pub enum Command<'a> {
     Conform {
         files: &'a [Text],
     },
-    /// `check`, and the files.
+    /// `check`, whether all that is wrong is told, and the files.
     Check {
+        all: bool,
         files: &'a [Text],
     },
     /// `compile`, a folder where `--out` names one, and the files.
@@ -74,6 +76,10 @@ pub enum Command<'a> {
         cast: Cast<'a>,
         files: &'a [Text],
     },
+    /// `show`, and the files.
+    Show {
+        files: &'a [Text],
+    },
 }
 
 impl<'a> Command<'a> {
@@ -84,7 +90,7 @@ impl<'a> Command<'a> {
         match *self {
             Command::Translate { files, .. } => files,
             Command::Conform { files } => files,
-            Command::Check { files } => files,
+            Command::Check { files, .. } => files,
             Command::Compile { files, .. } => files,
             Command::Run { files, .. } => files,
             Command::Exec { files, .. } => files,
@@ -93,6 +99,7 @@ impl<'a> Command<'a> {
             Command::Load { .. } => &[],
             Command::Verify { files } => files,
             Command::Fit { files, .. } => files,
+            Command::Show { files } => files,
         }
     }
 }
@@ -149,6 +156,8 @@ fn judge_other<'a>(command: &'a Text, rest: &'a [Text]) -> Judged<'a>
         judge_load(rest)
     } else if is_word(command, "verify") {
         judge_verify(rest)
+    } else if is_word(command, "show") {
+        judge_show(rest)
     } else {
         Judged::Wrong(Some(command))
     }
@@ -254,19 +263,6 @@ fn judge_project(words: &[Text]) -> Judged<'_>
             }
         },
     }
-}
-
-// The same of the words behind `check`, which are its files.
-fn judge_check(files: &[Text]) -> Judged<'_>
-    ensures { IsJudged (codes "check" ∷ files.now) result }
-{
-    if let Some(word) = other_source(files) {
-        return Judged::Wrong(Some(word));
-    }
-    if files.is_empty() {
-        return Judged::Wrong(None);
-    }
-    Judged::Known(Command::Check { files })
 }
 
 // The same of the words behind `verify`, which are its class files.

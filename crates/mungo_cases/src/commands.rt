@@ -36,10 +36,12 @@ use std::alloc::Global;
 use std::rt::Files;
 
 /// The files of cases of commands, in the order in which they are answered.
-const FILES: [&str; 17] = [
+const FILES: [&str; 19] = [
     "translate.txt",
     "conform.txt",
     "check.txt",
+    "all.txt",
+    "show.txt",
     "refused.txt",
     "compile.txt",
     "limits.txt",

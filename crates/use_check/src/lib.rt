@@ -9,6 +9,7 @@ mod contexts;
 mod lines;
 mod reports;
 
+pub use lines::put_set;
 pub use reports::report;
 pub use use_verdict::{Accepted, CheckFault, check};
 

@@ -84,8 +84,11 @@ fn put_members(
     Ok(())
 }
 
-// Appends what a set has, or `-` for a set without members.
-fn put_set(out: &mut String, typestate: Option<&Typestate>, set: &StateSet) -> Result<(), Memory>
+/// Appends what a set has, each element with a blank before it, or `-` for a set without members.
+///
+/// # Errors
+/// `Memory` only.
+pub fn put_set(out: &mut String, typestate: Option<&Typestate>, set: &StateSet) -> Result<(), Memory>
     ensures { OnOk result (string_bytes out.new ≡ string_bytes out.old
         ++ set_text (typestate_or_end (option_map (λ t. t.now) typestate.entry)) (members set.now)) }
 {

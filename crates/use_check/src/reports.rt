@@ -12,7 +12,7 @@ use crate::lines::{Reporter, put_state};
 use jv_core::{Core, CoreClass};
 use mg_text::{Memory, Text};
 use std::alloc::Global;
-use use_flow::{FieldTable, contexts, number, typestate_of};
+use use_flow::{FieldTable, number, typestate_of};
 use use_verdict::Accepted;
 
 impl<'a> Reporter<'a> {
@@ -105,9 +105,8 @@ pub fn report(alloc: Global, core: &Core, accepted: &Accepted) -> Result<Text, M
         core,
         tables: &accepted.tables,
     };
-    let all = contexts(alloc, core)?;
     let mut out = String::new(alloc);
     reporter.put_classes(alloc, &mut out)?;
-    reporter.put_contexts(alloc, &mut out, all.as_slice())?;
+    reporter.put_contexts(alloc, &mut out, accepted.tables.contexts())?;
     Ok(Text::from_string(out))
 }

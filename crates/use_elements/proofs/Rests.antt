@@ -50,43 +50,43 @@ pub image_end : (to : ℕ → List ℕ) (i : ℕ) (s found total : Set) → leng
     found ≡ total
 image_end to i s found total h e = sym (at_drop_all (λ r. marked (leads_from to i r) found) s i h) ∙ e
 
-module _ (rule : ℕ → Option DemandKind) (q : Place) (x : Name) (c : ℕ) where
-  next_judged : (b : Bool) (i : ℕ) (s : Set) → judged_from rule q x c i (b ∷ s) ≡ cond b (blamed q x c i (rule i)) [] ++ judged_from rule q
-      x c (suc i) s
+module _ (rule : ℕ → Option DemandKind) (q : Place) (y : ℕ) (x : Name) (c : ℕ) where
+  next_judged : (b : Bool) (i : ℕ) (s : Set) → judged_from rule q y x c i (b ∷ s) ≡ cond b (blamed q y x c i (rule i)) [] ++ judged_from rule q
+      y x c (suc i) s
   next_judged false i s = refl
   next_judged true i s = go (rule i) refl
     where
-      go : (k : Option DemandKind) → rule i ≡ k → judged_from rule q x c i (true ∷ s) ≡ blamed q x c i (rule i) ++ judged_from rule q x c
+      go : (k : Option DemandKind) → rule i ≡ k → judged_from rule q y x c i (true ∷ s) ≡ blamed q y x c i (rule i) ++ judged_from rule q y x c
           (suc i) s
       go None e = rw e refl
       go (Some k) e = rw e refl
 
   judged_one : (i : ℕ) (s : Set) → i < length s →
-      judged_from rule q x c i (drop i s) ≡ cond (has s i) (blamed q x c i (rule i)) [] ++ judged_from rule q x c (i + 1) (drop (i + 1) s)
+      judged_from rule q y x c i (drop i s) ≡ cond (has s i) (blamed q y x c i (rule i)) [] ++ judged_from rule q y x c (i + 1) (drop (i + 1) s)
   judged_one i s h =
-      at_drop_more (judged_from rule q x c i) s i false h
+      at_drop_more (judged_from rule q y x c i) s i false h
       ∙ next_judged (has s i) i (drop (i + 1) s)
-      ∙ ap (λ n. cond (has s i) (blamed q x c i (rule i)) [] ++ judged_from rule q x c n (drop (i + 1) s)) (sym (add-one i))
+      ∙ ap (λ n. cond (has s i) (blamed q y x c i (rule i)) [] ++ judged_from rule q y x c n (drop (i + 1) s)) (sym (add-one i))
 
-pub judged_skip : (rule : ℕ → Option DemandKind) (q : Place) (x : Name) (c i : ℕ) (s : Set) (ds total : List Demand) → i < length s →
+pub judged_skip : (rule : ℕ → Option DemandKind) (q : Place) (y : ℕ) (x : Name) (c i : ℕ) (s : Set) (ds total : List Demand) → i < length s →
     has s i ≡ false →
-    ds ++ judged_from rule q x c i (drop i s) ≡ total → ds ++ judged_from rule q x c (i + 1) (drop (i + 1) s) ≡ total
-judged_skip rule q x c i s ds total h b e =
-    ap (λ r. ds ++ r) (sym (judged_one rule q x c i s h ∙ ap (λ v. cond v (blamed q x c i (rule i)) [] ++ judged_from rule q x c (i + 1)
+    ds ++ judged_from rule q y x c i (drop i s) ≡ total → ds ++ judged_from rule q y x c (i + 1) (drop (i + 1) s) ≡ total
+judged_skip rule q y x c i s ds total h b e =
+    ap (λ r. ds ++ r) (sym (judged_one rule q y x c i s h ∙ ap (λ v. cond v (blamed q y x c i (rule i)) [] ++ judged_from rule q y x c (i + 1)
     (drop (i + 1) s)) b)) ∙ e
 
-pub judged_take : (rule : ℕ → Option DemandKind) (q : Place) (x : Name) (c i : ℕ) (s : Set) (ds ds' total : List Demand)
+pub judged_take : (rule : ℕ → Option DemandKind) (q : Place) (y : ℕ) (x : Name) (c i : ℕ) (s : Set) (ds ds' total : List Demand)
     (k : Option DemandKind) →
-    i < length s → has s i ≡ true → k ≡ rule i → ds' ≡ ds ++ blamed q x c i k →
-    ds ++ judged_from rule q x c i (drop i s) ≡ total → ds' ++ judged_from rule q x c (i + 1) (drop (i + 1) s) ≡ total
-judged_take rule q x c i s ds ds' total k h b r d e =
-    ap (λ l. l ++ judged_from rule q x c (i + 1) (drop (i + 1) s)) (d ∙ ap (λ v. ds ++ blamed q x c i v) r)
-    ∙ append_assoc ds (blamed q x c i (rule i)) (judged_from rule q x c (i + 1) (drop (i + 1) s))
-    ∙ ap (λ l. ds ++ l) (sym (judged_one rule q x c i s h ∙ ap (λ v. cond v (blamed q x c i (rule i)) [] ++ judged_from rule q x c (i + 1)
+    i < length s → has s i ≡ true → k ≡ rule i → ds' ≡ ds ++ blamed q y x c i k →
+    ds ++ judged_from rule q y x c i (drop i s) ≡ total → ds' ++ judged_from rule q y x c (i + 1) (drop (i + 1) s) ≡ total
+judged_take rule q y x c i s ds ds' total k h b r d e =
+    ap (λ l. l ++ judged_from rule q y x c (i + 1) (drop (i + 1) s)) (d ∙ ap (λ v. ds ++ blamed q y x c i v) r)
+    ∙ append_assoc ds (blamed q y x c i (rule i)) (judged_from rule q y x c (i + 1) (drop (i + 1) s))
+    ∙ ap (λ l. ds ++ l) (sym (judged_one rule q y x c i s h ∙ ap (λ v. cond v (blamed q y x c i (rule i)) [] ++ judged_from rule q y x c (i + 1)
     (drop (i + 1) s)) b)) ∙ e
 
-pub judged_end : (rule : ℕ → Option DemandKind) (q : Place) (x : Name) (c i : ℕ) (s : Set) (ds total : List Demand) → length s ≤ i →
-    ds ++ judged_from rule q x c i (drop i s) ≡ total → ds ≡ total
-judged_end rule q x c i s ds total h e = sym (ap (λ r. ds ++ r) (at_drop_all (judged_from rule q x c i) s i h) ∙ append_nil ds) ∙ e
+pub judged_end : (rule : ℕ → Option DemandKind) (q : Place) (y : ℕ) (x : Name) (c i : ℕ) (s : Set) (ds total : List Demand) → length s ≤ i →
+    ds ++ judged_from rule q y x c i (drop i s) ≡ total → ds ≡ total
+judged_end rule q y x c i s ds total h e = sym (ap (λ r. ds ++ r) (at_drop_all (judged_from rule q y x c i) s i h) ∙ append_nil ds) ∙ e
 
 pub ruleset rests = (image_skip, image_take, image_end, judged_skip, judged_take, judged_end)

@@ -44,6 +44,6 @@ title_in names titles.Value = codes "value"
 title_in names titles.Unnamed = []
 
 -- the demand that an element fails, where it fails one
-abbrev pub blamed : Place → Name → (class element : ℕ) → Option DemandKind → List Demand
-blamed q x c e None = []
-blamed q x c e (Some k) = record { kind = k; place = q; slot = x; class = c; element = element_at e } ∷ []
+abbrev pub blamed : Place → (variable : ℕ) → Name → (class element : ℕ) → Option DemandKind → List Demand
+blamed q y x c e None = []
+blamed q y x c e (Some k) = record { kind = k; place = q; variable = y; slot = x; class = c; element = element_at e } ∷ []

@@ -192,10 +192,12 @@ pub enum Title {
     Unnamed,
 }
 
-/// What a demand is about, where that stands, and the class of its objects.
+/// What a demand is about, where that stands, its number among the variables of the method, and the class of its
+/// objects.
 #[derive(Clone, Copy)]
 pub struct Subject {
     pub place: Place,
+    pub variable: usize,
     pub title: Title,
     pub class: u32,
 }
@@ -230,8 +232,8 @@ pub fn blame(
     place: usize,
     kind: Option<DemandKind>,
 ) -> Result<(), Memory>
-    ensures { OnOk result (failed.new.items ≡ failed.old.items ++ blamed subject.place (title_in names.now subject.title) subject.class
-        place kind) }
+    ensures { OnOk result (failed.new.items ≡ failed.old.items ++ blamed subject.place subject.variable
+        (title_in names.now subject.title) subject.class place kind) }
 {
     if let Some(kind) = kind {
         let element = element_at(place)?;
@@ -239,6 +241,7 @@ pub fn blame(
         failed.push(Demand {
             kind,
             place: subject.place,
+            variable: subject.variable,
             slot,
             class: subject.class,
             element,
@@ -263,7 +266,7 @@ pub fn judge(
 ) -> Result<(), Memory>
     ensures { OnOk result (failed.new.items ≡ failed.old.items
         ++ judged (rule_of rule (typestate_or_end (option_map (λ t. t.now) typestate.entry)))
-        subject.place (title_in names.now subject.title) subject.class set.now) }
+        subject.place subject.variable (title_in names.now subject.title) subject.class set.now) }
 {
     for element in 0..set.width() {
         if set.has(element) {

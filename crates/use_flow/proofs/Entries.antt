@@ -17,7 +17,6 @@ use Rattle.use_rules.specs.declared.key.Context.{Context}
 use Rattle.use_rules.specs.declared.key.Context.TheVariants as contexts
 use Rattle.use_rules.specs.Keys.{AreReached, contexts_of, contexts_from, in_states, offering_states}
 use Rattle.use_rules.specs.Keys.{AreProper}
-use Rattle.use_flow.specs.inner.Entering.{entered_from}
 use Rattle.use_elements.proofs.Rests.{append_nil}
 
 -- the states of the first typestates
@@ -86,58 +85,6 @@ all_proper p ts reached i r e h = record {
 }
 
 pub ruleset reached = (reached_none, reached_more, reached_all)
-
--- State by state.
-module _ (c n : ℕ) (t : Typestate) (name : Name) where
-  next_member : (b : Bool) (k : ℕ) (s : List Bool) → b ≡ false → entered_from c n t name k (b ∷ s) ≡ entered_from c n t name (suc k) s
-  next_member true k s e = let no : ⊥ = cc in absurd no
-  next_member false k s e = refl
-
-  next_refused : (k : ℕ) (s : List Bool) → is_some (offered t k name) ≡ false → entered_from c n t name k (true ∷ s) ≡ entered_from c n t
-      name (suc k) s
-  next_refused k s e = ap (λ b. in_states c n (cond b (k ∷ offering_states t (members_from (suc k) s) name)
-      (offering_states t (members_from (suc k) s) name))) e
-
-  next_offered : (k : ℕ) (s : List Bool) → is_some (offered t k name) ≡ true → entered_from c n t name k (true ∷ s) ≡ contexts.Protocol c k
-      n ∷ entered_from c n t name (suc k) s
-  next_offered k s e = ap (λ b. in_states c n (cond b (k ∷ offering_states t (members_from (suc k) s) name)
-      (offering_states t (members_from (suc k) s) name))) e
-
-  here : (k : ℕ) (s : List Bool) → k < length s → entered_from c n t name k (drop k s) ≡ entered_from c n t name k
-      (has s k ∷ drop (k + 1) s)
-  here k s lt = at_drop_more (entered_from c n t name k) s k false lt
-
-pub state_absent : (c n : ℕ) (t : Typestate) (name : Name) (k : ℕ) (s : List Bool) (cs total : List Context) → k < length s →
-    has s k ≡ false →
-    cs ++ entered_from c n t name k (drop k s) ≡ total → cs ++ entered_from c n t name (k + 1) (drop (k + 1) s) ≡ total
-state_absent c n t name k s cs total lt b h =
-    ap (λ m. cs ++ entered_from c n t name m (drop (k + 1) s)) (add-one k)
-    ∙ ap (λ x. cs ++ x) (sym (here c n t name k s lt ∙ next_member c n t name (has s k) k (drop (k + 1) s) b)) ∙ h
-
-pub state_refused : (c n : ℕ) (t : Typestate) (name : Name) (k : ℕ) (s : List Bool) (cs total : List Context) → k < length s →
-    has s k ≡ true → is_some (offered t k name) ≡ false →
-    cs ++ entered_from c n t name k (drop k s) ≡ total → cs ++ entered_from c n t name (k + 1) (drop (k + 1) s) ≡ total
-state_refused c n t name k s cs total lt b o h =
-    ap (λ m. cs ++ entered_from c n t name m (drop (k + 1) s)) (add-one k)
-    ∙ ap (λ x. cs ++ x) (sym (here c n t name k s lt ∙ ap (λ v. entered_from c n t name k (v ∷ drop (k + 1) s)) b ∙ next_refused c n t name
-    k (drop (k + 1) s) o)) ∙ h
-
-pub state_entered : (c n : ℕ) (t : Typestate) (name : Name) (k : ℕ) (s : List Bool) (cs cs' total : List Context) → k < length s →
-    has s k ≡ true → is_some (offered t k name) ≡ true →
-    cs' ≡ cs ++ contexts.Protocol c k n ∷ [] →
-    cs ++ entered_from c n t name k (drop k s) ≡ total → cs' ++ entered_from c n t name (k + 1) (drop (k + 1) s) ≡ total
-state_entered c n t name k s cs cs' total lt b o e h =
-    ap (λ m. cs' ++ entered_from c n t name m (drop (k + 1) s)) (add-one k)
-    ∙ ap (λ x. x ++ entered_from c n t name (suc k) (drop (k + 1) s)) e
-    ∙ append_assoc cs (contexts.Protocol c k n ∷ []) (entered_from c n t name (suc k) (drop (k + 1) s))
-    ∙ ap (λ x. cs ++ x) (sym (here c n t name k s lt ∙ ap (λ v. entered_from c n t name k (v ∷ drop (k + 1) s)) b ∙ next_offered c n t name
-    k (drop (k + 1) s) o)) ∙ h
-
-pub states_end : (c n : ℕ) (t : Typestate) (name : Name) (k : ℕ) (s : List Bool) (cs total : List Context) → length s ≤ k →
-    cs ++ entered_from c n t name k (drop k s) ≡ total → cs ≡ total
-states_end c n t name k s cs total le h = sym (ap (λ x. cs ++ x) (at_drop_all (entered_from c n t name k) s k le) ∙ append_nil cs) ∙ h
-
-pub ruleset states = (state_absent, state_refused, state_entered, states_end)
 
 -- Method by method.
 

@@ -45,7 +45,7 @@ group_follows s out scope rest nows g body labels before entry start log j n c e
 pub record Following (s : Followed) (scope : List ℕ) (rest : Now) (nows : List Now) (total : Flow) (before : Jumps) (more : Groups)
     (now : Now) (c : Course) : Type 0 where
   pub jumped : List Jump
-  pub is : total ≡ both_flows (flow None jumped (record { outs = []; failed = [] }))
+  pub is : total ≡ both_flows (flow None jumped (record { outs = []; failed = []; sights = [] }))
       (follow s (reverse scope) rest nows more now (log_of c.log))
   pub scope-is : c.scope.items ≡ scope
   pub held-is : (to : Leads) → held c.jumps to ≡ joined (held before to) (caught to jumped)
@@ -93,7 +93,7 @@ module _ (s : Followed) (scope : List ℕ) (rest : Now) (nows : List Now) (total
   following_end le r =
       let none : left_groups i ≡ NoGroup = at_drop_all (λ (ys : List CoreGroup). groups_of (map group_of ys)) xs i le in
       let e : total ≡ flow now r.jumped (log_of c.log) =
-      r.is ∙ ap (λ y. both_flows (flow None r.jumped (record { outs = []; failed = [] }))
+      r.is ∙ ap (λ y. both_flows (flow None r.jumped (record { outs = []; failed = []; sights = [] }))
       (follow s (reverse scope) rest nows y now (log_of c.log))) none
       ∙ ap (λ js. flow now js (log_of c.log)) (append_nil r.jumped) in
       follows_as (flow now r.jumped (log_of c.log)) total scope start now c (sym e)

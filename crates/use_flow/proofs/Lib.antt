@@ -6,6 +6,8 @@ pub mod Seeking
 pub mod Turns
 pub mod Taken
 pub mod Entries
+pub mod Offering
+pub mod Placing
 pub mod Reached
 pub mod Heading
 pub mod Leaving
@@ -16,6 +18,7 @@ pub mod Arms
 pub mod Simply
 pub mod Jumping
 pub mod Coursing
+pub mod Called
 pub mod Choosing
 pub mod Stepping
 pub mod Forms

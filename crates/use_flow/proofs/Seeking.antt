@@ -1,14 +1,13 @@
 -- What a turn of a loop over methods, branches and elements does.
 use Rattle.std.proofs.Common.{◌≡◌, ◌≢◌, ℕ, zero, suc, ◌+◌, ◌-◌, ◌<◌, ◌≤◌, true, false, List, [], ◌∷◌, ◌++◌, length, get_or, drop, map}
 use Rattle.std.proofs.Common.{Option, Some, None, refl, sym, ap, ◌∙◌, arith, append_assoc}
-use Rattle.std.specs.Prelude.{slice_set, is_some, option_map}
+use Rattle.std.specs.Prelude.{slice_set}
 use Rattle.std.proofs.lemmas.List.{at_drop_more, at_drop_all}
 use Rattle.mg_text.specs.Call.{Name}
 use Rattle.mg_sets.specs.Sets.{has}
 use Rattle.ts_tree.specs.declared.parts.Branch.{Branch}
 use Rattle.ts_tree.specs.declared.parts.To.{To}
-use Rattle.ts_tree.specs.Typestate.{Method, Target, Typestate}
-use Rattle.ts_tree.specs.Calls.{offered}
+use Rattle.ts_tree.specs.Typestate.{Target, Typestate}
 use Rattle.ts_tree.proofs.Searches.{by_label-drop, by_label-past, offered_in-drop, offered_in-past}
 use Rattle.use_rules.specs.Elements.{Set, marked, element_of, along, leads_by, target_at, unless_called, unless_offered, states_in}
 use Rattle.use_rules.specs.Elements.{offering_from}
@@ -104,20 +103,3 @@ pub offering_end : (t : Typestate) (m : Name) (e : ℕ) (s : Set) (qs total : Li
 offering_end t m e s qs total h r = sym (ap (λ x. qs ++ x) (at_drop_all (offering_from t m (e - 3)) s e h) ∙ append_nil qs) ∙ r
 
 pub ruleset offers = (offering_start, offering_skip, offering_none, offering_some, offering_end)
-
-some_target : (o : Option Method) → is_some (elim o as (λ _. Option Target) [ None ↦ None | Some k ↦ Some k.target ]) ≡ is_some o
-some_target None = refl
-some_target (Some k) = refl
-
--- a state offers a method where its calls have a target
-pub target-offered : (t : Typestate) (m : Name) (q : ℕ) → is_some (target_at t m q) ≡ is_some (offered t q m)
-target-offered t m q = some_target (offered t q m)
-
-same_some : {X Y : Type 0} (f : X → Y) (o : Option X) → is_some (option_map f o) ≡ is_some o
-same_some f None = refl
-same_some f (Some x) = refl
-
-pub some-image : {X Y : Type 0} (f : X → Y) (o : Option X) → is_some o ≡ is_some (option_map f o)
-some-image f o = sym (same_some f o)
-
-pub ruleset offered_tests = (target-offered, some-image)

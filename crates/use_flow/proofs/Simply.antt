@@ -13,21 +13,23 @@ use Rattle.use_rules.specs.declared.demand.DemandKind.TheVariants as demands
 use Rattle.use_elements.specs.declared.elements.Rule.TheVariants as judging
 use Rattle.use_rules.specs.Elements.{Set, if_open}
 use Rattle.use_rules.specs.Keys.{typestate_of}
-use Rattle.use_rules.specs.State.{Now, Out, Log, Jump, joined, judged}
+use Rattle.use_rules.specs.State.{Now, Out, Sight, Log, Jump, joined, judged}
 use Rattle.use_rules.specs.Flow.{Evaluated, flow, placed}
 use Rattle.use_flow.specs.inner.Ending.{answer_of, left}
 use Rattle.use_flow.specs.inner.Followed.{Followed, eval, width_of, variable_at, variable_width, class_or_none, judged_variable, left_open}
-use Rattle.use_flow.specs.inner.Followed.{without}
+use Rattle.use_flow.specs.inner.Followed.{without, behind_variables}
 use Rattle.use_flow.specs.inner.Simple.{exit, slot_width, placed_flow, declared, local, overwritten, assigned, printed_flow, printed}
 use Rattle.use_flow.specs.inner.Simple.{type_dropped, dropped_flow, dropped, returned_flow, returned}
 use Rattle.use_flow.specs.inner.Values.{yes_of, no_of, evaluated_of}
 
-module _ (s : Followed) (q : Place) (ks : List ℕ) (js : List Jump) (sets sets' : List Set) (os : List Out) (ds ds' : List Demand) where
+module _ (s : Followed) (q : Place) (ks : List ℕ) (js : List Jump) (sets sets' : List Set) (os : List Out) (ds ds' : List Demand)
+    (ss : List Sight) where
   pub slots_left : ds' ≡ ds ++ left_open s q ks sets → sets' ≡ without s ks sets →
-      flow (Some sets') js (record { outs = os; failed = ds' }) ≡ exit s q ks (flow (Some sets) js (record { outs = os; failed = ds }))
+      flow (Some sets') js (record { outs = os; failed = ds'; sights = ss }) ≡ exit s q ks
+      (flow (Some sets) js (record { outs = os; failed = ds; sights = ss }))
   slots_left ed es =
-      ap (λ (x : List Set). flow (Some x) js (record { outs = os; failed = ds' })) es
-      ∙ ap (λ (x : List Demand). flow (Some (without s ks sets)) js (record { outs = os; failed = x })) ed
+      ap (λ (x : List Set). flow (Some x) js (record { outs = os; failed = ds'; sights = ss })) es
+      ∙ ap (λ (x : List Demand). flow (Some (without s ks sets)) js (record { outs = os; failed = x; sights = ss })) ed
 
 pub ruleset exits = (slots_left)
 
@@ -51,11 +53,12 @@ module _ (s : Followed) (log : Log) (e : Expr) (la : Log) (n : Now) where
 
     pub assigned_some : (now now' : List Set) (ds' : List Demand) → Some now ≡ n → ds' ≡ la.failed ++ judged_variable s judging.Overwritten
         x.place x.var now →
-        now' ≡ slice_set now (variable_at s x.var) v.set → flow (Some now') [] (record { outs = la.outs; failed = ds' }) ≡ assigned s x e
-        sets log
+        now' ≡ slice_set now (variable_at s x.var) v.set →
+        flow (Some now') [] (record { outs = la.outs; failed = ds'; sights = la.sights }) ≡ assigned s x e sets log
     assigned_some now now' ds' em ed es =
-        ap (λ (y : List Set). flow (Some y) [] (record { outs = la.outs; failed = ds' })) es
-        ∙ ap (λ (y : List Demand). flow (Some (slice_set now (variable_at s x.var) v.set)) [] (record { outs = la.outs; failed = y })) ed
+        ap (λ (y : List Set). flow (Some y) [] (record { outs = la.outs; failed = ds'; sights = la.sights })) es
+        ∙ ap (λ (y : List Demand). flow (Some (slice_set now (variable_at s x.var) v.set)) []
+        (record { outs = la.outs; failed = y; sights = la.sights })) ed
         ∙ ended (Some now) em
 
   pub printed_is : (sets : List Set) (v : Value) → evaluated_of v la ≡ eval s 0 e (Some sets) log →
@@ -63,22 +66,23 @@ module _ (s : Followed) (log : Log) (e : Expr) (la : Log) (n : Now) where
       flow n [] la ≡ printed s e sets log
   printed_is sets v ev en = ap (λ (y : Now). flow y [] la) en ∙ ap printed_flow ev
 
-  dropped_is : (q : Place) (c : ℕ) (ts : Typestate) (sets : List Set) (v : Value) (ds' : List Demand) → ts ≡ typestate_of s.program c →
-      evaluated_of v la ≡ eval s 0 e (Some sets) log →
-      n ≡ joined (yes_of v.ways) (no_of v.ways) → ds' ≡ la.failed ++ judged (if_open demands.LeftOpen ts) q (codes "value") c v.set →
-      flow n [] (record { outs = la.outs; failed = ds' }) ≡ dropped_flow s q c (eval s 0 e (Some sets) log)
-  dropped_is q c ts sets v ds' et ev en ed =
-      ap (λ (y : Now). flow y [] (record { outs = la.outs; failed = ds' })) en
-      ∙ ap (λ (y : List Demand). flow (joined (yes_of v.ways) (no_of v.ways)) [] (record { outs = la.outs; failed = y }))
-      (ed ∙ ap (λ (ts : Typestate). la.failed ++ judged (if_open demands.LeftOpen ts) q (codes "value") c v.set) et)
+  dropped_is : (q : Place) (c y : ℕ) (ts : Typestate) (sets : List Set) (v : Value) (ds' : List Demand) → y ≡ behind_variables s →
+      ts ≡ typestate_of s.program c → evaluated_of v la ≡ eval s 0 e (Some sets) log →
+      n ≡ joined (yes_of v.ways) (no_of v.ways) → ds' ≡ la.failed ++ judged (if_open demands.LeftOpen ts) q y (codes "value") c v.set →
+      flow n [] (record { outs = la.outs; failed = ds'; sights = la.sights }) ≡ dropped_flow s q c (eval s 0 e (Some sets) log)
+  dropped_is q c y ts sets v ds' ey et ev en ed =
+      ap (λ (y : Now). flow y [] (record { outs = la.outs; failed = ds'; sights = la.sights })) en
+      ∙ ap (λ (y : List Demand). flow (joined (yes_of v.ways) (no_of v.ways)) [] (record { outs = la.outs; failed = y; sights = la.sights }))
+      (ed ∙ ap (λ (ts : Typestate). la.failed ++ judged (if_open demands.LeftOpen ts) q y (codes "value") c v.set) et
+      ∙ ap (λ z. la.failed ++ judged (if_open demands.LeftOpen (typestate_of s.program c)) q z (codes "value") c v.set) ey)
       ∙ ap (dropped_flow s q c) ev
 
-  pub dropped_as : (q : Place) (o : Option CoreType) (c : ℕ) (ts : Typestate) (sets : List Set) (v : Value) (ds' : List Demand)
-      → o ≡ type_dropped s e → c ≡ class_or_none s o → ts ≡ typestate_of s.program c → evaluated_of v la ≡ eval s 0 e (Some sets) log →
-      n ≡ joined (yes_of v.ways) (no_of v.ways) → ds' ≡ la.failed ++ judged (if_open demands.LeftOpen ts) q (codes "value") c v.set →
-      flow n [] (record { outs = la.outs; failed = ds' }) ≡ dropped s q e sets log
-  dropped_as q o c ts sets v ds' eo ec et ev en ed =
-      dropped_is q c ts sets v ds' et ev en ed
+  pub dropped_as : (q : Place) (o : Option CoreType) (c y : ℕ) (ts : Typestate) (sets : List Set) (v : Value) (ds' : List Demand)
+      → o ≡ type_dropped s e → c ≡ class_or_none s o → y ≡ behind_variables s → ts ≡ typestate_of s.program c → evaluated_of v la ≡ eval s 0 e (Some sets) log →
+      n ≡ joined (yes_of v.ways) (no_of v.ways) → ds' ≡ la.failed ++ judged (if_open demands.LeftOpen ts) q y (codes "value") c v.set →
+      flow n [] (record { outs = la.outs; failed = ds'; sights = la.sights }) ≡ dropped s q e sets log
+  dropped_as q o c y ts sets v ds' eo ec ey et ev en ed =
+      dropped_is q c y ts sets v ds' ey et ev en ed
       ∙ ap (λ (d : ℕ). dropped_flow s q d (eval s 0 e (Some sets) log)) (ec ∙ ap (class_or_none s) eo)
 
   pub returned_is : (q : Place) (sc : List ℕ) (sets : List Set) (v : Value) (label : Option Name) (lb : Log) →

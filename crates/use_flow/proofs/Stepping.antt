@@ -293,7 +293,7 @@ turned_by scope (Some d) = sym (reverse-append scope (d.slot ∷ []))
 pub record Running (s : Followed) (out : List ℕ) (total : Flow) (scope : List ℕ) (before : Jumps) (rest : Stmts) (now : Now)
     (c : Course) : Type 0 where
   pub jumped : List Jump
-  pub is : total ≡ both_flows (flow None jumped (record { outs = []; failed = [] }))
+  pub is : total ≡ both_flows (flow None jumped (record { outs = []; failed = []; sights = [] }))
       (steps s (reverse c.scope.items) out rest now (log_of c.log))
   pub scope-is : c.scope.items ++ declared_here rest ≡ scope
   pub held-is : (to : Leads) → held c.jumps to ≡ joined (held before to) (caught to jumped)
@@ -340,7 +340,7 @@ module _ (s : Followed) (out : List ℕ) (total : Flow) (scope : List ℕ) (star
     running_end le r =
         let none : rest i ≡ NoStmt = at_drop_all (λ (ys : List CoreStmt). stmts_of (map stmt_of ys)) xs i le in
         let e : total ≡ flow now r.jumped (log_of c.log) =
-        r.is ∙ ap (λ y. both_flows (flow None r.jumped (record { outs = []; failed = [] }))
+        r.is ∙ ap (λ y. both_flows (flow None r.jumped (record { outs = []; failed = []; sights = [] }))
         (steps s (reverse c.scope.items) out y now (log_of c.log))) none
         ∙ ap (λ js. flow now js (log_of c.log)) (append_nil r.jumped) in
         follows_as (flow now r.jumped (log_of c.log)) total scope start now c (sym e)

@@ -1,33 +1,28 @@
 //! Where calls of a method lead from the elements of a set, and which demands they fail.
-//! A method is named by its text, as typestates name it.
+//! A method is told by its class and its name.
 
-ghost use Rattle.std.specs.Prelude.{◌≡◌, ◌++◌, map, option_map, is_some, slice_set, true, IfOk, OnOk};
-ghost use Rattle.ts_tree.specs.Calls.{offered, offered_in, by_label};
-ghost use Rattle.ts_tree.specs.View.{method_of, target_of};
-ghost use Rattle.use_rules.specs.Elements.{begin, image, along, element_of, marked, target_at, unless_called, offering};
+ghost use Rattle.std.specs.Prelude.{◌≡◌, ◌++◌, map, option_map, slice_set, true, IfOk, OnOk};
+ghost use Rattle.ts_tree.specs.Calls.{by_label};
+ghost use Rattle.ts_tree.specs.View.{target_of};
+ghost use Rattle.jv_core.specs.Lookup.{text_at};
+ghost use Rattle.use_rules.specs.Elements.{begin, image, along, element_of, marked, targets, unless_called, offering};
+ghost use Rattle.use_rules.specs.Keys.{typestate_of};
+ghost use Rattle.use_rules.specs.Shapes.{elements_in};
 ghost use Rattle.use_rules.specs.State.{judged};
+ghost use Rattle.use_flow.specs.View.{AreFor};
 ghost use Rattle.use_flow.specs.inner.Calling.{which_of};
+ghost use Rattle.use_flow.specs.inner.Followed.{seen};
 ghost use Rattle.use_elements.specs.Mappings.{typestate_or_end, title_in};
 
-use crate::{Demand, DemandKind};
+use crate::scene::{Scene, elements_in};
+use crate::targets::MethodKey;
+use crate::{Context, Demand, DemandKind, Tables};
+use jv_core::{Core, CoreMethod};
 use mg_sets::StateSet;
 use mg_text::{List, Memory, Names};
 use std::alloc::Global;
-use ts_tree::{Branch, Method, Target, To, Typestate};
+use ts_tree::{Branch, Target, To, Typestate};
 use use_elements::{Subject, blame, empty_set, mark};
-
-// The method of a name among those of a state.
-#[tactic(auto, using(crate::proofs::Seeking::seeking))]
-fn offered_in<'t>(methods: &'t [Method], name: &str) -> Option<&'t Method>
-    ensures { option_map (λ m. method_of m.now) result ≡ offered_in (map method_of methods.now) name.now }
-{
-    for method in methods {
-        if method.name.as_str() == name {
-            return Some(method);
-        }
-    }
-    None
-}
 
 // Where the label leads.
 #[tactic(auto, using(crate::proofs::Seeking::seeking))]
@@ -40,29 +35,6 @@ pub(crate) fn by_label(branches: &[Branch], label: &str) -> Option<To>
         }
     }
     None
-}
-
-// Where a method leads that the state offers.
-#[tactic(auto, using(crate::proofs::Scenes::scenes))]
-pub(crate) fn target_at<'t>(
-    typestate: Option<&'t Typestate>,
-    method: &str,
-    state: usize,
-) -> Option<&'t Target>
-    ensures { option_map (λ t. target_of t.now) result ≡ target_at (typestate_or_end (option_map (λ t. t.now) typestate.entry)) method.now
-        state }
-{
-    let state = typestate?.states.as_slice().get(state)?;
-    let offered = offered_in(state.methods.as_slice(), method)?;
-    Some(&offered.target)
-}
-
-// Whether a state offers a method.
-#[tactic(auto, using(crate::proofs::Seeking::offered_tests))]
-pub(crate) fn offers(typestate: Option<&Typestate>, method: &str, state: usize) -> bool
-    ensures { result ≡ is_some (offered (typestate_or_end (option_map (λ t. t.now) typestate.entry)) state method.now) }
-{
-    target_at(typestate, method, state).is_some()
 }
 
 // Makes the element of a place a member.
@@ -103,93 +75,6 @@ fn mark_target(found: &mut StateSet, target: &Target, label: Option<&str>)
     }
 }
 
-// Makes the elements to which a call leads from an element members.
-#[tactic(auto, using(crate::proofs::Seeking::alongs))]
-fn mark_led(
-    found: &mut StateSet,
-    typestate: Option<&Typestate>,
-    method: &str,
-    label: Option<&str>,
-    element: usize,
-)
-    ensures { found.new ≡ marked (along (which_of (option_map (λ l. l.now) label.entry))
-        (typestate_or_end (option_map (λ t. t.now) typestate.entry)) method.now element) found.old }
-{
-    if element < 3 {
-        return;
-    }
-    if let Some(target) = target_at(typestate, method, element - 3) {
-        mark_target(found, target, label);
-    }
-}
-
-// Where the elements of a set lead by a call, as a set of this width.
-#[tactic(auto, using(use_elements::proofs::Rests::rests))]
-pub(crate) fn image_along(
-    alloc: Global,
-    width: usize,
-    typestate: Option<&Typestate>,
-    method: &str,
-    label: Option<&str>,
-    set: &StateSet,
-) -> Result<StateSet, Memory>
-    ensures { IfOk result (λ s. s ≡ image width
-        (along (which_of (option_map (λ l. l.now) label.entry)) (typestate_or_end (option_map (λ t. t.now) typestate.entry)) method.now)
-        set.now) }
-{
-    let mut found = empty_set(alloc, width)?;
-    for element in 0..set.width() {
-        if set.has(element) {
-            mark_led(&mut found, typestate, method, label, element);
-        }
-    }
-    Ok(found)
-}
-
-// Which demand an element fails on which a method is called.
-#[tactic(auto, using(crate::proofs::Seeking::alongs))]
-fn called_asked(typestate: Option<&Typestate>, method: &str, element: usize) -> Option<DemandKind>
-    ensures { result ≡ unless_called (typestate_or_end (option_map (λ t. t.now) typestate.entry)) method.now element }
-{
-    if element == 0 {
-        return Some(DemandKind::MaybeNull);
-    }
-    if element == 1 {
-        return Some(DemandKind::UseMoved);
-    }
-    if element == 2 {
-        return Some(DemandKind::NotOffered);
-    }
-    match target_at(typestate, method, element - 3) {
-        Some(_) => None,
-        None => Some(DemandKind::NotOffered),
-    }
-}
-
-// Appends the demands that a set fails on which a method is called.
-#[tactic(auto, using(use_elements::proofs::Rests::rests))]
-pub(crate) fn judge_call(
-    alloc: Global,
-    names: &Names,
-    failed: &mut List<Demand>,
-    subject: Subject,
-    typestate: Option<&Typestate>,
-    method: &str,
-    set: &StateSet,
-) -> Result<(), Memory>
-    ensures { OnOk result (failed.new.items ≡ failed.old.items
-        ++ judged (unless_called (typestate_or_end (option_map (λ t. t.now) typestate.entry)) method.now) subject.place
-        (title_in names.now subject.title) subject.class set.now) }
-{
-    for element in 0..set.width() {
-        if set.has(element) {
-            let kind = called_asked(typestate, method, element);
-            blame(alloc, names, failed, subject, element, kind)?;
-        }
-    }
-    Ok(())
-}
-
 // Where an object begins.
 pub(crate) fn begin_of(typestate: Option<&Typestate>) -> usize
     ensures { result ≡ begin (typestate_or_end (option_map (λ t. t.now) typestate.entry)) }
@@ -203,24 +88,145 @@ pub(crate) fn begin_of(typestate: Option<&Typestate>) -> usize
     }
 }
 
-// The states of a set that offer a method.
-#[tactic(auto, using(crate::proofs::Seeking::offers))]
-pub(crate) fn offering(
-    alloc: Global,
-    typestate: Option<&Typestate>,
-    method: &str,
-    set: &StateSet,
-) -> Result<Vec<usize>, Memory>
-    ensures { IfOk result (λ v. v.items ≡ offering (typestate_or_end (option_map (λ t. t.now) typestate.entry)) method.now set.now) }
-{
-    let mut states = Vec::new(alloc);
-    for element in 3..set.width() {
-        if !set.has(element) {
-            continue;
+impl<'a> Scene<'a> {
+    // Makes the elements to which a call leads from an element members.
+    #[tactic(auto, using(crate::proofs::Seeking::alongs))]
+    fn mark_led(
+        &self,
+        found: &mut StateSet,
+        call: MethodKey,
+        label: Option<&str>,
+        element: usize,
+    )
+        ensures { found.new ≡ marked (along (which_of (option_map (λ l. l.now) label.entry))
+            (typestate_of (seen self.now).program call.class) (text_at (seen self.now).program call.name.0) element)
+            found.old }
+    {
+        if element < 3 {
+            return;
         }
-        if target_at(typestate, method, element - 3).is_some() {
-            states.push(element - 3)?;
+        if let Some(target) = self.target_of(call, element - 3) {
+            mark_target(found, target, label);
         }
     }
-    Ok(states)
+
+    // Where the elements of a set lead by a call, as a set of this width.
+    #[tactic(auto, using(use_elements::proofs::Rests::rests))]
+    pub(crate) fn image_along(
+        &self,
+        alloc: Global,
+        width: usize,
+        call: MethodKey,
+        label: Option<&str>,
+        set: &StateSet,
+    ) -> Result<StateSet, Memory>
+        ensures { IfOk result (λ s. s ≡ image width (along (which_of (option_map (λ l. l.now) label.entry))
+            (typestate_of (seen self.now).program call.class) (text_at (seen self.now).program call.name.0)) set.now) }
+    {
+        let mut found = empty_set(alloc, width)?;
+        for element in 0..set.width() {
+            if set.has(element) {
+                self.mark_led(&mut found, call, label, element);
+            }
+        }
+        Ok(found)
+    }
+
+    // Which demand an element fails on which a method is called.
+    #[tactic(auto, using(crate::proofs::Seeking::alongs))]
+    fn called_asked(&self, call: MethodKey, element: usize) -> Option<DemandKind>
+        ensures { result ≡ unless_called (typestate_of (seen self.now).program call.class)
+            (text_at (seen self.now).program call.name.0) element }
+    {
+        if element == 0 {
+            return Some(DemandKind::MaybeNull);
+        }
+        if element == 1 {
+            return Some(DemandKind::UseMoved);
+        }
+        if element == 2 {
+            return Some(DemandKind::NotOffered);
+        }
+        match self.target_of(call, element - 3) {
+            Some(_) => None,
+            None => Some(DemandKind::NotOffered),
+        }
+    }
+
+    // Appends the demands that a set fails on which a method is called.
+    #[tactic(auto, using(use_elements::proofs::Rests::rests))]
+    pub(crate) fn judge_call(
+        &self,
+        alloc: Global,
+        names: &Names,
+        failed: &mut List<Demand>,
+        subject: Subject,
+        call: MethodKey,
+        set: &StateSet,
+    ) -> Result<(), Memory>
+        ensures { OnOk result (failed.new.items ≡ failed.old.items
+            ++ judged (unless_called (typestate_of (seen self.now).program call.class) (text_at (seen self.now).program call.name.0))
+            subject.place subject.variable (title_in names.now subject.title) subject.class set.now) }
+    {
+        for element in 0..set.width() {
+            if set.has(element) {
+                let kind = self.called_asked(call, element);
+                blame(alloc, names, failed, subject, element, kind)?;
+            }
+        }
+        Ok(())
+    }
+
+    // The states of a set that offer a method.
+    #[tactic(auto, using(crate::proofs::Seeking::offers))]
+    pub(crate) fn offering(
+        &self,
+        alloc: Global,
+        call: MethodKey,
+        set: &StateSet,
+    ) -> Result<Vec<usize>, Memory>
+        ensures { IfOk result (λ v. v.items ≡ offering (typestate_of (seen self.now).program call.class)
+            (text_at (seen self.now).program call.name.0) set.now) }
+    {
+        let mut states = Vec::new(alloc);
+        for element in 3..set.width() {
+            if !set.has(element) {
+                continue;
+            }
+            if self.target_of(call, element - 3).is_some() {
+                states.push(element - 3)?;
+            }
+        }
+        Ok(states)
+    }
+}
+
+/// Where the elements of a set lead by a call of the method of this number, whatever is answered.
+///
+/// # Errors
+/// `Memory` only.
+pub fn led(
+    alloc: Global,
+    core: &Core,
+    tables: &Tables,
+    number: u32,
+    method: &CoreMethod,
+    set: &StateSet,
+) -> Result<StateSet, Memory>
+    requires { AreFor core.now tables.now }
+    ensures { IfOk result (λ s. s ≡ image (elements_in core.now method.now.class) (along targets
+        (typestate_of core.now method.now.class) (text_at core.now method.now.name.0)) set.now) }
+{
+    let scene = Scene {
+        core,
+        tables,
+        context: Context::Plain { method: number },
+        method,
+    };
+    let call = MethodKey {
+        class: method.class,
+        name: method.name,
+        number,
+    };
+    scene.image_along(alloc, elements_in(core, method.class), call, None, set)
 }

@@ -1,24 +1,43 @@
 //! Calls, behind their arguments.
 //! What flows into the method that is called stands in the log, and its result comes from the tables.
 
-ghost use Rattle.std.specs.Prelude.{◌≡◌, Some, IfOk};
+ghost use Rattle.std.specs.Prelude.{◌≡◌, ◌++◌, ◌∷◌, [], Some, IfOk, OnOk};
 ghost use Rattle.jv_core.specs.View.{method_of};
-ghost use Rattle.jv_core.specs.Lookup.{text_at};
 ghost use Rattle.use_rules.specs.Elements.{targets};
 ghost use Rattle.use_flow.specs.View.{log_of};
 ghost use Rattle.use_flow.specs.inner.Followed.{seen};
+ghost use Rattle.use_flow.specs.inner.Calling.{sights_in};
 ghost use Rattle.use_flow.specs.inner.Values.{evaluated_of, protocol_call, static_call, helper_call};
 
 use crate::arguments::params_of;
-use crate::calling::{image_along, judge_call, offering};
 use crate::evaluated::{Arguments, Value, Ways};
 use crate::fields::{FieldTable, copy_at};
-use crate::scene::{Scene, typestate_of};
-use crate::{Context, Flow};
-use jv_core::{CoreMethod, CoreVar, name_text};
-use mg_text::Memory;
+use crate::scene::Scene;
+use crate::targets::MethodKey;
+use crate::{Context, Flow, Sight};
+use jv_core::{CoreMethod, CoreVar};
+use mg_sets::StateSet;
+use mg_text::{List, Memory};
 use std::alloc::Global;
 use use_elements::Sets;
+
+// Appends what a variable has where a method is called on it.
+fn see(
+    sights: &mut List<Sight>,
+    receiver: CoreVar,
+    method: u32,
+    set: StateSet,
+) -> Result<(), Memory>
+    ensures { OnOk result (sights_in sights.new.items ≡ sights_in sights.old.items
+        ++ record { place = receiver.place; variable = receiver.var; method = method; set = set } ∷ []) }
+{
+    sights.push(Sight {
+        place: receiver.place,
+        variable: receiver.var,
+        method,
+        set,
+    })
+}
 
 impl<'a> Scene<'a> {
     // A call of a static method.
@@ -85,38 +104,32 @@ impl<'a> Scene<'a> {
         })
     }
 
-    // A call of a protocol method of this name, from what the variable has.
-    pub(crate) fn named_call(
+    // A call of a protocol method, from what the variable has.
+    pub(crate) fn given_call(
         &self,
         alloc: Global,
         receiver: CoreVar,
         number: u32,
         method: &CoreMethod,
-        name: &str,
         args: &Sets,
         sets: Sets,
         log: &mut Flow,
     ) -> Result<Value, Memory>
-        requires { name.now ≡ text_at (seen self.now).program (method_of method.now).name }
         ensures { IfOk result (λ v. evaluated_of v (log_of log.new) ≡ protocol_call (seen self.now) targets receiver number
             (method_of method.now) args.now (Some sets) (log_of log.old)) }
     {
         let mut sets = sets;
-        let typestate = typestate_of(self.core, method.class);
         let at = self.variable_at(receiver.var);
         let set = copy_at(alloc, &sets, at)?;
         let subject = self.subject(receiver.place, receiver.var);
+        let call = MethodKey {
+            class: method.class,
+            name: method.name,
+            number,
+        };
         let names = self.core.names();
-        judge_call(
-            alloc,
-            names,
-            &mut log.failed,
-            subject,
-            typestate,
-            name,
-            &set,
-        )?;
-        let states = offering(alloc, typestate, name, &set)?;
+        self.judge_call(alloc, names, &mut log.failed, subject, call, &set)?;
+        let states = self.offering(alloc, call, &set)?;
         self.send_states(
             alloc,
             &mut log.outs,
@@ -127,8 +140,9 @@ impl<'a> Scene<'a> {
         )?;
         let result = self.results_of(alloc, number, method, states.as_slice())?;
         let width = self.variable_width(receiver.var);
-        let led = image_along(alloc, width, typestate, name, None, &set)?;
+        let led = self.image_along(alloc, width, call, None, &set)?;
         sets.put(at, led);
+        see(&mut log.sights, receiver, number, set)?;
         Ok(Value {
             set: result,
             ways: Ways::Alike(Some(sets)),
@@ -153,7 +167,6 @@ impl<'a> Scene<'a> {
         let Some(sets) = now else {
             return Value::plain(alloc, None);
         };
-        let name = name_text(self.core, method.name);
-        self.named_call(alloc, receiver, number, method, name, &given, sets, log)
+        self.given_call(alloc, receiver, number, method, &given, sets, log)
     }
 }

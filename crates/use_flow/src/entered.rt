@@ -10,13 +10,13 @@ ghost use Rattle.jv_core.specs.Lookup.{text_at};
 ghost use Rattle.use_rules.specs.Keys.{AreReached, contexts_in, contexts_of, in_states, offering_states, reached_states, typestate_of};
 ghost use Rattle.use_rules.specs.Keys.{AreProper};
 ghost use Rattle.use_flow.specs.View.{AreContexts};
-ghost use Rattle.use_flow.specs.inner.Entering.{set_or_none, entered_from};
-ghost use Rattle.use_elements.specs.Mappings.{typestate_or_end};
+ghost use Rattle.use_flow.specs.inner.Entering.{set_or_none, entered_in};
+ghost use Rattle.use_flow.specs.inner.Offering.{AreOffers, offers_at};
 
 use crate::Context;
-use crate::calling::offers;
 use crate::fields::number;
-use crate::scene::{class_at, typestate_of};
+use crate::offers::{Offer, Offers, all_offers};
+use crate::scene::class_at;
 use jv_core::{Core, CoreMethod, MethodKind, name_text};
 use mg_sets::StateSet;
 use mg_text::{List, Memory};
@@ -60,33 +60,71 @@ pub(crate) fn reached_in<'r>(
     reached.get(typestate as usize)
 }
 
-// Appends the contexts of a protocol method of this name in the states of a set.
-#[tactic(auto, using(crate::proofs::Entries::states))]
+// The contexts that were found, each with the place that its method has in its state.
+#[derive(Drop)]
+pub(crate) struct Entered {
+    pub contexts: List<Context>,
+    pub places: Vec<u32>,
+}
+
+impl Entered {
+    // None were found yet.
+    pub(crate) fn new(alloc: Global) -> Entered
+        ensures { result.contexts.items ≡ [] }
+    {
+        Entered {
+            contexts: List::new(alloc),
+            places: Vec::new(alloc),
+        }
+    }
+
+    // Appends a context.
+    fn add(&mut self, context: Context, place: u32) -> Result<(), Memory>
+        ensures { OnOk result (self.new.contexts.items ≡ self.old.contexts.items ++ context ∷ []) }
+    {
+        self.places.push(place)?;
+        self.contexts.push(context)
+    }
+}
+
+// Appends the contexts of a protocol method in those of the states that offer it that are in a set.
+#[tactic(auto, using(crate::proofs::Offering::entering))]
 fn add_states(
-    contexts: &mut List<Context>,
+    entered: &mut Entered,
     method_number: u32,
     class: u32,
-    typestate: Option<&Typestate>,
-    name: &str,
+    offers: &[Offer],
     set: &StateSet,
 ) -> Result<(), Memory>
-    ensures { OnOk result (contexts.new.items ≡ contexts.old.items ++ entered_from class method_number
-        (typestate_or_end (option_map (λ t. t.now) typestate.entry)) name.now 0 set.now) }
+    ensures { OnOk result (entered.new.contexts.items ≡ entered.old.contexts.items ++ entered_in class method_number set.now
+        (map (λ o. o.state) offers.now)) }
 {
-    for place in 0..set.width() {
-        if !set.has(place) {
+    for offer in offers {
+        let state = offer.state as usize;
+        if state >= set.width() {
             continue;
         }
-        if !offers(typestate, name, place) {
+        if !set.has(state) {
             continue;
         }
-        contexts.push(Context::Protocol {
+        let context = Context::Protocol {
             class,
-            state: number(place)?,
+            state: offer.state,
             method: method_number,
-        })?;
+        };
+        entered.add(context, offer.place)?;
     }
     Ok(())
+}
+
+// What the typestate of a class offers, if it has one.
+#[tactic(auto, using(crate::proofs::Scenes::scenes))]
+fn offers_in<'o>(core: &Core, offers: &'o [Offers], class: u32) -> Option<&'o Offers>
+    ensures { option_map (λ o. o.now) result ≡ offers_at core.now offers.now class }
+{
+    let class = class_at(core, class)?;
+    let typestate = class.typestate?;
+    offers.get(typestate as usize)
 }
 
 // Appends the contexts of a protocol method.
@@ -94,39 +132,48 @@ fn add_states(
 fn add_protocol(
     core: &Core,
     reached: &[StateSet],
-    contexts: &mut List<Context>,
+    offers: &[Offers],
+    entered: &mut Entered,
     method_number: u32,
     method: &CoreMethod,
 ) -> Result<(), Memory>
-    ensures { OnOk result (contexts.new.items ≡ contexts.old.items ++ in_states method.now.class method_number
+    requires { AreOffers core.now offers.now }
+    ensures { OnOk result (entered.new.contexts.items ≡ entered.old.contexts.items ++ in_states method.now.class method_number
         (offering_states (typestate_of core.now method.now.class) (reached_states core.now reached.now method.now.class)
         (text_at core.now method.now.name.0))) }
 {
     let Some(set) = reached_in(core, reached, method.class) else {
         return Ok(());
     };
-    let typestate = typestate_of(core, method.class);
+    let Some(offers) = offers_in(core, offers, method.class) else {
+        return Ok(());
+    };
     let name = name_text(core, method.name);
-    add_states(contexts, method_number, method.class, typestate, name, set)
+    add_states(entered, method_number, method.class, offers.of(name), set)
 }
 
 // Appends the contexts of a method.
 pub(crate) fn add_contexts(
     core: &Core,
     reached: &[StateSet],
-    contexts: &mut List<Context>,
+    offers: &[Offers],
+    entered: &mut Entered,
     method_number: u32,
     method: &CoreMethod,
 ) -> Result<(), Memory>
-    ensures { OnOk result (contexts.new.items ≡ contexts.old.items ++ contexts_of core.now reached.now method_number
+    requires { AreOffers core.now offers.now }
+    ensures { OnOk result (entered.new.contexts.items ≡ entered.old.contexts.items ++ contexts_of core.now reached.now method_number
         (method_of method.now)) }
 {
     match method.kind {
-        MethodKind::Protocol => add_protocol(core, reached, contexts, method_number, method),
+        MethodKind::Protocol => {
+            add_protocol(core, reached, offers, entered, method_number, method)
+        }
         MethodKind::Main | MethodKind::Static | MethodKind::Helper => {
-            contexts.push(Context::Plain {
+            let context = Context::Plain {
                 method: method_number,
-            })
+            };
+            entered.add(context, 0)
         }
     }
 }
@@ -137,16 +184,24 @@ pub(crate) fn contexts_by(
     alloc: Global,
     core: &Core,
     reached: &[StateSet],
-) -> Result<List<Context>, Memory>
-    ensures { IfOk result (λ l. l.items ≡ contexts_in core.now reached.now) }
+) -> Result<Entered, Memory>
+    ensures { IfOk result (λ l. l.contexts.items ≡ contexts_in core.now reached.now) }
 {
     let methods = core.methods();
-    let mut contexts = List::new(alloc);
+    let offers = all_offers(alloc, core)?;
+    let mut entered = Entered::new(alloc);
     for place in 0..methods.len() {
         let method_number = number(place)?;
-        add_contexts(core, reached, &mut contexts, method_number, &methods[place])?;
+        add_contexts(
+            core,
+            reached,
+            offers.as_slice(),
+            &mut entered,
+            method_number,
+            &methods[place],
+        )?;
     }
-    Ok(contexts)
+    Ok(entered)
 }
 
 /// All contexts of a program, methods in file and text order, and the states of a protocol method in
@@ -158,5 +213,8 @@ pub fn contexts(alloc: Global, core: &Core) -> Result<List<Context>, Memory>
     ensures { IfOk result (λ l. AreContexts core.now l.items) }
 {
     let reached = reached_sets(alloc, core)?;
-    contexts_by(alloc, core, reached.as_slice())
+    let entered = contexts_by(alloc, core, reached.as_slice())?;
+    let Entered { contexts, places } = entered;
+    drop(places);
+    Ok(contexts)
 }

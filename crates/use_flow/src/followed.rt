@@ -22,7 +22,8 @@ use mg_text::{List, Memory};
 use std::alloc::Global;
 use use_elements::empty_set;
 
-/// What flows out of a context, and which of its demands fail, in order, by what the tables hold.
+/// What flows out of a context, which of its demands fail, and what its calls are made on, each in order, by what
+/// the tables hold.
 /// Also where the answer is an error, one more context was followed.
 ///
 /// # Errors
@@ -53,13 +54,14 @@ pub fn flow(
     scene.whole(alloc)
 }
 
-// Nothing flows, and nothing fails.
+// Nothing flows, nothing fails, and no call is met.
 fn quiet(alloc: Global) -> Flow
     ensures { log_of result ≡ quiet }
 {
     Flow {
         outs: List::new(alloc),
         failed: List::new(alloc),
+        sights: List::new(alloc),
     }
 }
 
@@ -75,7 +77,7 @@ fn numbers(alloc: Global, count: u32) -> Result<Vec<u32>, Memory>
 }
 
 impl<'a> Scene<'a> {
-    // All that flows out of the context; at its end the method is left with no value.
+    // All that is met in the context; at its end the method is left with no value.
     #[tactic(auto, using(crate::proofs::Flowing::flowing))]
     fn whole(&self, alloc: Global) -> Result<Flow, Memory>
         ensures { IfOk result (λ f. log_of f ≡ whole (seen self.now)) }

@@ -1,23 +1,24 @@
 //! The tables of a program: a set of elements for each key.
 //! Keys and contexts have numbers, which are looked up by hashing; sets stand by their numbers.
 
-ghost use Rattle.std.specs.Prelude.{◌≡◌, ◌≢◌, ◌<◌, ◌≤◌, length, position, option_map, IfOk, OnOk};
+ghost use Rattle.std.specs.Prelude.{◌≡◌, ◌≢◌, ◌<◌, ◌≤◌, length, position, is_some, option_map, IfOk, OnOk};
 ghost use Rattle.std.specs.Bool.{OnFalse, OnTrue};
-ghost use Rattle.mg_sets.specs.Sets.{join, members, Grows};
+ghost use Rattle.mg_sets.specs.Sets.{has, join, members, Grows};
 ghost use Rattle.use_rules.specs.declared.key.TableKey.{TableKey};
 ghost use Rattle.ts_tree.specs.Calls.{initial};
 ghost use Rattle.use_rules.specs.Start.{start_in, start_of, starting};
-ghost use Rattle.use_rules.specs.Keys.{number_of, reached_states, typestate_of};
+ghost use Rattle.use_rules.specs.Fits.{reached_set};
+ghost use Rattle.use_rules.specs.Keys.{number_of, reached_states, same_context, typestate_of};
 ghost use Rattle.use_flow.specs.inner.Entering.{set_or_none};
 ghost use Rattle.use_flow.specs.inner.Holding.{AreApart, AreHeld, WithEntry};
 ghost use Rattle.use_flow.specs.Runs.{starts_of, starts_in};
 ghost use Rattle.use_flow.specs.View.{same_key, tables_of, contexts_of, reached_of, lacks, HasKey, AreFor, IsKept};
 
 use crate::classed::{Entry, entries_of};
-use crate::entered::{contexts_by, reached_in, reached_sets};
+use crate::entered::{Entered, contexts_by, reached_in, reached_sets};
 use crate::fields::number;
 use crate::runs::{Runs, runs_by};
-use crate::scene::{elements_in, typestate_of};
+use crate::scene::{class_at, elements_in, typestate_of};
 use crate::{Context, TableKey};
 use indexmap::IndexSet;
 use jv_core::Core;
@@ -34,6 +35,8 @@ pub struct Tables {
     // By typestates: the states that calls lead to.
     reached: Vec<StateSet>,
     contexts: IndexSet<Context>,
+    // By the numbers of the contexts: the place of the method in its state, where it is tried first.
+    places: Vec<u32>,
     keys: IndexSet<TableKey>,
     // By the numbers of the keys.
     sets: Vec<StateSet>,
@@ -45,6 +48,7 @@ impl Drop for Tables {
         let Tables {
             reached: _,
             contexts: _,
+            places: _,
             keys: _,
             sets: _,
         } = self;
@@ -138,6 +142,7 @@ fn filled(
     core: &Core,
     reached: Vec<StateSet>,
     contexts: IndexSet<Context>,
+    places: Vec<u32>,
     entries: &[Entry],
 ) -> Result<Tables, Memory>
     ensures reached { IfOk result (λ t. reached_of t ≡ reached.items) }
@@ -152,6 +157,7 @@ fn filled(
     Ok(Tables {
         reached,
         contexts,
+        places,
         keys,
         sets,
     })
@@ -169,9 +175,13 @@ impl Tables {
     {
         let reached = reached_sets(alloc, core)?;
         let contexts = contexts_by(alloc, core, reached.as_slice())?;
-        let entries = entries_of(alloc, core, contexts.as_slice())?;
-        let numbers = numbered(alloc, contexts.as_slice())?;
-        filled(alloc, core, reached, numbers, entries.as_slice())
+        let Entered {
+            contexts: all,
+            places,
+        } = contexts;
+        let entries = entries_of(alloc, core, all.as_slice())?;
+        let numbers = numbered(alloc, all.as_slice())?;
+        filled(alloc, core, reached, numbers, places, entries.as_slice())
     }
 
     /// How many sets there are.
@@ -197,6 +207,45 @@ impl Tables {
         match self.contexts.get_index_of(&context) {
             Some(index) => number(index),
             None => Ok(0),
+        }
+    }
+
+    /// The contexts, by their numbers.
+    pub fn contexts(&self) -> &[Context]
+        ensures { result.now ≡ contexts_of self.now }
+    {
+        self.contexts.as_slice()
+    }
+
+    // Whether calls lead to a state of a class.
+    #[tactic(auto, using(crate::proofs::Scenes::scenes))]
+    pub(crate) fn is_reached(&self, core: &Core, class: u32, state: usize) -> bool
+        ensures { result ≡ has (reached_set core.now (reached_of self.now) class) state }
+    {
+        let Some(class) = class_at(core, class) else {
+            return false;
+        };
+        let Some(typestate) = class.typestate else {
+            return false;
+        };
+        let Some(set) = self.reached.get(typestate as usize) else {
+            return false;
+        };
+        if state < set.width() {
+            return set.has(state);
+        }
+        false
+    }
+
+    // A place for the method of a context in its state, exactly where there is the context.
+    #[tactic(auto, using(crate::proofs::Keyed::keyed))]
+    pub(crate) fn place_in(&self, context: Context) -> Option<usize>
+        ensures { is_some result ≡ is_some (position (same_context context) (contexts_of self.now)) }
+    {
+        let number = self.contexts.get_index_of(&context)?;
+        match self.places.get(number) {
+            Some(place) => Some(*place as usize),
+            None => Some(0),
         }
     }
 

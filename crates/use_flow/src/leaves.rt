@@ -9,12 +9,12 @@ ghost use Rattle.use_flow.specs.inner.Ending.{followed, fields_left, leaves_fiel
 ghost use Rattle.use_flow.specs.inner.Fields.{outs_in};
 ghost use Rattle.use_flow.specs.inner.Followed.{seen, own_fields, open_fields, result_out};
 
-use crate::calling::target_at;
 use crate::exits::ends;
 use crate::fields::{FieldTable, send};
 use crate::scene::{Scene, class_in, typestate_of};
+use crate::targets::MethodKey;
+use crate::types::method_in;
 use crate::{Context, Demand, Flow, Out, TableKey};
-use jv_core::name_text;
 use mg_sets::StateSet;
 use mg_text::{List, Memory, Place};
 use std::alloc::Global;
@@ -90,8 +90,12 @@ impl<'a> Scene<'a> {
         ensures { OnOk result (log_of log.new ≡ fields_left (seen self.now) class
             (followed (seen self.now) class state (option_map (λ l. l.now) label.entry)) place sets.now (log_of log.old)) }
     {
-        let name = name_text(self.core, self.method.name);
-        match target_at(typestate_of(self.core, class), name, state as usize) {
+        let call = MethodKey {
+            class,
+            name: self.method.name,
+            number: method_in(self.context),
+        };
+        match self.target_of(call, state as usize) {
             Some(target) => self.leave_target(alloc, log, place, class, target, label, sets),
             None => Ok(()),
         }

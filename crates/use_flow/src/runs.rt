@@ -4,11 +4,12 @@
 ghost use Rattle.std.specs.Prelude.{◌≡◌, slice_index_or, IfOk};
 ghost use Rattle.use_flow.specs.Runs.{starts_of, starts_in};
 
-use crate::entered::add_contexts;
+use crate::entered::{Entered, add_contexts};
 use crate::fields::number;
+use crate::offers::all_offers;
 use jv_core::Core;
 use mg_sets::StateSet;
-use mg_text::{List, Memory};
+use mg_text::Memory;
 use std::alloc::Global;
 
 /// Where the contexts of each method begin, by the numbers of methods, and where those of the last
@@ -24,14 +25,22 @@ pub(crate) fn runs_by(alloc: Global, core: &Core, reached: &[StateSet]) -> Resul
     ensures { IfOk result (λ r. starts_of r ≡ starts_in core.now reached.now) }
 {
     let methods = core.methods();
-    let mut contexts = List::new(alloc);
+    let offers = all_offers(alloc, core)?;
+    let mut entered = Entered::new(alloc);
     let mut starts = Vec::new(alloc);
     for place in 0..methods.len() {
         let method_number = number(place)?;
-        starts.push(number(contexts.len())?)?;
-        add_contexts(core, reached, &mut contexts, method_number, &methods[place])?;
+        starts.push(number(entered.contexts.len())?)?;
+        add_contexts(
+            core,
+            reached,
+            offers.as_slice(),
+            &mut entered,
+            method_number,
+            &methods[place],
+        )?;
     }
-    starts.push(number(contexts.len())?)?;
+    starts.push(number(entered.contexts.len())?)?;
     Ok(Runs { starts })
 }
 

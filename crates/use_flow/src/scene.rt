@@ -1,18 +1,18 @@
 //! What is followed: a context of a program, with its method and the tables as they stand.
 //! Names, types and widths of its variables are found here.
 
-ghost use Rattle.std.specs.Prelude.{◌≡◌, map, option_map, option_and_then, slice_get};
+ghost use Rattle.std.specs.Prelude.{◌≡◌, map, option_map, option_and_then, slice_get, IfOk};
 ghost use Rattle.jv_core.specs.View.{class_of, field_of, method_of};
 ghost use Rattle.jv_core.specs.Lookup.{slot_type, field_type, variable_type};
-ghost use Rattle.use_rules.specs.Keys.{class_in, typestate_of};
+ghost use Rattle.use_rules.specs.Keys.{class_in, contexts_in, typestate_of};
 ghost use Rattle.use_rules.specs.Shapes.{elements_in};
-ghost use Rattle.use_flow.specs.inner.Followed.{seen, own_fields, variable_at, variable_text, class_or_none, variable_class};
-ghost use Rattle.use_flow.specs.inner.Followed.{width_of, variable_width};
+ghost use Rattle.use_flow.specs.View.{contexts_of, reached_of};
 ghost use Rattle.use_elements.specs.Mappings.{typestate_or_end, title_in};
 
+use crate::fields::sum;
 use crate::{Context, Tables};
 use jv_core::{Core, CoreClass, CoreField, CoreMethod, CoreType, Var};
-use mg_text::Place;
+use mg_text::{Memory, Place};
 use ts_tree::Typestate;
 use use_elements::{Subject, Title};
 
@@ -23,6 +23,8 @@ pub(crate) struct Scene<'a> {
     pub tables: &'a Tables,
     pub context: Context,
     pub method: &'a CoreMethod,
+    // the contexts of the tables are those of the program
+    ghost listed: { contexts_of tables.now ≡ contexts_in core.now (reached_of tables.now) },
 }
 
 /// The class of a type's objects, if it has any.
@@ -82,6 +84,9 @@ pub(crate) fn slot_class(method: &CoreMethod, slot: u32) -> Option<u32>
 }
 
 impl<'a> Scene<'a> {
+    ghost use Rattle.use_flow.specs.inner.Followed.{seen, own_fields, variable_at, variable_text, class_or_none, variable_class};
+    ghost use Rattle.use_flow.specs.inner.Followed.{width_of, variable_width, behind_variables};
+
     // The class of the method.
     pub(crate) fn own_class(&self) -> Option<&CoreClass>
         ensures { option_map (λ k. class_of k.now) result ≡ slice_get (seen self.now).program.classes (seen self.now).method.class }
@@ -142,6 +147,14 @@ impl<'a> Scene<'a> {
         }
     }
 
+    // Where a value that is dropped stands: behind all variables.
+    #[tactic(auto, using(crate::proofs::Scenes::scenes))]
+    pub(crate) fn behind_variables(&self) -> Result<usize, Memory>
+        ensures { IfOk result (λ n. n ≡ behind_variables (seen self.now)) }
+    {
+        sum(self.method.slots.len(), self.own_fields().len())
+    }
+
     // The width of the sets of a variable.
     pub(crate) fn variable_width(&self, variable: Var) -> usize
         ensures { result ≡ variable_width (seen self.now) variable }
@@ -193,6 +206,7 @@ impl<'a> Scene<'a> {
     // A variable as demands name it.
     pub(crate) fn subject(&self, place: Place, variable: Var) -> Subject
         ensures place { result.place ≡ place }
+        ensures number { result.variable ≡ variable_at (seen self.now) variable }
         ensures name { title_in (seen self.now).program.names result.title ≡ variable_text (seen self.now) variable }
         ensures class { result.class ≡ variable_class (seen self.now) variable }
     {
@@ -202,6 +216,7 @@ impl<'a> Scene<'a> {
         };
         Subject {
             place,
+            variable: self.variable_at(variable),
             title,
             class: self.class_or_none(self.variable_type(variable)),
         }

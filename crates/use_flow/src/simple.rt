@@ -146,6 +146,7 @@ impl<'a> Scene<'a> {
     {
         let subject = Subject {
             place,
+            variable: self.behind_variables()?,
             title: Title::Value,
             class: self.class_or_none(self.type_dropped(value)),
         };

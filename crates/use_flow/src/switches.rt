@@ -19,12 +19,12 @@ ghost use Rattle.use_flow.specs.inner.Values.{protocol_call};
 
 use crate::Flow;
 use crate::arguments::{method_at, params_of};
-use crate::calling::image_along;
 use crate::evaluated::{Arguments, Value};
 use crate::fields::copy_at;
 use crate::listed::{Call, call_in};
-use crate::scene::{Scene, typestate_of};
+use crate::scene::Scene;
 use crate::simple::put_in;
+use crate::targets::MethodKey;
 use jv_core::{CoreExpr, CoreGroup, CoreMethod, CoreVar, Var, name_text};
 use mg_sets::StateSet;
 use mg_text::{Memory, Name};
@@ -243,6 +243,7 @@ impl<'a> Scene<'a> {
         &self,
         alloc: Global,
         receiver: Var,
+        number: u32,
         method: &CoreMethod,
         set: &StateSet,
         label: Name,
@@ -250,11 +251,14 @@ impl<'a> Scene<'a> {
         ensures { IfOk result (λ s. s ≡ led_set (seen self.now) receiver (method_of method.now) set.now
             (text_at (seen self.now).program label.0)) }
     {
-        let typestate = typestate_of(self.core, method.class);
-        let name = name_text(self.core, method.name);
         let width = self.variable_width(receiver);
         let label = name_text(self.core, label);
-        image_along(alloc, width, typestate, name, Some(label), set)
+        let call = MethodKey {
+            class: method.class,
+            name: method.name,
+            number,
+        };
+        self.image_along(alloc, width, call, Some(label), set)
     }
 
     // What a call leads to with each of these labels.
@@ -263,6 +267,7 @@ impl<'a> Scene<'a> {
         &self,
         alloc: Global,
         receiver: Var,
+        number: u32,
         method: &CoreMethod,
         set: &StateSet,
         constants: &[Name],
@@ -273,7 +278,7 @@ impl<'a> Scene<'a> {
     {
         let mut sets = Vec::new(alloc);
         for constant in constants {
-            let led = self.led_set(alloc, receiver, method, set, *constant)?;
+            let led = self.led_set(alloc, receiver, number, method, set, *constant)?;
             sets.push(led)?;
         }
         Ok(sets)
@@ -299,7 +304,7 @@ impl<'a> Scene<'a> {
         let variable = self.variable_at(receiver.var);
         let set = set_at(alloc, &args.now, variable)?;
         let constants = self.constants_of(Some(method.result));
-        let sets = self.led_sets(alloc, receiver.var, method, &set, constants)?;
+        let sets = self.led_sets(alloc, receiver.var, number, method, &set, constants)?;
         let value = self.protocol_call(alloc, receiver, number, method, args, log)?;
         let Value { set: given, ways } = value;
         drop(given);

@@ -17,7 +17,7 @@ use crate::readers::{Readers, all_readers as gather};
 use jv_core::Core;
 use mg_text::Memory;
 use std::alloc::Global;
-use use_flow::{Context, Follows, Tables, contexts, flow};
+use use_flow::{Context, Follows, Tables, flow};
 
 // A context waits.
 fn wake_one(due: &mut [bool], reader: usize)
@@ -155,7 +155,7 @@ pub fn infer(alloc: Global, core: &Core, follows: &mut Follows) -> Result<Tables
     ensures rises { follows.old ≤ follows.new }
 {
     let mut tables = Tables::new(alloc, core)?;
-    let all = contexts(alloc, core)?;
+    let all = Vec::from_slice(alloc, tables.contexts())?;
     let mut due = all_due(alloc, all.len())?;
     settle(
         alloc,

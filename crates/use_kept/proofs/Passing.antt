@@ -31,7 +31,7 @@ use Rattle.use_rules.specs.declared.key.TableKey.TheVariants as keys
 use Rattle.use_rules.specs.Elements.{Set, image, targets, along, element_of, unless_called, offering, offering_from, states_in, target_at}
 use Rattle.use_rules.specs.Elements.{leads_by}
 use Rattle.use_rules.specs.Keys.{Tables, AreReached, contexts_in, class_in, typestate_of, number_of}
-use Rattle.use_rules.specs.State.{Now, Log, Argued, asks, sends, set_of, with_set}
+use Rattle.use_rules.specs.State.{Now, Log, Argued, asks, sees, sends, set_of, with_set}
 use Rattle.use_rules.specs.Flow as rules
 use Rattle.use_rules.specs.Flow.{Evaluated, after, alike, null_test, tested}
 use Rattle.use_rules.specs.Tables.{Solves}
@@ -459,13 +459,14 @@ module _ (p : Program) (ok : IsCore p) (reached : List (List Bool)) (rok : AreRe
         Holds p t s (all_roots p t m me fields locals sets (arg_roots (param_types k) ss vs ++ rest)) →
         Good p t (CO rest) (protocol_call p inputs low n (here_of p t ok inputs low n m me) i u vs s)
     call_good which ss log q vs rest s matched h =
-        let states = offering ts name (set_of sets (rules.variable_at p cs cx m x.var)) in
-        let asked = before_sends t (rules.state_outs p cs cx m i k states ss)
-        (asks (rules.judged_variable p cs cx m (unless_called ts name) x.place x.var sets) log) q in
+        let seen = set_of sets (rules.variable_at p cs cx m x.var) in
+        let states = offering ts name seen in
+        let met = sees (record { place = x.place; variable = x.var; method = i; set = seen }) log in
+        let judged = asks (rules.judged_variable p cs cx m (unless_called ts name) x.place x.var sets) met in
+        let asked = before_sends t (rules.state_outs p cs cx m i k states ss) judged q in
         let none_fails = asked_none p ok t m me locals cs cx (unless_called ts name) x.place x.var sets
-        (none_asked t (rules.judged_variable p cs cx m (unless_called ts name) x.place x.var sets) log asked) in
-        let taken = all_sent t (rules.state_outs p cs cx m i k states ss)
-        (asks (rules.judged_variable p cs cx m (unless_called ts name) x.place x.var sets) log) q in
+        (none_asked t (rules.judged_variable p cs cx m (unless_called ts name) x.place x.var sets) met asked) in
+        let taken = all_sent t (rules.state_outs p cs cx m i k states ss) judged q in
         calling.protocol_good p reached t ok rok solves low well inputs n (here_of p t ok inputs low n m me) m me fields sc locals scope
         scoped sets wide x.var i k at kind u stands s vs
         (arg_roots (param_types k) ss vs) rest none_fails

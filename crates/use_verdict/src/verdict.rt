@@ -10,7 +10,7 @@ ghost use Rattle.use_verdict.specs.Faults.{IsFault, fault_of};
 use jv_core::Core;
 use mg_text::Memory;
 use std::alloc::Global;
-use use_flow::{Context, Demand, DemandKind, Flow, Follows, Tables, contexts, flow};
+use use_flow::{Context, Demand, DemandKind, Flow, Follows, Tables, flow};
 use use_infer::infer;
 
 /// The usages of an accepted program: its least tables, under which no demand fails.
@@ -100,8 +100,7 @@ pub fn check(alloc: Global, core: &Core) -> Result<Accepted, CheckFault>
 {
     let mut follows = Follows::new();
     let tables = infer(alloc, core, &mut follows)?;
-    let all = contexts(alloc, core)?;
-    if let Some(demand) = first_in(alloc, core, &tables, all.as_slice(), &mut follows)? {
+    if let Some(demand) = first_in(alloc, core, &tables, tables.contexts(), &mut follows)? {
         return Err(fault_of(demand));
     }
     Ok(Accepted { tables })

@@ -9,7 +9,7 @@ use Rattle.std.specs.Str.{bytes_eq}
 use Rattle.mg_words.specs.declared.asked.Asked.{Asked as Kept}
 use Rattle.mg_words.specs.declared.asked.RoleClass.{RoleClass as KeptRole}
 use Rattle.mg_words.specs.Words.{Word, RoleClass, Roles, Alone, Several, role_names, Asked, Command, Translate, Conform, Check, Compile}
-use Rattle.mg_words.specs.Words.{Run, Exec, Refine, Project, Load, Verify, Fit, IsFileOf, IsSourceName, IsCommand, AreWrong, RunOption, Main}
+use Rattle.mg_words.specs.Words.{Run, Exec, Refine, Project, Load, Verify, Fit, Show, all_words, IsFileOf, IsSourceName, IsCommand, AreWrong, RunOption, Main}
 use Rattle.mg_words.specs.Words.{Role}
 use Rattle.mg_words.specs.Words.{Order, Steps, Trace, Out, option_words, IsOption, class_in, role_in, order_in, steps_in, is_trace}
 use Rattle.mg_words.specs.Words.{folder_in, AreOptions, IsFileName, out_words, TargetOption, target_words, AreTargets}
@@ -19,6 +19,7 @@ use Rattle.mg_words.specs.declared.words.Command.{Command as Found}
 use Rattle.mg_words.specs.declared.words.Command.TheVariants as found
 use Rattle.mg_words.specs.declared.words.Judged.{Judged}
 use Rattle.mg_words.specs.declared.words.Judged.TheVariants as judged
+use Rattle.mg_words.specs.declared.checks.Split.{Split}
 use Rattle.mg_words.specs.declared.words.Placed.{Placed}
 use Rattle.mg_words.specs.declared.words.Placed.TheVariants as placed
 use Rattle.mg_words.specs.declared.roles.RoleWord.{RoleWord}
@@ -95,7 +96,7 @@ cast_of cast = roles_in cast.words.now
 abbrev pub command_of : Found → Command
 command_of (found.Translate package_name folder files) = Translate (option_map (λ w. w.now) package_name) (option_map (λ w. w.now) folder) files.now
 command_of (found.Conform files) = Conform files.now
-command_of (found.Check files) = Check files.now
+command_of (found.Check all files) = Check all files.now
 command_of (found.Compile folder files) = Compile (option_map (λ w. w.now) folder) files.now
 command_of (found.Run asked files) = Run (asked_of asked) files.now
 command_of (found.Exec asked files) = Exec (asked_of asked) files.now
@@ -104,6 +105,7 @@ command_of (found.Project folder files) = Project (option_map (λ w. w.now) fold
 command_of (found.Load branches seed) = Load branches seed
 command_of (found.Verify files) = Verify files.now
 command_of (found.Fit cast files) = Fit (cast_of cast) files.now
+command_of (found.Show files) = Show files.now
 
 -- the command that runs this, with what is asked for
 abbrev pub made : Input → Asked → (files : List Word) → Command
@@ -144,6 +146,11 @@ IsPlaced words (placed.In folder files) =
 IsPlaced words (placed.Wrong None) = words ≡ codes "--out" ∷ []
 IsPlaced words (placed.Wrong (Some word)) =
     (rest : List Word) × (words ≡ codes "--out" ∷ word.now ∷ rest) × (IsFileName word.now → ⊥)
+
+-- whether the option by which all is told stands first, and the words behind it
+abbrev pub IsSplit : List Word → Split → Type 0
+IsSplit words s =
+    (words ≡ all_words s.all ++ s.files.now) × (s.all ≡ false → (rest : List Word) → s.files.now ≡ codes "--all" ∷ rest → ⊥)
 
 -- the first word of which this doesn't hold, or none where it holds of all
 abbrev pub IsFirstOther : (Word → Type 0) → List Word → Option Word → Type 0

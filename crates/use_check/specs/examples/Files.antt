@@ -177,4 +177,11 @@ files_tables (keys.Loop (suc (suc (suc (suc zero)))) zero zero) = false ∷ fals
 files_tables _ = []
 
 abbrev pub unclosed_fails : List Demand
-unclosed_fails = record { kind = demands.LeftOpen; place = at 2 15 3; slot = codes "f"; class = 0; element = elements.State 3 } ∷ []
+unclosed_fails = record {
+  kind = demands.LeftOpen;
+  place = at 2 15 3;
+  variable = 0;
+  slot = codes "f";
+  class = 0;
+  element = elements.State 3;
+} ∷ []

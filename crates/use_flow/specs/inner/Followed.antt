@@ -43,6 +43,9 @@ own_fields s = rules.own_fields s.program s.contexts s.context s.method
 abbrev pub variable_at : Followed → Var → ℕ
 variable_at s = rules.variable_at s.program s.contexts s.context s.method
 
+abbrev pub behind_variables : Followed → ℕ
+behind_variables s = rules.behind_variables s.program s.contexts s.context s.method
+
 abbrev pub variable_text : Followed → Var → Name
 variable_text s = rules.variable_text s.program s.contexts s.context s.method
 

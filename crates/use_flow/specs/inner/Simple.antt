@@ -12,7 +12,8 @@ use Rattle.use_rules.specs.Keys.{typestate_of}
 use Rattle.use_rules.specs.State.{Now, Log, asks, with_set, Flow, judged}
 use Rattle.use_rules.specs.Flow as rules
 use Rattle.use_flow.specs.inner.Ending.{answer_of, left}
-use Rattle.use_flow.specs.inner.Followed.{Followed, eval, width_of, variable_at, variable_width, class_or_none, judged_variable}
+use Rattle.use_flow.specs.inner.Followed.{Followed, eval, width_of, variable_at, variable_width, behind_variables, class_or_none}
+use Rattle.use_flow.specs.inner.Followed.{judged_variable}
 
 abbrev pub exit : Followed → Place → List ℕ → Flow → Flow
 exit s = rules.exit s.program s.contexts s.context s.method
@@ -57,7 +58,7 @@ printed s e sets log = printed_flow (eval s 0 e (Some sets) log)
 
 abbrev pub dropped_flow : Followed → Place → (class : ℕ) → rules.Evaluated → Flow
 dropped_flow s q c v = rules.flow (rules.after v) []
-    (asks (judged (if_open demands.LeftOpen (typestate_of s.program c)) q (codes "value") c v.set) v.log)
+    (asks (judged (if_open demands.LeftOpen (typestate_of s.program c)) q (behind_variables s) (codes "value") c v.set) v.log)
 
 abbrev pub dropped : Followed → Place → Expr → List Set → Log → Flow
 dropped s q e sets log = dropped_flow s q (class_or_none s (type_dropped s e)) (eval s 0 e (Some sets) log)

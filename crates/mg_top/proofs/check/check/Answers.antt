@@ -1,25 +1,22 @@
+use Rattle.std.proofs.Common.{Bool, subst, sym}
 use Rattle.std.proofs.lemmas.Result.{err_from_is_err_and}
-use Rattle.mg_accepted.specs.Accepted.{FirstRefusal}
-use Rattle.mg_accepted.specs.View.{IsProgramOf}
-use Rattle.mg_sources.specs.Files.{sources}
 use Rattle.mg_words.specs.Words.{Check}
-use Rattle.mg_top.specs.Commands as commands
-use Rattle.mg_top.proofs.CommandLemmas.{report_given, stopped_so}
+use Rattle.mg_top.specs.Commands.{Gives}
+use Rattle.mg_top.specs.inner.Preparing.{IsCarried}
 use Rattle.mg_top.proofs.check.check.Goals as goal
 
-pub returns-in_err-program : goal.returns-in_err-program
-returns-in_err-program c =
+pub returns-in_err-delivery : goal.returns-in_err-delivery
+returns-in_err-delivery c =
     let e = err_from_is_err_and c.from_residual.result c.from_residual.ensures.1 in
-    rw (e.1, e.2)
-    (stopped_so (Check c.args.names.now) c.args.contents.now (IsProgramOf (sources c.args.names.now c.args.contents.now))
-    (FirstRefusal (sources c.args.names.now c.args.contents.now)) (λ r h. commands.check h) _ c.in_err-program.ensures.answered)
-
-pub returns-in_err-show : goal.returns-in_err-show
-returns-in_err-show c =
-    let e = err_from_is_err_and c.from_residual-in_err-show.result c.from_residual-in_err-show.ensures.1 in
     rw (e.1, e.2) tt
+
+pub returns-then-all : goal.returns-then-all
+returns-then-all c =
+    let d = c.in_ok-delivery.delivery in
+    subst (λ (all : Bool). Gives (Check all c.args.names.now) c.args.contents.now d.actions.items d.status) (sym c.if-all.true)
+    c.in_ok-delivery.ensures
 
 pub returns : goal.returns
 returns c =
-    report_given c.args.names.now c.args.contents.now c.in_ok-program.program.core c.in_ok-show.field-0
-    c.in_ok-program.ensures.answered.files_are c.in_ok-show.ensures
+    subst (λ (all : Bool). IsCarried (Check all c.args.names.now) c.args.contents.now c.check_first.result) (sym c.if-all.false)
+    c.check_first.ensures

@@ -3,7 +3,7 @@ use Rattle.mg_words.specs.declared.words.Command.{Command}
 use Rattle.mg_words.specs.Words.{files_of, IsCommand}
 use Rattle.mg_words.specs.inner.Judging.{command_of, asked_of, cast_of}
 use Rattle.mg_words.proofs.LawLemmas.{asked_of_run, asked_of_exec}
-use Rattle.mg_words.proofs.WordsLemmas.{kinds_of, kinds_of_classes, kinds_of_run, protocols_of}
+use Rattle.mg_words.proofs.WordsLemmas.{kinds_of, kinds_of_classes, kinds_of_run, kinds_of_show, protocols_of}
 use Rattle.mg_words.proofs.RefineLemmas.{two_files, kinds_of_two}
 use Rattle.mg_words.proofs.ProjectLemmas.{one_file}
 use Rattle.mg_words.proofs.LoadLemmas.{workload_of}
@@ -33,7 +33,12 @@ returns-in-Conform c =
 pub check-requires-clause-kinds : goal.check-requires-clause-kinds
 check-requires-clause-kinds c =
     let known = c.requires.known in
-    kinds_of known.0 c.in-Check.files.now (subst (λ (z : Command). IsCommand (command_of z) known.0) c.in-Check.is known.1)
+    kinds_of known.0 c.in-Check.all c.in-Check.files.now (subst (λ (z : Command). IsCommand (command_of z) known.0) c.in-Check.is known.1)
+
+pub show-requires-clause-kinds : goal.show-requires-clause-kinds
+show-requires-clause-kinds c =
+    let known = c.requires.known in
+    kinds_of_show known.0 c.in-Show.files.now (subst (λ (z : Command). IsCommand (command_of z) known.0) c.in-Show.is known.1)
 
 pub compile-requires-clause-kinds : goal.compile-requires-clause-kinds
 compile-requires-clause-kinds c =

@@ -3,7 +3,6 @@ use Rattle.mg_sets.specs.Sets.{members}
 use Rattle.use_rules.specs.declared.key.Context.{Context}
 use Rattle.use_rules.specs.Keys.{contexts_in}
 use Rattle.use_flow.specs.View.{reached_of, tables_of}
-use Rattle.use_infer.proofs.Taking.{same_contexts}
 use Rattle.use_check.specs.Report.{Usages, class_lines, context_lines, in_order, report_text}
 use Rattle.use_check.proofs.Reporting.{is_report}
 use Rattle.use_check.proofs.reports.report.Goals as goal
@@ -13,11 +12,10 @@ returns c =
     let p = c.args.core.now in
     let t = c.args.accepted.now.tables in
     let u : Usages = record { program = p; reached = reached_of t; elements = λ key. members (tables_of t key) } in
-    let all : c.as_slice.result.now ≡ contexts_in p (reached_of t) =
-    c.as_slice.ensures.items ∙ same_contexts p t c.in_ok-all.all.items c.requires.made c.in_ok-all.ensures ∙ c.requires.made.contexts in
+    let all : c.contexts.result.now ≡ contexts_in p (reached_of t) = c.contexts.ensures ∙ c.requires.made.contexts in
     let text : c.from_string.result ≡ report_text p (reached_of t) (tables_of t) =
     c.from_string.ensures ∙ c.in_ok-put_contexts.ensures
-    ∙ ap (λ (xs : List ℕ). xs ++ in_order (context_lines u) 0 c.as_slice.result.now)
+    ∙ ap (λ (xs : List ℕ). xs ++ in_order (context_lines u) 0 c.contexts.result.now)
     (c.in_ok-put_classes.ensures ∙ ap (λ (xs : List ℕ). xs ++ in_order (class_lines u) 0 p.classes) c.new-out.ensures.bytes)
     ∙ ap (λ (xs : List Context). in_order (class_lines u) 0 p.classes ++ in_order (context_lines u) 0 xs) all in
     record { text = text; report = is_report p t c.from_string.result c.requires text }

@@ -5,5 +5,5 @@ use Rattle.use_flow.proofs.entered.contexts_by.Given as goal
 
 abbrev pub invariant-loop-place : goal.invariant-loop-place
 invariant-loop-place l =
-    l.contexts.items ++ contexts_from l.core l.reached l.place (map method_of (drop l.place l.methods)) ≡ contexts_in
+    l.entered.contexts.items ++ contexts_from l.core l.reached l.place (map method_of (drop l.place l.methods)) ≡ contexts_in
     l.core l.reached

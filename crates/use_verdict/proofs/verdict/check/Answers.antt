@@ -1,6 +1,5 @@
 use Rattle.std.proofs.Common.{refl, sym, subst, ◌∙◌}
 use Rattle.std.proofs.lemmas.Result.{err_from_is_err_and}
-use Rattle.use_infer.proofs.Taking.{same_contexts}
 use Rattle.use_verdict.specs.Faults.{IsFault}
 use Rattle.use_verdict.proofs.Failing.{is_answer, is_fault, none_fails}
 use Rattle.use_verdict.proofs.verdict.check.Goals as goal
@@ -9,17 +8,11 @@ pub first_in-requires-clause-made : goal.first_in-requires-clause-made
 first_in-requires-clause-made c = c.in_ok-tables.ensures.made
 
 pub first_in-requires-clause-known : goal.first_in-requires-clause-known
-first_in-requires-clause-known c = c.as_slice.ensures.items ∙ same_contexts c.args.core.now c.in_ok-tables.tables
-    c.in_ok-all.all.items c.in_ok-tables.ensures.made c.in_ok-all.ensures
+first_in-requires-clause-known c = c.contexts.ensures
 
 pub returns-in_err-tables : goal.returns-in_err-tables
 returns-in_err-tables c =
     let p = err_from_is_err_and c.from_residual.result c.from_residual.ensures.1 in
-    rw (p.1, p.2) (record { accepted = tt; complete = λ a. refl; fault = tt })
-
-pub returns-in_err-all : goal.returns-in_err-all
-returns-in_err-all c =
-    let p = err_from_is_err_and c.from_residual-in_err-all.result c.from_residual-in_err-all.ensures.1 in
     rw (p.1, p.2) (record { accepted = tt; complete = λ a. refl; fault = tt })
 
 pub returns-in_err-demand : goal.returns-in_err-demand

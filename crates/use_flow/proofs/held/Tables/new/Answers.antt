@@ -9,7 +9,7 @@ use Rattle.use_flow.proofs.held.Tables.new.Goals as goal
 pub returns-clause-made : goal.returns-clause-made
 returns-clause-made c =
     IfOk-three c.filled.result _ _ _ _ (λ t reached contexts held.
-    tables_made c.args.core.now c.in_ok-reached.reached.items c.in_ok-contexts.contexts.items c.as_slice-4.result.now t
+    tables_made c.args.core.now c.in_ok-reached.reached.items c.in_ok-contexts.contexts.contexts.items c.as_slice-4.result.now t
     (c.in_ok-contexts.ensures ∙ ap (contexts_in c.args.core.now) c.as_slice.ensures.value)
     (c.as_slice-4.ensures.items ∙ c.in_ok-entries.ensures ∙ ap (entries_in c.args.core.now) c.as_slice-2.ensures.items)
     reached held c.in_ok-numbers.numbers.keys
@@ -20,7 +20,7 @@ returns-clause-made c =
 pub returns-clause-start : goal.returns-clause-start
 returns-clause-start c =
     IfOk-two c.filled.result _ _ _ (λ t reached held.
-    tables_start c.args.core.now c.in_ok-reached.reached.items c.in_ok-contexts.contexts.items c.as_slice-4.result.now t
+    tables_start c.args.core.now c.in_ok-reached.reached.items c.in_ok-contexts.contexts.contexts.items c.as_slice-4.result.now t
     (c.in_ok-contexts.ensures ∙ ap (contexts_in c.args.core.now) c.as_slice.ensures.value)
     (c.as_slice-4.ensures.items ∙ c.in_ok-entries.ensures ∙ ap (entries_in c.args.core.now) c.as_slice-2.ensures.items)
     reached held) c.filled.ensures.reached c.filled.ensures.held

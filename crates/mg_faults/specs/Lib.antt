@@ -1,0 +1,4 @@
+pub mod Demands
+pub mod Faults
+pub mod View
+pub mod inner

@@ -1,0 +1,9 @@
+pub mod Listing
+pub mod Worked
+pub mod Sorting
+pub mod Single
+pub mod Walking
+pub mod Seeing
+pub mod Ordering
+pub mod Telling
+pub mod Putting

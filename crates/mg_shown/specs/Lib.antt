@@ -1,0 +1,4 @@
+pub mod Shown
+pub mod examples
+pub mod Computed
+pub mod inner

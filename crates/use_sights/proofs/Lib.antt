@@ -1,0 +1,5 @@
+pub mod Judging
+pub mod Closing
+pub mod Telling
+pub mod Sorting
+pub mod Lexical

@@ -1,0 +1,33 @@
+use Rattle.std.proofs.Common.{◌≡◌, [], ◌∷◌, ◌++◌, length, sym, ap, ◌∙◌, arith, append_assoc}
+use Rattle.std.proofs.lemmas.List.{append-nil}
+use Rattle.std.specs.Vec.Iter.{into_iter_items}
+use Rattle.use_verdict.proofs.Meeting.{nothing_left}
+use Rattle.use_verdict.proofs.met.add_failed.Goals as goal
+
+pub loop-demand-init : goal.loop-demand-init
+loop-demand-init c =
+    let began = c.into_iter-demand-iterator.ensures.into_iter_gives in
+    record {
+      count = let same = ap length began.0 in omega (arith, began.1, c.into_vec-demand-items.result.ok.0, same);
+      moved = ap (λ z. c.args.all.now.items ++ z) (began.0 ∙ c.into_vec-demand-items.ensures);
+    }
+
+pub loop-demand-preserved : goal.loop-demand-preserved
+loop-demand-preserved c =
+    let step = c.in-Some.ensures.steps in
+    let was = c.loop-demand.invariant in
+    let some = ap length step.0 in
+    record {
+      count = let count = was.count in omega (arith, count, some, step.1);
+      moved =
+          ap (λ z. z ++ into_iter_items c.next.new.self) c.in_ok-push.ensures.ok
+          ∙ append_assoc c.loop-demand.all.items (c.in-Some.demand ∷ []) (into_iter_items c.next.new.self)
+          ∙ ap (λ z. c.loop-demand.all.items ++ z) (sym step.0)
+          ∙ was.moved;
+    }
+
+pub returns : goal.returns
+returns c =
+    let was = c.loop-demand.invariant in
+    let none : into_iter_items c.loop-demand.demand-iterator ≡ [] = nothing_left _ (sym was.count ∙ c.in-None.ensures.steps.0) in
+    sym (append-nil c.loop-demand.all.items) ∙ ap (λ z. c.loop-demand.all.items ++ z) (sym none) ∙ was.moved
