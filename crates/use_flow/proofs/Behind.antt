@@ -23,22 +23,22 @@ abbrev ended : Followed → Place → Bool → List Set → List Demand
 ended s q b sets = if b then open_fields s q 0 (own_fields s) sets else []
 
 module _ (s : Followed) (c : ℕ) (ts : Typestate) (tos' : List To) (q : Place) (sets : List Set) (os os' : List Out) (ds ds' : List Demand)
-  (ss : List Sight) where
-    pub target_ends : (b : Bool) → ts ≡ typestate_of s.program c → b ≡ list_any (may_end ts) tos' → b ≡ true →
-        os' ≡ os ++ to_states s c tos' sets → ds' ≡ ds ++ open_fields s q 0 (own_fields s) sets →
-        record { outs = os'; failed = ds'; sights = ss } ≡ fields_left s c tos' q sets (record { outs = os; failed = ds; sights = ss })
-    target_ends b et e h eo ed =
-        ap (λ (x : List Out). record { outs = x; failed = ds'; sights = ss }) eo
-        ∙ ap (λ (x : List Demand). record { outs = os ++ to_states s c tos' sets; failed = x; sights = ss })
-        (ed ∙ ap (λ x. ds ++ ended s q x sets) (sym h ∙ e ∙ ap (λ (ts : Typestate). list_any (may_end ts) tos') et))
+    (ss : List Sight) where
+  pub target_ends : (b : Bool) → ts ≡ typestate_of s.program c → b ≡ list_any (may_end ts) tos' → b ≡ true →
+      os' ≡ os ++ to_states s c tos' sets → ds' ≡ ds ++ open_fields s q 0 (own_fields s) sets →
+      record { outs = os'; failed = ds'; sights = ss } ≡ fields_left s c tos' q sets (record { outs = os; failed = ds; sights = ss })
+  target_ends b et e h eo ed =
+      ap (λ (x : List Out). record { outs = x; failed = ds'; sights = ss }) eo
+      ∙ ap (λ (x : List Demand). record { outs = os ++ to_states s c tos' sets; failed = x; sights = ss })
+      (ed ∙ ap (λ x. ds ++ ended s q x sets) (sym h ∙ e ∙ ap (λ (ts : Typestate). list_any (may_end ts) tos') et))
 
-    pub target_lasts : (b : Bool) → ts ≡ typestate_of s.program c → b ≡ list_any (may_end ts) tos' → b ≡ false →
-        os' ≡ os ++ to_states s c tos' sets → ds' ≡ ds →
-        record { outs = os'; failed = ds'; sights = ss } ≡ fields_left s c tos' q sets (record { outs = os; failed = ds; sights = ss })
-    target_lasts b et e h eo ed =
-        ap (λ (x : List Out). record { outs = x; failed = ds'; sights = ss }) eo
-        ∙ ap (λ (x : List Demand). record { outs = os ++ to_states s c tos' sets; failed = x; sights = ss })
-        (ed ∙ sym (append_nil ds) ∙ ap (λ x. ds ++ ended s q x sets) (sym h ∙ e ∙ ap (λ (ts : Typestate). list_any (may_end ts) tos') et))
+  pub target_lasts : (b : Bool) → ts ≡ typestate_of s.program c → b ≡ list_any (may_end ts) tos' → b ≡ false →
+      os' ≡ os ++ to_states s c tos' sets → ds' ≡ ds →
+      record { outs = os'; failed = ds'; sights = ss } ≡ fields_left s c tos' q sets (record { outs = os; failed = ds; sights = ss })
+  target_lasts b et e h eo ed =
+      ap (λ (x : List Out). record { outs = x; failed = ds'; sights = ss }) eo
+      ∙ ap (λ (x : List Demand). record { outs = os ++ to_states s c tos' sets; failed = x; sights = ss })
+      (ed ∙ sym (append_nil ds) ∙ ap (λ x. ds ++ ended s q x sets) (sym h ∙ e ∙ ap (λ (ts : Typestate). list_any (may_end ts) tos') et))
 
 pub ruleset led = (target_ends, target_lasts)
 

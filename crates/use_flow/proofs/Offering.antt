@@ -329,12 +329,12 @@ module _ (t : Typestate) (name : Name) where
   by_state s [] k (x ∷ ss) at in_set apart = all_past s k (x ∷ ss) (λ j. in_set j ∙ no_member j)
   by_state s (b ∷ r) k (x ∷ ss) at in_set apart =
       let rest : members_among s (by_states (suc k) ss name) ≡ offering_states t (members_from (suc k) r) name =
-          by_state s r (suc k) ss (λ j. ap (slice_get t.states) (from_suc k j) ∙ at (suc j)) (λ j. ap (has s) (from_suc k j) ∙ in_set (suc j))
-          apart.1 in
+      by_state s r (suc k) ss (λ j. ap (slice_get t.states) (from_suc k j) ∙ at (suc j)) (λ j. ap (has s) (from_suc k j) ∙ in_set (suc j))
+      apart.1 in
       let mine : has s k ≡ b = ap (has s) (from_zero k) ∙ in_set 0 in
       let here : is_offered k ≡ is_some (offered_in x.methods name) =
-          (let here_at : slice_get t.states k ≡ Some x = ap (slice_get t.states) (from_zero k) ∙ at 0 in
-          ap (λ o. is_some (option_and_then (λ (x : State). offered_in x.methods name) o)) here_at) in
+      (let here_at : slice_get t.states k ≡ Some x = ap (slice_get t.states) (from_zero k) ∙ at 0 in
+      ap (λ o. is_some (option_and_then (λ (x : State). offered_in x.methods name) o)) here_at) in
       among_append s (by_methods k x.methods name) (by_states (suc k) ss name)
       ∙ ap (λ a. members_among s a ++ members_among s (by_states (suc k) ss name)) (once k x.methods name apart.0)
       ∙ ap (λ a. members_among s (if is_some (offered_in x.methods name) then k ∷ [] else []) ++ a) rest

@@ -132,14 +132,13 @@ untold s key q told listed absent = go (offered (typestate_of s.program key.clas
     go None e = sym (ap (λ (o : Option Method). elim o as (λ _. Option Target) [ None ↦ None | Some k ↦ Some k.target ]) e)
     go (Some k) e =
         let has_one : Contains (contexts_in s.program (reached_of s.held)) (contexts.Protocol told.method.class q key.number) =
-            protocol_there s.program (reached_of s.held) key.number q told.method told.at told.kind
-            (ap (λ c. has (reached_set s.program (reached_of s.held) c) q) told.class ∙ told.reached)
-            (ap (λ c. is_some (offered (typestate_of s.program c) q (text_at s.program told.method.name))) told.class
-            ∙ ap (λ n. is_some (offered (typestate_of s.program key.class) q (text_at s.program n))) told.name
-            ∙ ap is_some e) in
+        protocol_there s.program (reached_of s.held) key.number q told.method told.at told.kind
+        (ap (λ c. has (reached_set s.program (reached_of s.held) c) q) told.class ∙ told.reached)
+        (ap (λ c. is_some (offered (typestate_of s.program c) q (text_at s.program told.method.name))) told.class
+        ∙ ap (λ n. is_some (offered (typestate_of s.program key.class) q (text_at s.program n))) told.name
+        ∙ ap is_some e) in
         absurd (there (contexts.Protocol key.class q key.number) s.contexts
         (subst (λ c. Contains s.contexts (contexts.Protocol c q key.number)) told.class
         (subst (λ cs. Contains cs (contexts.Protocol told.method.class q key.number)) (sym listed) has_one)) absent)
 
 pub ruleset placing = (near)
-

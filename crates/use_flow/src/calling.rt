@@ -91,13 +91,7 @@ pub(crate) fn begin_of(typestate: Option<&Typestate>) -> usize
 impl<'a> Scene<'a> {
     // Makes the elements to which a call leads from an element members.
     #[tactic(auto, using(crate::proofs::Seeking::alongs))]
-    fn mark_led(
-        &self,
-        found: &mut StateSet,
-        call: MethodKey,
-        label: Option<&str>,
-        element: usize,
-    )
+    fn mark_led(&self, found: &mut StateSet, call: MethodKey, label: Option<&str>, element: usize)
         ensures { found.new ≡ marked (along (which_of (option_map (λ l. l.now) label.entry))
             (typestate_of (seen self.now).program call.class) (text_at (seen self.now).program call.name.0) element)
             found.old }

@@ -72,12 +72,7 @@ impl Offers {
     }
 
     // A state offers these methods.
-    fn note_methods(
-        &mut self,
-        alloc: Global,
-        state: u32,
-        methods: &[Method],
-    ) -> Result<(), Memory>
+    fn note_methods(&mut self, alloc: Global, state: u32, methods: &[Method]) -> Result<(), Memory>
         requires { IsEven self.old }
         ensures even { OnOk result (IsEven self.new) }
         ensures all { OnOk result ((m : Name) → states_of self.new m ≡ states_of self.old m

@@ -12,7 +12,7 @@ use Rattle.use_flow.proofs.scene.Scene.image_along.Goals.{then-has, else-has}
 pub loop-element-preserved : goal.loop-element-preserved
 loop-element-preserved c =
     let to : ℕ → List ℕ = along (which_of (option_map (λ l. l.now) c.args.label))
-        (typestate_of (seen c.args.self.now).program c.args.call.class) (text_at (seen c.args.self.now).program c.args.call.name.0) in
+    (typestate_of (seen c.args.self.now).program c.args.call.class) (text_at (seen c.args.self.now).program c.args.call.name.0) in
     elim c.if-has.branch [
       | then-has w ↦ image_take to c.loop-element.element c.args.set.now c.loop-element.found c.if-has.found _ (to c.loop-element.element)
           (omega arith)
