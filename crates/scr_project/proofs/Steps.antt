@@ -22,7 +22,7 @@ use Rattle.scr_global_tree.specs.View.{front, statements, bodies, told}
 use Rattle.scr_global_tree.proofs.Behind.{each_front, statements-step, statements-past, bodies-step, bodies-past}
 use Rattle.scr_global_tree.proofs.ViewLemmas.{front-Message, front-Choice, front-Rec, front-Continue}
 use Rattle.scr_project.specs.inner.Walk.{Found, FoundEach, far, reached, reached_in, unmerged, unmerged_in, found, found_each, nothing}
-use Rattle.scr_project.specs.inner.Walk.{no_branch, followed, followed_each, as_branch, body_said, turned, chosen_says, chosen}
+use Rattle.scr_project.specs.inner.Walk.{no_branch, followed, followed_each, as_branch, body_said, turned, chosen_says, chosen, passes}
 use Rattle.scr_global_tree.proofs.Appends.{behind_nothing, beside}
 use Rattle.scr_project.proofs.Behinds.{found_is, each_is, option_none, some_behind, followed_nothing, nothing_followed, followed_both}
 use Rattle.scr_project.proofs.Behinds.{followed_none, none_followed, each_both}
@@ -136,6 +136,22 @@ module _ (me : Name) where
         (turned_front p name (is_nothing_to me name (said body)) (projected me body) (projected me rest)))
         (λ p name. found_is refl (max_two (far name around) (reached around rest)) refl (continued_front p name (projected me rest))) x
 
+  -- ---- messages of others
+
+  passed_over : (b c : Bool) (m : Told) → not (b || c) ≡ true →
+      record { named = b || (c || false); reach = 0; first = None; says = mapped (told_in b c m) (Some local.Nothing) } ≡ nothing
+  passed_over true c m e = absurd (cc e)
+  passed_over false true m e = absurd (cc e)
+  passed_over false false m e = refl
+
+  passed : (around : List Name) (x : GStatement) → passes me (front x Nothing) ≡ true → found me around (front x Nothing) ≡ nothing
+  passed around x =
+      each_front (λ f. passes me (f Nothing) ≡ true → found me around (f Nothing) ≡ nothing)
+      (λ m e. passed_over (bytes_eq m.from me) (bytes_eq m.to me) m e)
+      (λ p at bs e. absurd (cc e))
+      (λ p name body e. absurd (cc e))
+      (λ p name e. absurd (cc e)) x
+
   -- ---- turns of the loops
 
   module _ (around : List Name) where
@@ -155,6 +171,12 @@ module _ (me : Name) where
           ∙ sym (followed_both a (found me around (front x Nothing)) (found me around (statements (drop (i + 1) ss))))
           ∙ ap (λ (z : Found). followed (followed a z) (found me around (statements (drop (i + 1) ss)))) (sym e)
           ∙ ap (λ (z : Found). followed z (found me around (statements (drop (i + 1) ss)))) (sym f)
+
+      pub found_passed : (x : GStatement) → i < length ss → x ≡ get_or ss i x → passes me (front x Nothing) ≡ true → (a : Found) →
+          followed a (found me around (statements (drop i ss))) ≡ followed a (found me around (statements (drop (i + 1) ss)))
+      found_passed x within is e a =
+          found_later x within is a (found me around (front x Nothing)) a refl
+          (sym (ap (followed a) (passed around x e) ∙ followed_nothing a))
 
     module _ (bs : List (Row GStatement)) (i : ℕ) where
       pub each_past : (a : FoundEach) → length bs ≤ i → followed_each a (found_each me around (bodies (drop i bs))) ≡ a
@@ -240,6 +262,8 @@ module _ (me : Name) where
         ∙ found_is refl (max_one (far name around)) refl refl
 
 pub ruleset all_steps = (common_steps, found_later, found_past, nothing_followed)
+
+pub ruleset passing = (common_steps, front-Message, front-Choice, front-Rec, front-Continue)
 
 pub ruleset in_steps = (common_steps, each_later, each_past, none_followed)
 

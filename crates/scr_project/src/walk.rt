@@ -6,7 +6,7 @@ ghost use Rattle.scr_tree.specs.View.{statements as local_statements, bodies as 
 ghost use Rattle.scr_global.specs.Texts.{told_in};
 ghost use Rattle.scr_global.specs.Tree.{Nothing, Says};
 ghost use Rattle.scr_global_tree.specs.View.{front, statements, bodies, told};
-ghost use Rattle.scr_project.specs.inner.Walk.{found, found_each, body_said, turned, chosen};
+ghost use Rattle.scr_project.specs.inner.Walk.{found, found_each, body_said, turned, chosen, passes};
 ghost use Rattle.scr_project.specs.inner.View.{names_of, says_of, found_of, each_of};
 
 use crate::merge::merged;
@@ -16,6 +16,26 @@ use mg_text::{List, Memory, Place, Text};
 use scr_global_tree::GStatement;
 use scr_tree::{Direction, Message, Payload, Statement};
 use std::alloc::Global;
+
+// Whether a statement is a message that the role neither sends nor takes. Nothing is found in it, and most
+// statements are such ones where many roles speak.
+#[tactic(auto, using(crate::proofs::Steps::passing))]
+fn passes(me: &Text, statement: &GStatement) -> bool
+    ensures { result ≡ passes me.now (front statement.now Nothing) }
+{
+    match statement {
+        GStatement::Message {
+            sender,
+            receiver,
+            ..
+        } => {
+            let sent = *sender == *me;
+            let taken = *receiver == *me;
+            !(sent | taken)
+        }
+        GStatement::Choice { .. } | GStatement::Rec { .. } | GStatement::Continue { .. } => false,
+    }
+}
 
 /// What is found of statements.
 #[tactic(auto, using(crate::proofs::Steps::all_steps))]
@@ -30,6 +50,9 @@ pub(crate) fn found_all(
 {
     let mut part = Part::nothing(alloc);
     for statement in body {
+        if passes(me, statement) {
+            continue;
+        }
         let next = found_at(alloc, me, around, statement)?;
         part = part.followed_by(next)?;
     }

@@ -14,3 +14,4 @@ pub mod Rising
 pub mod Noted
 pub mod Remembered
 pub mod Outlined
+pub mod Standing

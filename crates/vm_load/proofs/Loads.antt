@@ -13,7 +13,7 @@ use Rattle.cls_tree.specs.Tree.{Class as File}
 use Rattle.vm_model.specs.Linked.{is_built_in}
 use Rattle.vm_model.specs.Program.{Program}
 use Rattle.vm_model.specs.Links.{Flaw, DuplicateClass, UnknownClass, UnknownMember, BadDescriptor, NoCode, number_of, lower, least}
-use Rattle.vm_model.specs.Links.{duplicates, flaws, outlines, class_flaws, linked_class, Links, Outline}
+use Rattle.vm_model.specs.Links.{duplicates, outlines, class_flaws, linked_class, Links, Outline}
 use Rattle.vm_load.specs.declared.fault.LoadFault.{LoadFault}
 use Rattle.vm_load.specs.declared.fault.LoadFault.TheVariants as faults
 use Rattle.vm_load.specs.Faults.{IsFlaw, IsLeast, IsRefused, flaw_of}

@@ -19,6 +19,7 @@ use crate::fault::{LoadFault, no_code, note, note_told};
 use crate::kept::{linked_field, linked_method};
 use crate::outline::Outline;
 use crate::pool::{class_at, or_empty};
+use crate::same::first_pushes;
 use crate::uses::Use;
 use cls_tree::{Attr, Class, Code, Const, Member};
 use indexmap::IndexMap;
@@ -56,6 +57,7 @@ fn judge_body(
     outlines: &[Outline<'_>],
     names: &Names,
     pool: &[Const],
+    firsts: &[u16],
     known: &mut IndexMap<Use, LinkedArgs>,
     member: &Member,
     methods: &mut List<LinkedMethod>,
@@ -74,7 +76,7 @@ fn judge_body(
         return note(best, no_code(alloc, declared.name));
     };
     let instrs = code.instrs.as_slice();
-    let instrs = judge_code(alloc, outlines, names, pool, known, instrs, best)?;
+    let instrs = judge_code(alloc, outlines, names, pool, firsts, known, instrs, best)?;
     let method = linked_method(alloc, declared, code, instrs)?;
     methods.push(method)
 }
@@ -94,6 +96,7 @@ fn judge_bodies(
         (least (flat_map (method_flaws (outlines_of outlines.now) (class_of class.now).pool) (class_of class.now).methods))) }
 {
     let pool = class.pool.as_slice();
+    let firsts = first_pushes(alloc, pool)?;
     let mut known = IndexMap::new(alloc);
     let mut methods = List::new(alloc);
     let members = class.methods.as_slice();
@@ -103,6 +106,7 @@ fn judge_bodies(
             outlines,
             names,
             pool,
+            firsts.as_slice(),
             &mut known,
             member,
             &mut methods,

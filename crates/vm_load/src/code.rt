@@ -174,6 +174,7 @@ fn judge_args(
     outlines: &[Outline<'_>],
     names: &Names,
     pool: &[Const],
+    firsts: &[u16],
     known: &mut IndexMap<Use, LinkedArgs>,
     starts: &[u32],
     place: usize,
@@ -191,7 +192,11 @@ fn judge_args(
         Args::None => Ok(LinkedArgs::None),
         Args::Number(number) => Ok(LinkedArgs::Int(i32::from(*number))),
         Args::Local(local) => Ok(LinkedArgs::Local(*local)),
-        Args::Pool(number) => { judge_use(alloc, outlines, names, pool, known, instr.op, *number) }
+        Args::Pool(number) => {
+            judge_use(
+                alloc, outlines, names, pool, firsts, known, instr.op, *number,
+            )
+        }
         Args::Jump(distance) => {
             let target = target(starts, place, i32::from(*distance))?;
             Ok(LinkedArgs::Jump(target))
@@ -228,6 +233,7 @@ fn judge_instr(
     outlines: &[Outline<'_>],
     names: &Names,
     pool: &[Const],
+    firsts: &[u16],
     known: &mut IndexMap<Use, LinkedArgs>,
     starts: &[u32],
     place: usize,
@@ -240,7 +246,9 @@ fn judge_instr(
     ensures judges { Judges model.instr_of result (judged_instr (outlines_of outlines.now) pool.now starts.now place (instr_of instr.now)) }
     ensures known { AreRight (outlines_of outlines.now) pool.now (get ⟦<Use as PartialEq>⟧.eq known.new) }
 {
-    match judge_args(alloc, outlines, names, pool, known, starts, place, instr) {
+    match judge_args(
+        alloc, outlines, names, pool, firsts, known, starts, place, instr,
+    ) {
         Ok(args) => fitting(alloc, starts.len(), instr.op, args),
         Err(fault) => Err(fault),
     }
@@ -271,6 +279,7 @@ fn judge_from(
     outlines: &[Outline<'_>],
     names: &Names,
     pool: &[Const],
+    firsts: &[u16],
     known: &mut IndexMap<Use, LinkedArgs>,
     starts: &[u32],
     instrs: &[Instr],
@@ -291,7 +300,9 @@ fn judge_from(
         if place > 0xffff_ffff {
             return Err(Memory);
         }
-        let judged = judge_instr(alloc, outlines, names, pool, known, starts, place, instr);
+        let judged = judge_instr(
+            alloc, outlines, names, pool, firsts, known, starts, place, instr,
+        );
         add(&mut code, best, judged)?;
         place += width(place, instr);
     }
@@ -304,6 +315,7 @@ pub(crate) fn judge_code(
     outlines: &[Outline<'_>],
     names: &Names,
     pool: &[Const],
+    firsts: &[u16],
     known: &mut IndexMap<Use, LinkedArgs>,
     instrs: &[Instr],
     best: &mut Option<LoadFault>,
@@ -322,6 +334,7 @@ pub(crate) fn judge_code(
         outlines,
         names,
         pool,
+        firsts,
         known,
         starts.as_slice(),
         instrs,

@@ -16,6 +16,7 @@ mod numbers;
 mod outline;
 mod pool;
 mod reference;
+mod same;
 mod uses;
 
 pub use fault::LoadFault;

@@ -13,6 +13,7 @@ ghost use Rattle.vm_load.specs.Known.{AreRight};
 use crate::fault::LoadFault;
 use crate::outline::Outline;
 use crate::reference::judge_pool;
+use crate::same::same_constant;
 use cls_tree::Const;
 use indexmap::IndexMap;
 use mg_text::{Memory, Names};
@@ -79,7 +80,7 @@ fn remember(
 }
 
 /// What the number of a constant means behind an opcode, which is looked up where it is known.
-pub(crate) fn judge_use(
+fn judge_known(
     alloc: Global,
     outlines: &[Outline<'_>],
     names: &Names,
@@ -104,4 +105,24 @@ pub(crate) fn judge_use(
         }
         Err(fault) => Err(fault),
     }
+}
+
+/// The same, where constants that push one text are as one.
+pub(crate) fn judge_use(
+    alloc: Global,
+    outlines: &[Outline<'_>],
+    names: &Names,
+    pool: &[Const],
+    firsts: &[u16],
+    known: &mut IndexMap<Use, LinkedArgs>,
+    op: u8,
+    number: u16,
+) -> Result<LinkedArgs, LoadFault>
+    requires names { names.now ≡ names_of (outlines_of outlines.now) }
+    requires known { AreRight (outlines_of outlines.now) pool.now (get ⟦<Use as PartialEq>⟧.eq known.old) }
+    ensures judges { Judges args_of result (judged_pool (outlines_of outlines.now) pool.now op number) }
+    ensures known { AreRight (outlines_of outlines.now) pool.now (get ⟦<Use as PartialEq>⟧.eq known.new) }
+{
+    let same = same_constant(pool, firsts, number);
+    judge_known(alloc, outlines, names, pool, known, op, same)
 }

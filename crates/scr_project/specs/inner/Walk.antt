@@ -144,3 +144,8 @@ chosen me place at a = record {
   first = option_or (choice_fault me place (bytes_eq at me) a.says) a.first;
   says = chosen_says me place at a.says;
 }
+
+-- the statement in front is a message that the role neither sends nor takes
+abbrev pub passes : Name → Statements → Bool
+passes me (Says m rest) = not (bytes_eq m.from me || bytes_eq m.to me)
+passes me _ = false

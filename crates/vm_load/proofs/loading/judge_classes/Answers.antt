@@ -2,7 +2,6 @@ use Rattle.std.proofs.lemmas.Grind.{common_steps}
 use Rattle.std.proofs.Common.{rules, ◌<◌, ◌≤◌, ◌∷◌, [], length, map, sym, ap, ◌∙◌, arith}
 use Rattle.std.proofs.lemmas.List.{map-append}
 use Rattle.std.proofs.lemmas.Simd.{map-map}
-use Rattle.std.specs.List.{flat_map}
 use Rattle.cls_tree.specs.View.{class_of}
 use Rattle.vm_model.specs.View as model
 use Rattle.vm_model.specs.Links.{lower, least, class_flaws, linked_class, outline}
