@@ -1,0 +1,114 @@
+-- Mungo's places grow with the offset.
+use Rattle.std.proofs.Common.{◌≡◌, ℕ, zero, suc, ◌+◌, ◌-◌, ◌<◌, ◌≤◌, List, [], ◌∷◌, ◌++◌, length, get_or, take, drop, Bool, true, false, refl, sym, ap, ◌∙◌, subst, arith}
+use Rattle.std.proofs.Common.{inl, inr, length-append, length-take-le}
+use Rattle.std.specs.Prelude.{◌⊎◌, fold, if◌then◌else◌, ◌==◌}
+use Rattle.std.proofs.lemmas.Bool.Decides.{nat_tests}
+use Rattle.mg_text.specs.declared.place.Place.{Place}
+use Rattle.mg_text.specs.Places.{start_of, step, place_after}
+use Rattle.std.proofs.lemmas.List.{take_more}
+use Rattle.lsp_text.proofs.PlaceLaws.{order}
+use Rattle.lsp_text.specs.Places.{place_at, IsReached, IsOffsetOf}
+
+-- the place behind a byte is behind the place before it
+IsBeyond : Place → Place → Type 0
+IsBeyond next here = (here.line < next.line) ⊎ ((here.line ≡ next.line) × (here.column < next.column))
+
+step_beyond : (p : Place) (b : ℕ) → IsBeyond (step p b) p
+unfolding IsBeyond
+step_beyond p b = go (b == 10) where
+  go : (t : Bool) → IsBeyond (if t then record p { line = p.line + 1; column = 1 } else record p { column = p.column + 1 }) p
+  unfolding IsBeyond
+  go true = inl (omega arith)
+  go false = inr (refl, omega arith)
+
+reached_back : (p q w : Place) → IsBeyond q p → IsReached q w → IsReached p w
+unfolding IsBeyond
+reached_back p q w (inl a) (inl b) = inl (omega arith)
+reached_back p q w (inl a) (inr b) = let e : q.line ≡ w.line = b.0 in inl (omega arith)
+reached_back p q w (inr a) (inl b) = let e : p.line ≡ q.line = a.0 in inl (omega arith)
+reached_back p q w (inr a) (inr b) =
+    let d : p.line ≡ q.line = a.0 in
+    let e : q.line ≡ w.line = b.0 in
+    let f : p.column < q.column = a.1 in
+    let g : q.column ≤ w.column = b.1 in
+    inr (d ∙ e, omega arith)
+
+-- where the place behind more bytes is reached, so is the one before them
+pub after_reached : (p w : Place) (bs : List ℕ) → IsReached (place_after p bs) w → IsReached p w
+after_reached p w [] h = h
+after_reached p w (b ∷ bs) h = reached_back p (step p b) w (step_beyond p b) (after_reached (step p b) w bs h)
+
+-- no place is reached by one behind more bytes
+pub never_back : (p : Place) (b : ℕ) (bs : List ℕ) → IsReached (place_after p (b ∷ bs)) p → ⊥
+never_back p b bs h = go (step p b) (step_beyond p b) (after_reached (step p b) p bs h) where
+  go : (q : Place) → IsBeyond q p → IsReached q p → ⊥
+  unfolding IsBeyond
+  go q (inl a) (inl b) = omega arith
+  go q (inl a) (inr b) = let e : q.line ≡ p.line = b.0 in omega arith
+  go q (inr a) (inl b) = let e : p.line ≡ q.line = a.0 in omega arith
+  go q (inr a) (inr b) = let f : p.column < q.column = a.1 in let g : q.column ≤ p.column = b.1 in omega arith
+
+-- a longer beginning is a beginning and more
+pub take_parts : (i o : ℕ) (xs : List ℕ) → i ≤ o → (more : List ℕ) × (take o xs ≡ take i xs ++ more)
+take_parts zero o xs le = (take o xs, refl)
+take_parts (suc i) zero xs le = absurd (omega arith)
+take_parts (suc i) (suc o) [] le = ([], refl)
+take_parts (suc i) (suc o) (x ∷ xs) le = let t = take_parts i o xs (omega arith) in (t.0, ap (λ (zs : List ℕ). x ∷ zs) t.1)
+
+pub place_append : (p : Place) (xs ys : List ℕ) → place_after p (xs ++ ys) ≡ place_after (place_after p xs) ys
+place_append p [] ys = refl
+place_append p (x ∷ xs) ys = place_append (step p x) xs ys
+
+-- where a place isn't reached, no later one is
+pub last_reached : (file : ℕ) (text : List ℕ) (w : Place) (i o : ℕ) → i ≤ o → IsReached (place_at file text o) w →
+    IsReached (place_at file text i) w
+last_reached file text w i o le h =
+    let t = take_parts i o text le in
+    let e : place_at file text o ≡ place_after (place_at file text i) t.0 =
+    ap (λ (zs : List ℕ). place_after (start_of file) zs) t.1 ∙ place_append (start_of file) (take i text) t.0 in
+    after_reached (place_at file text i) w t.0 (subst (λ (z : Place). IsReached z w) e h)
+
+-- one byte further
+pub place_next : (file : ℕ) (text : List ℕ) (i b : ℕ) → i < length text → b ≡ get_or text i b →
+    place_at file text (i + 1) ≡ step (place_at file text i) b
+place_next file text i b less is =
+    ap (λ (zs : List ℕ). place_after (start_of file) zs) (take_more text i b less) ∙ place_append (start_of file) (take i text) (get_or text i b ∷ [])
+    ∙ ap (λ (z : ℕ). step (place_at file text i) z) (sym is)
+
+-- the offset before a place that isn't reached
+pub stopped : (text : List ℕ) (w : Place) (i : ℕ) → i < length text → (0 < i → IsReached (place_at w.file text i) w) →
+    ¬ IsReached (place_at w.file text (i + 1)) w → IsOffsetOf text w i
+stopped text w i less reached beyond =
+    record {
+      within = omega arith;
+      reached = reached;
+      last = λ o within here. by o here (order o (i + 1));
+    } where
+  by : (o : ℕ) → IsReached (place_at w.file text o) w → (o < i + 1) ⊎ (i + 1 ≤ o) → o ≤ i
+  by o here (inl low) = omega arith
+  by o here (inr high) = absurd (beyond (last_reached w.file text w (i + 1) o high here))
+
+-- all bytes are passed
+pub ended : (text : List ℕ) (w : Place) (i : ℕ) → i ≡ length text → (0 < i → IsReached (place_at w.file text i) w) → IsOffsetOf text w i
+ended text w i is reached = record { within = omega arith; reached = reached; last = λ o within here. omega arith }
+
+-- the place of an offset is reached there, and no further
+pub own_offset : (file : ℕ) (text : List ℕ) (o p : ℕ) → o ≤ length text → IsOffsetOf text (place_at file text o) p → p ≡ o
+own_offset file text o p within h =
+    let low : o ≤ p = h.last o within (inr (refl, omega arith)) in
+    by (order o p) low where
+  by : (o < p) ⊎ (p ≤ o) → o ≤ p → p ≡ o
+  by (inr high) low = omega arith
+  by (inl more) low = absurd (beyond (take_parts o p text (omega arith))) where
+    beyond : (more : List ℕ) × (take p text ≡ take o text ++ more) → ⊥
+    beyond ([], e) =
+        let same : length (take p text) ≡ length (take o text ++ []) = ap length e in
+        let left : length (take p text) ≡ p = length-take-le p text h.within in
+        let right : length (take o text) ≡ o = length-take-le o text within in
+        let join : length (take o text ++ []) ≡ length (take o text) + 0 = length-append (take o text) [] in
+        omega arith
+    beyond (b ∷ bs, e) =
+        let at : place_at file text p ≡ place_after (place_at file text o) (b ∷ bs) =
+        ap (λ (zs : List ℕ). place_after (start_of file) zs) e ∙ place_append (start_of file) (take o text) (b ∷ bs) in
+        never_back (place_at file text o) b bs
+        (subst (λ (z : Place). IsReached z (place_at file text o)) at (h.reached (omega arith)))

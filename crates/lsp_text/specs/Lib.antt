@@ -1,0 +1,7 @@
+pub mod Units
+pub mod Lines
+pub mod Positions
+pub mod Places
+pub mod Changes
+pub mod Documents
+pub mod inner
