@@ -6,3 +6,5 @@ pub mod OffsetLaws
 pub mod ChangeLaws
 pub mod Meanings
 pub mod Boundaries
+pub mod DocumentLaws
+pub mod WorkedRows

@@ -7,22 +7,19 @@ use Rattle.mg_text.specs.declared.place.Place.{Place}
 use Rattle.mg_text.specs.Places.{start_of, step, place_after}
 use Rattle.std.proofs.lemmas.List.{take_more}
 use Rattle.lsp_text.proofs.PlaceLaws.{order}
-use Rattle.lsp_text.specs.Places.{place_at, IsReached, IsOffsetOf}
+use Rattle.lsp_text.specs.Places.{here, place_at, IsReached, IsOffsetOf}
 
 -- the place behind a byte is behind the place before it
-IsBeyond : Place → Place → Type 0
+abbrev IsBeyond : Place → Place → Type 0
 IsBeyond next here = (here.line < next.line) ⊎ ((here.line ≡ next.line) × (here.column < next.column))
 
 step_beyond : (p : Place) (b : ℕ) → IsBeyond (step p b) p
-unfolding IsBeyond
 step_beyond p b = go (b == 10) where
   go : (t : Bool) → IsBeyond (if t then record p { line = p.line + 1; column = 1 } else record p { column = p.column + 1 }) p
-  unfolding IsBeyond
   go true = inl (omega arith)
   go false = inr (refl, omega arith)
 
 reached_back : (p q w : Place) → IsBeyond q p → IsReached q w → IsReached p w
-unfolding IsBeyond
 reached_back p q w (inl a) (inl b) = inl (omega arith)
 reached_back p q w (inl a) (inr b) = let e : q.line ≡ w.line = b.0 in inl (omega arith)
 reached_back p q w (inr a) (inl b) = let e : p.line ≡ q.line = a.0 in inl (omega arith)
@@ -42,7 +39,6 @@ after_reached p w (b ∷ bs) h = reached_back p (step p b) w (step_beyond p b) (
 pub never_back : (p : Place) (b : ℕ) (bs : List ℕ) → IsReached (place_after p (b ∷ bs)) p → ⊥
 never_back p b bs h = go (step p b) (step_beyond p b) (after_reached (step p b) p bs h) where
   go : (q : Place) → IsBeyond q p → IsReached q p → ⊥
-  unfolding IsBeyond
   go q (inl a) (inl b) = omega arith
   go q (inl a) (inr b) = let e : q.line ≡ p.line = b.0 in omega arith
   go q (inr a) (inl b) = let e : p.line ≡ q.line = a.0 in omega arith
@@ -112,3 +108,22 @@ own_offset file text o p within h =
         ap (λ (zs : List ℕ). place_after (start_of file) zs) e ∙ place_append (start_of file) (take o text) (b ∷ bs) in
         never_back (place_at file text o) b bs
         (subst (λ (z : Place). IsReached z (place_at file text o)) at (h.reached (omega arith)))
+
+get_or_same : (xs : List ℕ) (i d e : ℕ) → i < length xs → get_or xs i d ≡ get_or xs i e
+get_or_same [] i d e less = absurd (omega arith)
+get_or_same (x ∷ xs) zero d e less = refl
+get_or_same (x ∷ xs) (suc i) d e less = get_or_same xs i d e (omega arith)
+
+-- the same, with the numbers that the code has
+pub stopped_at : (text items : List ℕ) (w : Place) (i offset line column next_line next_column b : ℕ) → items ≡ text → i < length items →
+    offset ≡ i → here w.file line column ≡ place_at w.file text i → (0 < i → IsReached (place_at w.file text i) w) → b ≡ get_or items i 0 →
+    here w.file next_line next_column ≡ step (here w.file line column) b → ¬ IsReached (here w.file next_line next_column) w →
+    IsOffsetOf text w offset
+stopped_at text items w i offset line column next_line next_column b same less at so_far reached is next beyond =
+    let long : length items ≡ length text = ap length same in
+    let within : i < length text = omega arith in
+    let byte : b ≡ get_or text i b = is ∙ ap (λ (zs : List ℕ). get_or zs i 0) same ∙ get_or_same text i 0 b within in
+    let there : place_at w.file text (i + 1) ≡ here w.file next_line next_column =
+    place_next w.file text i b within byte ∙ ap (λ (p : Place). step p b) (sym so_far) ∙ sym next in
+    subst (IsOffsetOf text w) (sym at)
+    (stopped text w i within reached (λ h. beyond (subst (λ (p : Place). IsReached p w) there h)))

@@ -4,4 +4,5 @@ pub mod Positions
 pub mod Places
 pub mod Changes
 pub mod Documents
+pub mod examples
 pub mod inner

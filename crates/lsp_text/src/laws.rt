@@ -7,6 +7,7 @@ ghost use Rattle.lsp_text.specs.declared.encoding.Encoding.{Encoding};
 ghost use Rattle.lsp_text.specs.declared.positions.Position.{Position};
 ghost use Rattle.lsp_text.specs.Positions.{Stands, Means, IsPositionOf, IsBetween};
 ghost use Rattle.lsp_text.specs.Places.{place_at, IsOffsetOf};
+ghost use Rattle.lsp_text.specs.examples.Rows.{Rows};
 
 /// A position means one offset.
 pub fn one_meaning()
@@ -29,4 +30,9 @@ pub fn boundaries_are_places()
 /// A place of mungo that a text has stands at its own offset.
 pub fn places_have_their_offsets()
     ensures { (file : ℕ) (text : List ℕ) (o p : ℕ) → o ≤ length text → IsOffsetOf text (place_at file text o) p → p ≡ o }
+{}
+
+/// The worked rows hold.
+pub fn rows_hold()
+    ensures { Rows }
 {}
