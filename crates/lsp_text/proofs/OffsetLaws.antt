@@ -88,26 +88,38 @@ stopped text w i less reached beyond =
 pub ended : (text : List ℕ) (w : Place) (i : ℕ) → i ≡ length text → (0 < i → IsReached (place_at w.file text i) w) → IsOffsetOf text w i
 ended text w i is reached = record { within = omega arith; reached = reached; last = λ o within here. omega arith }
 
+-- bytes leave the file
+step_file : (p : Place) (b : ℕ) → (step p b).file ≡ p.file
+step_file p b = go (b == 10) where
+  go : (t : Bool) → (if t then record p { line = p.line + 1; column = 1 } else record p { column = p.column + 1 }).file ≡ p.file
+  go true = refl
+  go false = refl
+
+place_file : (p : Place) (bs : List ℕ) → (place_after p bs).file ≡ p.file
+place_file p [] = refl
+place_file p (b ∷ bs) = place_file (step p b) bs ∙ step_file p b
+
 -- the place of an offset is reached there, and no further
 pub own_offset : (file : ℕ) (text : List ℕ) (o p : ℕ) → o ≤ length text → IsOffsetOf text (place_at file text o) p → p ≡ o
 own_offset file text o p within h =
-    let low : o ≤ p = h.last o within (inr (refl, omega arith)) in
-    by (order o p) low where
-  by : (o < p) ⊎ (p ≤ o) → o ≤ p → p ≡ o
-  by (inr high) low = omega arith
-  by (inl more) low = absurd (beyond (take_parts o p text (omega arith))) where
-    beyond : (more : List ℕ) × (take p text ≡ take o text ++ more) → ⊥
-    beyond ([], e) =
-        let same : length (take p text) ≡ length (take o text ++ []) = ap length e in
-        let left : length (take p text) ≡ p = length-take-le p text h.within in
-        let right : length (take o text) ≡ o = length-take-le o text within in
-        let join : length (take o text ++ []) ≡ length (take o text) + 0 = length-append (take o text) [] in
-        omega arith
-    beyond (b ∷ bs, e) =
-        let at : place_at file text p ≡ place_after (place_at file text o) (b ∷ bs) =
-        ap (λ (zs : List ℕ). place_after (start_of file) zs) e ∙ place_append (start_of file) (take o text) (b ∷ bs) in
-        never_back (place_at file text o) b bs
-        (subst (λ (z : Place). IsReached z (place_at file text o)) at (h.reached (omega arith)))
+    let same : (place_at file text o).file ≡ file = place_file (start_of file) (take o text) in
+    let reached = subst (λ (f : ℕ). 0 < p → IsReached (place_at f text p) (place_at file text o)) same h.reached in
+    let last = subst (λ (f : ℕ). (q : ℕ) → q ≤ length text → IsReached (place_at f text q) (place_at file text o) → q ≤ p) same h.last in
+    by (order o p) (last o within (inr (refl, omega arith))) reached where
+  beyond : o < p → IsReached (place_at file text p) (place_at file text o) → (more : List ℕ) × (take p text ≡ take o text ++ more) → ⊥
+  beyond less reached ([], e) =
+      let same : length (take p text) ≡ length (take o text ++ []) = ap length e in
+      let left : length (take p text) ≡ p = length-take-le p text h.within in
+      let right : length (take o text) ≡ o = length-take-le o text within in
+      let join : length (take o text ++ []) ≡ length (take o text) + 0 = length-append (take o text) [] in
+      omega arith
+  beyond less reached (b ∷ bs, e) =
+      let at : place_at file text p ≡ place_after (place_at file text o) (b ∷ bs) =
+      ap (λ (zs : List ℕ). place_after (start_of file) zs) e ∙ place_append (start_of file) (take o text) (b ∷ bs) in
+      never_back (place_at file text o) b bs (subst (λ (z : Place). IsReached z (place_at file text o)) at reached)
+  by : (o < p) ⊎ (p ≤ o) → o ≤ p → (0 < p → IsReached (place_at file text p) (place_at file text o)) → p ≡ o
+  by (inr high) low reached = omega arith
+  by (inl more) low reached = absurd (beyond more (reached (omega arith)) (take_parts o p text (omega arith)))
 
 get_or_same : (xs : List ℕ) (i d e : ℕ) → i < length xs → get_or xs i d ≡ get_or xs i e
 get_or_same [] i d e less = absurd (omega arith)

@@ -6,6 +6,7 @@ use Rattle.std.specs.Str.{NonePass, IsUtf8, IsCharBoundary, chars}
 use Rattle.std.proofs.Common.{inl, inr}
 use Rattle.std.proofs.Math.Utf8.{encode, encodes}
 use Rattle.std.proofs.lemmas.Str.{length-encode, len_utf8_bounds, encode_same, encodes-append, encodes-chars, chars-encodes, IsUtf8-past_char, IsCharBoundary-at_seam}
+use Rattle.std.proofs.lemmas.List.{take_more}
 use Rattle.std.proofs.lemmas.Bool.Decides.{nat_tests}
 use Rattle.lsp_text.specs.declared.encoding.Encoding.{Encoding}
 use Rattle.lsp_text.specs.declared.encoding.Encoding.TheVariants.{Utf8, Utf16}
@@ -13,7 +14,7 @@ use Rattle.lsp_text.specs.declared.positions.Position.{Position}
 use Rattle.lsp_text.specs.Units.{unit_count, units}
 use Rattle.lsp_text.specs.inner.Fitting.{fitting}
 use Rattle.lsp_text.specs.Lines.{is_line_end, spell, IsFirstLine, IsBehind, StopsLine, IsLineOf}
-use Rattle.lsp_text.specs.Positions.{Stands, IsLastWithin, HasNoLine, Means, IsPositionOf}
+use Rattle.lsp_text.specs.Positions.{Stands, IsLastWithin, HasNoLine, Means, IsPositionOf, ArePositionsOf}
 use Rattle.lsp_text.proofs.ColumnLaws.{utf8_units, fitting_front, fitting_within, fitting_last}
 use Rattle.lsp_text.proofs.LineLaws.{none_append, behind_same, behind_shorter, behind_further, first_line_length, same_first_line, end_stops, end_long}
 
@@ -269,3 +270,18 @@ pub boundary_at : (encoding : Encoding) (limit n count : ℕ) (text rest line : 
 boundary_at encoding limit n count text rest line behind is utf8 part same =
     subst (λ (z : ℕ). IsCharBoundary text ((length text - length rest) + z)) (sym same)
     (found_boundary encoding encoding limit n text rest line behind is utf8 part)
+
+-- one position more
+pub positions_push : (encoding : Encoding) (text os : List ℕ) (ps : List Position) (o : ℕ) (p : Position) →
+    ArePositionsOf encoding text os ps → IsPositionOf encoding text o p → ArePositionsOf encoding text (os ++ o ∷ []) (ps ++ p ∷ [])
+positions_push encoding text [] [] o p h one = (one, tt)
+positions_push encoding text [] (q ∷ ps) o p h one = absurd h
+positions_push encoding text (n ∷ os) [] o p h one = absurd h
+positions_push encoding text (n ∷ os) (q ∷ ps) o p h one = (h.0, positions_push encoding text os ps o p h.1 one)
+
+pub positions_more : (encoding : Encoding) (text os : List ℕ) (ps : List Position) (i : ℕ) (p : Position) → i < length os →
+    ArePositionsOf encoding text (take i os) ps → IsPositionOf encoding text (get_or os i 0) p →
+    ArePositionsOf encoding text (take (i + 1) os) (ps ++ p ∷ [])
+positions_more encoding text os ps i p less h one =
+    subst (λ (zs : List ℕ). ArePositionsOf encoding text zs (ps ++ p ∷ [])) (sym (take_more os i 0 less))
+    (positions_push encoding text (take i os) ps (get_or os i 0) p h one)

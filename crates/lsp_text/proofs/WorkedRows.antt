@@ -260,7 +260,7 @@ behind_inserted = record {
 }
 
 pub rows : Rows
-unfolding lib.Utf8.encode
+unfolding lib.Utf8.encode before_pair behind_all before_two before_four behind_a behind_b begins
 rows = record {
   before_pair = means_itself Utf16 mixed 0 2 3 before_pair;
   within_pair = means_within Utf16 mixed 0 2 3 128512 3 (98 ∷ []) before_pair refl (omega arith) (omega arith);

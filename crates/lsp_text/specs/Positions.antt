@@ -1,5 +1,5 @@
 -- Positions, and the offsets that they mean.
-use Rattle.std.specs.Prelude.{◌≡◌, ℕ, ◌+◌, ◌-◌, ◌<◌, ◌≤◌, List, ◌++◌, length, slice_index, ◌⊎◌}
+use Rattle.std.specs.Prelude.{◌≡◌, ℕ, ◌+◌, ◌-◌, ◌<◌, ◌≤◌, List, [], ◌∷◌, ◌++◌, length, slice_index, ◌⊎◌, ⊤}
 use Rattle.std.specs.Str.{NonePass, encode_utf8_all}
 use Rattle.lsp_text.specs.declared.encoding.Encoding.{Encoding}
 use Rattle.lsp_text.specs.declared.positions.Position.{Position}
@@ -41,6 +41,13 @@ pub record IsPositionOf (encoding : Encoding) (text : List ℕ) (offset : ℕ) (
   pub stands : Stands encoding text position.line position.character place
   pub within : place ≤ offset
   pub last : (l c o : ℕ) → Stands encoding text l c o → o ≤ offset → o ≤ place
+
+-- these are the positions of these offsets, one for each
+abbrev pub ArePositionsOf : Encoding → List ℕ → List ℕ → List Position → Type 0
+ArePositionsOf encoding text [] [] = ⊤
+ArePositionsOf encoding text [] (p ∷ ps) = ⊥
+ArePositionsOf encoding text (o ∷ os) [] = ⊥
+ArePositionsOf encoding text (o ∷ os) (p ∷ ps) = IsPositionOf encoding text o p × ArePositionsOf encoding text os ps
 
 -- the offset stands between a carriage return and its line feed
 pub record IsBetween (text : List ℕ) (offset : ℕ) : Type 0 where

@@ -18,4 +18,4 @@ pub use laws::{
     boundaries_are_places, one_meaning, places_have_their_offsets, rows_hold, there_and_back,
 };
 pub use places::{offset_of_place, position_of_place};
-pub use positions::{Position, offset_of, position_of};
+pub use positions::{Position, offset_of, position_of, positions_of};

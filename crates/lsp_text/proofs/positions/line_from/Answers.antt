@@ -2,13 +2,18 @@ use Rattle.std.proofs.Common.{◌≡◌, ℕ, ◌+◌, ◌-◌, ◌<◌, ◌≤�
 use Rattle.lsp_text.specs.Lines.{IsBehind, IsFirstLine}
 use Rattle.lsp_text.proofs.LineLaws.{behind_more, same_first_line, no_first_line}
 use Rattle.lsp_text.proofs.LineFinds.{after_utf8}
-use Rattle.lsp_text.proofs.positions.position_of.Goals as goal
+use Rattle.lsp_text.proofs.positions.line_from.Goals as goal
 
-pub position_in-requires-clause-last : goal.position_in-requires-clause-last
-position_in-requires-clause-last c = λ l a f.
-    let same = same_first_line c.lines.rest.now l a _ _ f c.in-Some.ensures.line in
-    let long : length a ≡ length c.in-Some.after.now = ap length same.1 in
-    omega arith
+pub returns-then-text-after-clause-line : goal.returns-then-text-after-clause-line
+returns-then-text-after-clause-line c = record {
+  behind = c.lines.invariant.behind;
+  reached = c.lines.invariant.reached;
+  shorter = c.lines.invariant.shorter;
+  last = λ l a f.
+      let same = same_first_line c.lines.rest.now l a _ _ f c.in-Some.ensures.line in
+      let long : length a ≡ length c.in-Some.after.now = ap length same.1 in
+      omega arith;
+}
 
 pub lines-preserved : goal.lines-preserved
 lines-preserved c =
@@ -20,5 +25,10 @@ lines-preserved c =
       shorter = omega (arith, c.in-Some.ensures.shorter);
     }
 
-pub position_in-requires-2-clause-last : goal.position_in-requires-2-clause-last
-position_in-requires-2-clause-last c = λ l a f. no_first_line c.lines.rest.now l a c.in_default.ensures.line f
+pub returns-clause-line : goal.returns-clause-line
+returns-clause-line c = record {
+  behind = c.lines.invariant.behind;
+  reached = c.lines.invariant.reached;
+  shorter = c.lines.invariant.shorter;
+  last = λ l a f. no_first_line c.lines.rest.now l a c.in_default.ensures.line f;
+}

@@ -2,7 +2,7 @@ use denote.Shadow.{shadow}
 use denote.Text.{Utf8}
 use Rattle.std.proofs.Common.{◌≡◌, ◌+◌, ◌≤◌, length}
 use Rattle.lsp_text.specs.Lines.{IsBehind}
-use Rattle.lsp_text.proofs.positions.position_of.Given as goal
+use Rattle.lsp_text.proofs.positions.line_from.Given as goal
 
 abbrev pub invariant-lines : goal.invariant-lines
 invariant-lines l =
