@@ -1,15 +1,15 @@
 -- Where a character begins, a place stands.
 use Rattle.std.proofs.Common.{◌≡◌, ℕ, zero, suc, ◌+◌, ◌-◌, ◌<◌, ◌≤◌, List, [], ◌∷◌, ◌++◌, length, get_or, take, drop, Bool, true, false, refl, sym, ap, ◌∙◌, subst, arith}
 use Rattle.std.proofs.Common.{inl, inr, length-append, append_assoc}
-use Rattle.std.specs.Prelude.{◌⊎◌, ◌==◌, ◌||◌}
+use Rattle.std.specs.Prelude.{◌⊎◌, ◌==◌}
 use Rattle.std.specs.Str.{NonePass, IsUtf8, IsCharBoundary, chars}
-use Rattle.std.proofs.Math.Utf8.{encode, encodes}
-use Rattle.std.proofs.lemmas.List.{take-append-drop, take-append-le, length-drop, get_or-append_right, drop_at}
+use Rattle.std.proofs.Math.Utf8.{encodes}
+use Rattle.std.proofs.lemmas.List.{take-append-drop, take-append-le, length-drop}
 use Rattle.std.proofs.lemmas.Str.{encodes-chars, IsUtf8-take, IsUtf8-drop, IsCharBoundary-from_drop}
 use Rattle.std.proofs.lemmas.Bool.Decides.{nat_tests}
 use Rattle.lsp_text.specs.declared.encoding.Encoding.{Encoding}
 use Rattle.lsp_text.specs.Units.{units}
-use Rattle.lsp_text.specs.Lines.{is_line_end, End, feed, carriage, both, spell, IsFirstLine, IsBehind}
+use Rattle.lsp_text.specs.Lines.{is_line_end, End, feed, carriage, both, spell, IsFirstLine}
 use Rattle.lsp_text.specs.Positions.{Stands, IsBetween}
 use Rattle.lsp_text.proofs.LineLaws.{none_append, first_line_length}
 use Rattle.lsp_text.proofs.LineFinds.{after_utf8}

@@ -1,13 +1,13 @@
 -- Documents after a change of their map.
-use Rattle.std.proofs.Common.{◌≡◌, ℕ, List, Bool, true, false, cond, refl, sym, ap, ◌∙◌}
-use Rattle.std.specs.Prelude.{Option, None, Some, if◌then◌else◌}
+use Rattle.std.proofs.Common.{◌≡◌, ℕ, List, Bool, true, false, cond, refl, ap, ◌∙◌}
+use Rattle.std.specs.Prelude.{Option}
 use Rattle.std.specs.Option.{option_map}
 use Rattle.std.specs.Str.{bytes_eq}
 use Rattle.std.specs.Map.{update}
 use Rattle.std.specs.BTreeMap.{get_by_text}
 use Rattle.lsp_text.specs.declared.documents.Document.{Document}
 use Rattle.lsp_text.specs.declared.documents.Documents.{Documents}
-use Rattle.lsp_text.specs.Documents.{Standing, shown, document_at, Puts}
+use Rattle.lsp_text.specs.Documents.{shown, Puts}
 
 shown_cond : (b : Bool) (v u : Option Document) → option_map shown (cond b v u) ≡ cond b (option_map shown v) (option_map shown u)
 shown_cond true v u = refl

@@ -1,14 +1,14 @@
 -- What a search for a line's end finds.
-use Rattle.std.proofs.Common.{◌≡◌, ℕ, zero, suc, ◌+◌, ◌-◌, ◌<◌, ◌≤◌, List, [], ◌∷◌, ◌++◌, length, get_or, take, drop, Bool, true, false, refl, sym, ap, ◌∙◌, subst, arith}
-use Rattle.std.proofs.Common.{length-append, append_assoc, add-one}
+use Rattle.std.proofs.Common.{◌≡◌, ℕ, suc, ◌+◌, ◌<◌, List, [], ◌∷◌, ◌++◌, length, get_or, take, drop, Bool, true, false, refl, sym, ap, ◌∙◌, subst, arith}
+use Rattle.std.proofs.Common.{length-append, add-one}
 use Rattle.std.specs.Str.{NonePass, IsUtf8, IsCharBoundary}
 use Rattle.std.proofs.Math.Seq.{drop-append_seam, get_or-append_seam}
 use Rattle.std.proofs.lemmas.List.{take-append-drop}
 use Rattle.std.proofs.lemmas.Str.{IsCharBoundary-after_ascii, IsUtf8-drop}
-use Rattle.memchr.specs.Find.{IsFirstByte, Nowhere, NoneBefore, Passes, is_byte2}
-use Rattle.lsp_text.specs.Lines.{is_line_end, End, feed, carriage, both, spell, MayStand, IsFirstLine, StopsLine, IsLineOf}
-use Rattle.lsp_text.specs.inner.Fitting.{BeginsWithEnd, IsEndLength}
-use Rattle.lsp_text.proofs.LineLaws.{none_below, none_whole, end_stops, end_long}
+use Rattle.memchr.specs.Find.{Nowhere, NoneBefore, Passes, is_byte2}
+use Rattle.lsp_text.specs.Lines.{is_line_end, End, feed, carriage, both, spell, MayStand, IsFirstLine, IsLineOf}
+use Rattle.lsp_text.specs.inner.Fitting.{IsEndLength}
+use Rattle.lsp_text.proofs.LineLaws.{none_below, none_whole, end_stops}
 
 not_true : (b : Bool) → ¬ (b ≡ true) → b ≡ false
 not_true true h = absurd (h refl)

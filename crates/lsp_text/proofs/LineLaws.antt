@@ -1,8 +1,8 @@
 -- There is one way to cut a text into lines.
-use Rattle.std.proofs.Common.{◌≡◌, ℕ, zero, suc, ◌+◌, ◌-◌, ◌<◌, ◌≤◌, List, [], ◌∷◌, ◌++◌, length, get_or, take, drop, Bool, true, false, refl, sym, ap, ◌∙◌, subst, arith}
-use Rattle.std.proofs.Common.{length-append, append_assoc}
+use Rattle.std.proofs.Common.{◌≡◌, ℕ, zero, suc, ◌+◌, ◌<◌, ◌≤◌, List, [], ◌∷◌, ◌++◌, length, get_or, take, drop, Bool, true, false, refl, sym, ap, ◌∙◌, subst, arith}
+use Rattle.std.proofs.Common.{length-append}
 use Rattle.std.specs.Str.{NonePass}
-use Rattle.lsp_text.specs.Lines.{is_line_end, End, feed, carriage, both, spell, MayStand, HasNoFeed, IsFirstLine, IsBehind, StopsLine, IsLineOf}
+use Rattle.lsp_text.specs.Lines.{is_line_end, End, feed, carriage, both, spell, MayStand, HasNoFeed, IsFirstLine, IsBehind, StopsLine}
 
 -- a line's end begins with a byte of one
 pub end_head : (e : End) (after : List ℕ) (b : ℕ) (bs : List ℕ) → spell e ++ after ≡ b ∷ bs → is_line_end b ≡ true

@@ -1,7 +1,6 @@
 -- A position has one meaning, and a place's own position means it.
-use Rattle.std.proofs.Common.{◌≡◌, ℕ, zero, suc, ◌+◌, ◌-◌, ◌<◌, ◌≤◌, List, [], ◌∷◌, ◌++◌, length, refl, sym, ap, ◌∙◌, subst, arith}
+use Rattle.std.proofs.Common.{◌≡◌, ℕ, ◌+◌, ◌≤◌, List, [], ◌∷◌, ◌++◌, length, refl, sym, ap, ◌∙◌, subst, arith}
 use Rattle.std.proofs.Common.{inl, inr, length-append, append_assoc}
-use Rattle.std.specs.Prelude.{nat_lt}
 use Rattle.std.proofs.Math.Utf8.{encode, encodes}
 use Rattle.std.proofs.lemmas.Str.{length-encode, len_utf8_bounds, encode_same}
 use Rattle.std.proofs.lemmas.Bool.Decides.{nat_tests}
@@ -9,7 +8,7 @@ use Rattle.lsp_text.specs.declared.encoding.Encoding.{Encoding}
 use Rattle.lsp_text.specs.declared.encoding.Encoding.TheVariants.{Utf8, Utf16}
 use Rattle.lsp_text.specs.declared.positions.Position.{Position}
 use Rattle.lsp_text.specs.Units.{unit_count, units}
-use Rattle.lsp_text.specs.Positions.{Stands, IsLastWithin, HasNoLine, Means, IsPositionOf}
+use Rattle.lsp_text.specs.Positions.{Stands, Means, IsPositionOf}
 use Rattle.lsp_text.proofs.LineLaws.{behind_same}
 
 -- a character counts something

@@ -5,18 +5,18 @@ use Rattle.std.specs.Prelude.{◌⊎◌, nat_lt}
 use Rattle.std.specs.Str.{NonePass, IsUtf8, IsCharBoundary, chars}
 use Rattle.std.proofs.Common.{inl, inr}
 use Rattle.std.proofs.Math.Utf8.{encode, encodes}
-use Rattle.std.proofs.lemmas.Str.{length-encode, len_utf8_bounds, encode_same, encodes-append, encodes-chars, chars-encodes, IsUtf8-past_char, IsCharBoundary-at_seam}
+use Rattle.std.proofs.lemmas.Str.{length-encode, len_utf8_bounds, encode_same, encodes-append, encodes-chars, IsUtf8-past_char, IsCharBoundary-at_seam}
 use Rattle.std.proofs.lemmas.List.{take_more}
 use Rattle.std.proofs.lemmas.Bool.Decides.{nat_tests}
 use Rattle.lsp_text.specs.declared.encoding.Encoding.{Encoding}
-use Rattle.lsp_text.specs.declared.encoding.Encoding.TheVariants.{Utf8, Utf16}
+use Rattle.lsp_text.specs.declared.encoding.Encoding.TheVariants.{Utf8}
 use Rattle.lsp_text.specs.declared.positions.Position.{Position}
-use Rattle.lsp_text.specs.Units.{unit_count, units}
+use Rattle.lsp_text.specs.Units.{units}
 use Rattle.lsp_text.specs.inner.Fitting.{fitting}
 use Rattle.lsp_text.specs.Lines.{is_line_end, spell, IsFirstLine, IsBehind, StopsLine, IsLineOf}
-use Rattle.lsp_text.specs.Positions.{Stands, IsLastWithin, HasNoLine, Means, IsPositionOf, ArePositionsOf}
+use Rattle.lsp_text.specs.Positions.{Stands, Means, IsPositionOf, ArePositionsOf}
 use Rattle.lsp_text.proofs.ColumnLaws.{utf8_units, fitting_front, fitting_within, fitting_last}
-use Rattle.lsp_text.proofs.LineLaws.{none_append, behind_same, behind_shorter, behind_further, first_line_length, same_first_line, end_stops, end_long}
+use Rattle.lsp_text.proofs.LineLaws.{none_append, behind_same, behind_shorter, behind_further, end_stops, end_long}
 
 -- a character has a first byte
 first_byte : (c : ℕ) → (b : ℕ) × (bs : List ℕ) × (encode c ≡ b ∷ bs)

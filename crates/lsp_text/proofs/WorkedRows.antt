@@ -1,5 +1,5 @@
 -- The worked positions and changes hold.
-use Rattle.std.proofs.Common.{◌≡◌, ℕ, zero, suc, ◌+◌, ◌-◌, ◌<◌, ◌≤◌, List, [], ◌∷◌, ◌++◌, length, refl, sym, ap, ◌∙◌, subst, arith}
+use Rattle.std.proofs.Common.{◌≡◌, ℕ, ◌+◌, ◌<◌, ◌≤◌, List, [], ◌∷◌, ◌++◌, length, refl, sym, ap, ◌∙◌, arith}
 use Rattle.std.proofs.Common.{inl, inr, append_assoc}
 use Rattle.std.specs.Prelude.{◌⊎◌}
 use Rattle.std.specs.Str.{NonePass}
@@ -7,11 +7,10 @@ use Rattle.std.proofs.Math.Utf8.{encode, encodes}
 use Rattle.std.proofs.lemmas.Str.{encode_same}
 use Rattle.lsp_text.specs.declared.encoding.Encoding.{Encoding}
 use Rattle.lsp_text.specs.declared.encoding.Encoding.TheVariants.{Utf8, Utf16}
-use Rattle.lsp_text.specs.declared.positions.Position.{Position}
 use Rattle.lsp_text.specs.Units.{unit_count, units}
 use Rattle.lsp_text.specs.Lines.{is_line_end, feed, carriage, both, IsFirstLine, IsBehind, StopsLine}
 use Rattle.lsp_text.specs.Positions.{Stands, Means}
-use Rattle.lsp_text.specs.examples.Rows.{Rows, at, mixed, ended, first, second, third, between}
+use Rattle.lsp_text.specs.examples.Rows.{Rows, at, mixed, ended, first, second}
 use Rattle.lsp_text.proofs.LineLaws.{behind_same, no_line}
 use Rattle.lsp_text.proofs.PlaceLaws.{within_line}
 use Rattle.lsp_text.proofs.Meanings.{means_itself}

@@ -1,5 +1,5 @@
 -- Lines as the protocol has them: each ends with a line feed, a carriage return, or both in this order.
-use Rattle.std.specs.Prelude.{◌≡◌, ℕ, zero, suc, List, [], ◌∷◌, ◌++◌, length, Bool, true, false, ◌==◌, ◌||◌, ⊤}
+use Rattle.std.specs.Prelude.{◌≡◌, ℕ, zero, suc, List, [], ◌∷◌, ◌++◌, Bool, true, false, ◌==◌, ◌||◌, ⊤}
 use Rattle.std.specs.Str.{NonePass}
 
 -- a byte of a line's end

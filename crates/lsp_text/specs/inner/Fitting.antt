@@ -1,5 +1,5 @@
 -- How many characters of a line are within a limit, and how the end of a line is read.
-use Rattle.std.specs.Prelude.{◌≡◌, ℕ, ◌-◌, ◌<◌, List, [], ◌∷◌, ◌++◌, length, slice_index, nat_lt, true, if◌then◌else◌}
+use Rattle.std.specs.Prelude.{◌≡◌, ℕ, ◌-◌, List, [], ◌∷◌, ◌++◌, length, nat_lt, true, if◌then◌else◌}
 use Rattle.lsp_text.specs.declared.encoding.Encoding.{Encoding}
 use Rattle.lsp_text.specs.Units.{unit_count}
 use Rattle.lsp_text.specs.Lines.{End, spell, MayStand, is_line_end}

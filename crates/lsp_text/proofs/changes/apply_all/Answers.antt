@@ -1,4 +1,4 @@
-use Rattle.std.proofs.Common.{◌≡◌, ◌<◌, ◌≤◌, length, string_bytes, subst, arith}
+use Rattle.std.proofs.Common.{◌<◌, length, string_bytes, subst, arith}
 use Rattle.lsp_text.specs.declared.changes.Change.{Change}
 use Rattle.lsp_text.specs.Changes.{IsChanged}
 use Rattle.lsp_text.proofs.ChangeLaws.{one_more, no_more}

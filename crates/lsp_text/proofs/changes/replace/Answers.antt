@@ -1,4 +1,4 @@
-use Rattle.std.proofs.Common.{◌≡◌, List, ℕ, string_bytes, subst}
+use Rattle.std.proofs.Common.{List, ℕ, string_bytes, subst}
 use Rattle.lsp_text.specs.Positions.{Means}
 use Rattle.lsp_text.proofs.ChangeLaws.{replaced}
 use Rattle.lsp_text.proofs.changes.replace.Goals as goal

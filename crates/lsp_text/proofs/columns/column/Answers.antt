@@ -1,11 +1,10 @@
-use Rattle.std.proofs.Common.{◌≡◌, ℕ, ◌+◌, ◌-◌, ◌<◌, ◌≤◌, length, get_or, drop, List, ◌∷◌, [], ◌++◌, zero-add, subst, sym, ap, ◌∙◌, arith, refl}
+use Rattle.std.proofs.Common.{◌≡◌, ◌≤◌, length, zero-add, ap, arith}
 use Rattle.std.specs.Str.{chars}
 use Rattle.std.proofs.lemmas.Iterator.{YieldsList-from_chars}
 use Rattle.std.proofs.lemmas.Iterator.Consumers.{YieldsList-turn, YieldsList-end}
 use Rattle.std.proofs.lemmas.List.{length_push}
 use Rattle.std.proofs.lemmas.Str.{encodes-chars}
-use Rattle.lsp_text.specs.Units.{units, unit_count}
-use Rattle.lsp_text.specs.inner.Fitting.{fitting}
+use Rattle.lsp_text.specs.Units.{unit_count}
 use Rattle.lsp_text.proofs.ColumnLaws.{units_short, column_step, column_stop, column_end, units_step, step_at, less_at}
 use Rattle.lsp_text.proofs.columns.column.Goals as goal
 

@@ -1,4 +1,4 @@
-use Rattle.std.proofs.Common.{◌≡◌, ℕ, ◌<◌, ◌≤◌, List, length, take, drop, subst, sym}
+use Rattle.std.proofs.Common.{ℕ, List, length, take, subst, sym}
 use Rattle.std.specs.Str.{NonePass, IsCharBoundary}
 use Rattle.memchr.specs.Find.{NoneBefore, Passes, is_byte2}
 use Rattle.lsp_text.specs.Lines.{is_line_end, IsFirstLine}

@@ -1,4 +1,4 @@
-use Rattle.std.proofs.Common.{◌≡◌, ◌<◌, length, refl, arith}
+use Rattle.std.proofs.Common.{◌<◌, length, refl, arith}
 use Rattle.lsp_text.proofs.OffsetLaws.{stopped_at}
 use Rattle.lsp_text.proofs.places.offset_of_place.Goals as goal
 

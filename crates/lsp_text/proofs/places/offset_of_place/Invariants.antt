@@ -1,4 +1,4 @@
-use Rattle.std.proofs.Common.{◌≡◌, ◌+◌, ◌<◌, ◌≤◌, length, take}
+use Rattle.std.proofs.Common.{◌≡◌, ◌+◌, ◌<◌, ◌≤◌}
 use Rattle.lsp_text.specs.Places.{here, place_at, IsReached}
 use Rattle.lsp_text.proofs.places.offset_of_place.Given as goal
 

@@ -1,5 +1,5 @@
-use Rattle.std.proofs.Common.{◌≡◌, ℕ, ◌+◌, ◌-◌, ◌<◌, ◌≤◌, suc, List, length, subst, sym, ap, add-one, arith}
-use Rattle.lsp_text.specs.Lines.{IsBehind, IsFirstLine}
+use Rattle.std.proofs.Common.{◌≡◌, ℕ, length, subst, sym, ap, add-one, arith}
+use Rattle.lsp_text.specs.Lines.{IsBehind}
 use Rattle.lsp_text.proofs.LineLaws.{behind_more, same_first_line, no_first_line}
 use Rattle.lsp_text.proofs.LineFinds.{after_utf8}
 use Rattle.lsp_text.proofs.positions.line_from.Goals as goal

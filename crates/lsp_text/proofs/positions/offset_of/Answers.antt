@@ -1,5 +1,4 @@
-use Rattle.std.proofs.Common.{◌≡◌, ℕ, ◌+◌, ◌-◌, ◌<◌, ◌≤◌, suc, List, length, subst, sym, ap, add-one, refl, inr, arith}
-use Rattle.lsp_text.specs.declared.encoding.Encoding.TheVariants.{Utf8}
+use Rattle.std.proofs.Common.{◌≡◌, ℕ, ◌<◌, subst, sym, add-one, refl, inr, arith}
 use Rattle.lsp_text.specs.Lines.{IsBehind}
 use Rattle.lsp_text.proofs.LineLaws.{behind_more, no_line}
 use Rattle.lsp_text.proofs.LineFinds.{after_utf8}

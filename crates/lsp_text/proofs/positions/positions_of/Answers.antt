@@ -1,4 +1,4 @@
-use Rattle.std.proofs.Common.{◌≡◌, ◌+◌, ◌<◌, length, List, take, subst, sym, arith}
+use Rattle.std.proofs.Common.{◌+◌, ◌<◌, length, List, take, subst, sym, arith}
 use Rattle.lsp_text.specs.declared.positions.Position.{Position}
 use Rattle.lsp_text.specs.Positions.{ArePositionsOf}
 use Rattle.lsp_text.proofs.PlaceLaws.{positions_more}

@@ -1,6 +1,6 @@
 use denote.Shadow.{shadow}
 use denote.Text.{Utf8}
-use Rattle.std.proofs.Common.{◌≡◌, ◌+◌, ◌≤◌, length, take}
+use Rattle.std.proofs.Common.{◌+◌, ◌≤◌, length, take}
 use Rattle.lsp_text.specs.Lines.{IsBehind}
 use Rattle.lsp_text.specs.Positions.{ArePositionsOf}
 use Rattle.lsp_text.proofs.positions.positions_of.Given as goal

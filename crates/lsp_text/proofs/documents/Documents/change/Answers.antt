@@ -4,7 +4,7 @@ use Rattle.std.specs.Option.{option_map}
 use Rattle.std.proofs.lemmas.Int.{to_z-of_z}
 use Rattle.std.proofs.lemmas.Map.Text.{btree_map_updates_text}
 use Rattle.lsp_text.specs.declared.documents.Document.{Document}
-use Rattle.lsp_text.specs.Documents.{shown, Puts, Standing}
+use Rattle.lsp_text.specs.Documents.{shown, Puts}
 use Rattle.lsp_text.proofs.DocumentLaws.{put_at}
 use Rattle.lsp_text.proofs.documents.Documents.change.Goals as goal
 
