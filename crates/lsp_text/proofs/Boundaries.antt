@@ -1,5 +1,6 @@
 -- Where a character begins, a place stands.
-use Rattle.std.proofs.Common.{◌≡◌, ℕ, zero, suc, ◌+◌, ◌-◌, ◌<◌, ◌≤◌, List, [], ◌∷◌, ◌++◌, length, get_or, take, drop, Bool, true, false, refl, sym, ap, ◌∙◌, subst, arith}
+use Rattle.std.proofs.Common.{◌≡◌, ℕ, zero, suc, ◌+◌, ◌-◌, ◌<◌, ◌≤◌, List, [], ◌∷◌, ◌++◌, length, get_or, take, drop, Bool, true}
+use Rattle.std.proofs.Common.{false, refl, sym, ap, ◌∙◌, subst, arith}
 use Rattle.std.proofs.Common.{inl, inr, length-append, append_assoc}
 use Rattle.std.specs.Prelude.{◌⊎◌, ◌==◌}
 use Rattle.std.specs.Str.{NonePass, IsUtf8, IsCharBoundary, chars}
@@ -67,17 +68,19 @@ in_line e text line more o parts plain within utf8 at =
     let none : NonePass is_line_end (take o line) =
     (none_append is_line_end (take o line) (drop o line) (subst (NonePass is_line_end) (sym (take-append-drop o line)) plain)).0 in
     let rest : length (drop o text) ≡ length text - o = length-drop o text in
-    let whole : length text ≡ length line + length more = ap length parts ∙ length-append line more in
-    (units e (chars (take o text)), record {
-      rest = text;
-      before = chars (take o text);
-      behind = drop o text;
-      lines = refl;
-      cut = sym (take-append-drop o text) ∙ ap (λ (zs : List ℕ). zs ++ drop o text) (sym spelled);
-      plain = subst (NonePass is_line_end) (sym (spelled ∙ same)) none;
-      counts = refl;
-      here = omega arith;
-    })
+    let whole : length text ≡ length line + length more = ap length parts ∙ length-append line more in (
+      units e (chars (take o text)),
+      record {
+        rest = text;
+        before = chars (take o text);
+        behind = drop o text;
+        lines = refl;
+        cut = sym (take-append-drop o text) ∙ ap (λ (zs : List ℕ). zs ++ drop o text) (sym spelled);
+        plain = subst (NonePass is_line_end) (sym (spelled ∙ same)) none;
+        counts = refl;
+        here = omega arith;
+      },
+    )
 
 -- behind the first line
 drop_front : (front a : List ℕ) (k o : ℕ) → o ≡ length front + k → drop o (front ++ a) ≡ drop k a

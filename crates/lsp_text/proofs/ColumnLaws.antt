@@ -1,5 +1,6 @@
 -- What characters count, and their longest beginning within a limit.
-use Rattle.std.proofs.Common.{◌≡◌, ℕ, ◌+◌, ◌-◌, ◌<◌, ◌≤◌, List, [], ◌∷◌, ◌++◌, length, get_or, drop, Bool, true, false, refl, sym, ap, ◌∙◌, subst, arith, length-append}
+use Rattle.std.proofs.Common.{◌≡◌, ℕ, ◌+◌, ◌-◌, ◌<◌, ◌≤◌, List, [], ◌∷◌, ◌++◌, length, get_or, drop, Bool, true, false, refl, sym}
+use Rattle.std.proofs.Common.{ap, ◌∙◌, subst, arith, length-append}
 use Rattle.std.specs.Prelude.{nat_lt, if◌then◌else◌}
 use Rattle.std.proofs.Math.Utf8.{encode, encodes}
 use Rattle.std.proofs.lemmas.Str.{length-encode, len_utf8_bounds}
@@ -47,6 +48,7 @@ fitting_within e limit (c ∷ cs) = within e limit c (fitting e (limit - unit_co
   go u limit e c fs false is h t = let low : u ≤ limit = not_below limit u h in omega arith where
     not_below : (a b : ℕ) → nat_lt a b ≡ false → b ≤ a
     not_below a b h = grind (arith, nat_tests)
+
   within : (e : Encoding) (limit c : ℕ) (fs : List ℕ) → units e fs ≤ limit - unit_count e c →
       units e (if nat_lt limit (unit_count e c) then [] else c ∷ fs) ≤ limit
   within e limit c fs t = go (unit_count e c) limit e c fs (nat_lt limit (unit_count e c)) refl refl t
@@ -61,8 +63,8 @@ fitting_last e limit (c ∷ bs) ds h =
     let test : nat_lt limit (unit_count e c) ≡ false = at_least limit (unit_count e c) low in
     subst (λ (b : Bool). unit_count e c + units e bs ≤ units e (if b then [] else c ∷ fitting e (limit - unit_count e c) (bs ++ ds)))
     (sym test) (omega arith) where
-  at_least : (a b : ℕ) → b ≤ a → nat_lt a b ≡ false
-  at_least a b h = grind (arith, nat_tests)
+      at_least : (a b : ℕ) → b ≤ a → nat_lt a b ≡ false
+      at_least a b h = grind (arith, nat_tests)
 
 -- the character of a turn is the first of those that are left
 pub drop_turn : (cs : List ℕ) (n c : ℕ) → (n < length cs) × (c ≡ get_or cs n c) → drop n cs ≡ c ∷ drop (n + 1) cs
@@ -79,8 +81,8 @@ module _ (within counted : Encoding) (cs : List ℕ) (n c count left total : ℕ
       (λ (b : Bool). count + units counted (if b then [] else c ∷ fitting within (left - unit_count within c) (drop (n + 1) cs)) ≡ total)
       test here in
       omega (arith, rest) where
-    at_least : (a b : ℕ) → b ≤ a → nat_lt a b ≡ false
-    at_least a b h = grind (arith, nat_tests)
+        at_least : (a b : ℕ) → b ≤ a → nat_lt a b ≡ false
+        at_least a b h = grind (arith, nat_tests)
 
   -- a character that isn't
   pub column_stop : left < unit_count within c → count + units counted (fitting within left (drop n cs)) ≡ total → count ≡ total
@@ -91,8 +93,8 @@ module _ (within counted : Encoding) (cs : List ℕ) (n c count left total : ℕ
       (λ (b : Bool). count + units counted (if b then [] else c ∷ fitting within (left - unit_count within c) (drop (n + 1) cs)) ≡ total)
       test here in
       omega (arith, rest) where
-    below : (a b : ℕ) → a < b → nat_lt a b ≡ true
-    below a b h = grind (arith, nat_tests)
+        below : (a b : ℕ) → a < b → nat_lt a b ≡ true
+        below a b h = grind (arith, nat_tests)
 
   -- what is left to count
   pub units_step : count + units counted (drop n cs) ≤ total → (count + unit_count counted c) + units counted (drop (n + 1) cs) ≤ total

@@ -1,5 +1,6 @@
 -- What a search for a line's end finds.
-use Rattle.std.proofs.Common.{◌≡◌, ℕ, suc, ◌+◌, ◌<◌, List, [], ◌∷◌, ◌++◌, length, get_or, take, drop, Bool, true, false, refl, sym, ap, ◌∙◌, subst, arith}
+use Rattle.std.proofs.Common.{◌≡◌, ℕ, suc, ◌+◌, ◌<◌, List, [], ◌∷◌, ◌++◌, length, get_or, take, drop, Bool, true, false, refl}
+use Rattle.std.proofs.Common.{sym, ap, ◌∙◌, subst, arith}
 use Rattle.std.proofs.Common.{length-append, add-one}
 use Rattle.std.specs.Str.{NonePass, IsUtf8, IsCharBoundary}
 use Rattle.std.proofs.Math.Seq.{drop-append_seam, get_or-append_seam}
@@ -43,10 +44,10 @@ pub end_boundary : (end : List ℕ) (n : ℕ) → IsUtf8 end → IsEndLength end
 end_boundary end n utf8 e =
     subst (IsCharBoundary end) (sym e.long)
     (subst (λ (zs : List ℕ). IsCharBoundary zs (length (spell e.ending))) (sym e.spells) (go e.ending e.after (subst IsUtf8 e.spells utf8))) where
-  go : (f : End) (after : List ℕ) → IsUtf8 (spell f ++ after) → IsCharBoundary (spell f ++ after) (length (spell f))
-  go feed after u = IsCharBoundary-after_ascii (10 ∷ after) 0 u (omega arith) (omega arith)
-  go carriage after u = IsCharBoundary-after_ascii (13 ∷ after) 0 u (omega arith) (omega arith)
-  go both after u = IsCharBoundary-after_ascii (13 ∷ 10 ∷ after) 1 u (omega arith) (omega arith)
+      go : (f : End) (after : List ℕ) → IsUtf8 (spell f ++ after) → IsCharBoundary (spell f ++ after) (length (spell f))
+      go feed after u = IsCharBoundary-after_ascii (10 ∷ after) 0 u (omega arith) (omega arith)
+      go carriage after u = IsCharBoundary-after_ascii (13 ∷ after) 0 u (omega arith) (omega arith)
+      go both after u = IsCharBoundary-after_ascii (13 ∷ 10 ∷ after) 1 u (omega arith) (omega arith)
 
 -- the line ends with the text
 pub whole_line : (text : List ℕ) → NonePass is_line_end text → IsLineOf text text

@@ -1,5 +1,6 @@
 -- Mungo's places grow with the offset.
-use Rattle.std.proofs.Common.{◌≡◌, ℕ, zero, suc, ◌+◌, ◌<◌, ◌≤◌, List, [], ◌∷◌, ◌++◌, length, get_or, take, Bool, true, false, refl, sym, ap, ◌∙◌, subst, arith}
+use Rattle.std.proofs.Common.{◌≡◌, ℕ, zero, suc, ◌+◌, ◌<◌, ◌≤◌, List, [], ◌∷◌, ◌++◌, length, get_or, take, Bool, true, false}
+use Rattle.std.proofs.Common.{refl, sym, ap, ◌∙◌, subst, arith}
 use Rattle.std.proofs.Common.{inl, inr, length-append, length-take-le}
 use Rattle.std.specs.Prelude.{◌⊎◌, if◌then◌else◌, ◌==◌}
 use Rattle.mg_text.specs.declared.place.Place.{Place}
@@ -79,9 +80,9 @@ stopped text w i less reached beyond =
       reached = reached;
       last = λ o within here. by o here (order o (i + 1));
     } where
-  by : (o : ℕ) → IsReached (place_at w.file text o) w → (o < i + 1) ⊎ (i + 1 ≤ o) → o ≤ i
-  by o here (inl low) = omega arith
-  by o here (inr high) = absurd (beyond (last_reached w.file text w (i + 1) o high here))
+      by : (o : ℕ) → IsReached (place_at w.file text o) w → (o < i + 1) ⊎ (i + 1 ≤ o) → o ≤ i
+      by o here (inl low) = omega arith
+      by o here (inr high) = absurd (beyond (last_reached w.file text w (i + 1) o high here))
 
 -- all bytes are passed
 pub ended : (text : List ℕ) (w : Place) (i : ℕ) → i ≡ length text → (0 < i → IsReached (place_at w.file text i) w) → IsOffsetOf text w i
@@ -105,20 +106,21 @@ own_offset file text o p within h =
     let reached = subst (λ (f : ℕ). 0 < p → IsReached (place_at f text p) (place_at file text o)) same h.reached in
     let last = subst (λ (f : ℕ). (q : ℕ) → q ≤ length text → IsReached (place_at f text q) (place_at file text o) → q ≤ p) same h.last in
     by (order o p) (last o within (inr (refl, omega arith))) reached where
-  beyond : o < p → IsReached (place_at file text p) (place_at file text o) → (more : List ℕ) × (take p text ≡ take o text ++ more) → ⊥
-  beyond less reached ([], e) =
-      let same : length (take p text) ≡ length (take o text ++ []) = ap length e in
-      let left : length (take p text) ≡ p = length-take-le p text h.within in
-      let right : length (take o text) ≡ o = length-take-le o text within in
-      let join : length (take o text ++ []) ≡ length (take o text) + 0 = length-append (take o text) [] in
-      omega arith
-  beyond less reached (b ∷ bs, e) =
-      let at : place_at file text p ≡ place_after (place_at file text o) (b ∷ bs) =
-      ap (λ (zs : List ℕ). place_after (start_of file) zs) e ∙ place_append (start_of file) (take o text) (b ∷ bs) in
-      never_back (place_at file text o) b bs (subst (λ (z : Place). IsReached z (place_at file text o)) at reached)
-  by : (o < p) ⊎ (p ≤ o) → o ≤ p → (0 < p → IsReached (place_at file text p) (place_at file text o)) → p ≡ o
-  by (inr high) low reached = omega arith
-  by (inl more) low reached = absurd (beyond more (reached (omega arith)) (take_parts o p text (omega arith)))
+      beyond : o < p → IsReached (place_at file text p) (place_at file text o) → (more : List ℕ) × (take p text ≡ take o text ++ more) → ⊥
+      beyond less reached ([], e) =
+          let same : length (take p text) ≡ length (take o text ++ []) = ap length e in
+          let left : length (take p text) ≡ p = length-take-le p text h.within in
+          let right : length (take o text) ≡ o = length-take-le o text within in
+          let join : length (take o text ++ []) ≡ length (take o text) + 0 = length-append (take o text) [] in
+          omega arith
+      beyond less reached (b ∷ bs, e) =
+          let at : place_at file text p ≡ place_after (place_at file text o) (b ∷ bs) =
+          ap (λ (zs : List ℕ). place_after (start_of file) zs) e ∙ place_append (start_of file) (take o text) (b ∷ bs) in
+          never_back (place_at file text o) b bs (subst (λ (z : Place). IsReached z (place_at file text o)) at reached)
+
+      by : (o < p) ⊎ (p ≤ o) → o ≤ p → (0 < p → IsReached (place_at file text p) (place_at file text o)) → p ≡ o
+      by (inr high) low reached = omega arith
+      by (inl more) low reached = absurd (beyond more (reached (omega arith)) (take_parts o p text (omega arith)))
 
 get_or_same : (xs : List ℕ) (i d e : ℕ) → i < length xs → get_or xs i d ≡ get_or xs i e
 get_or_same [] i d e less = absurd (omega arith)

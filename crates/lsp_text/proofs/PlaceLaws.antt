@@ -1,5 +1,6 @@
 -- The places of a text: what characters stand before one in its line, and which place is the last within a limit.
-use Rattle.std.proofs.Common.{◌≡◌, ℕ, zero, suc, ◌+◌, ◌-◌, ◌<◌, ◌≤◌, List, [], ◌∷◌, ◌++◌, length, get_or, take, drop, Bool, true, false, refl, sym, ap, ◌∙◌, subst, arith}
+use Rattle.std.proofs.Common.{◌≡◌, ℕ, zero, suc, ◌+◌, ◌-◌, ◌<◌, ◌≤◌, List, [], ◌∷◌, ◌++◌, length, get_or, take, drop, Bool, true}
+use Rattle.std.proofs.Common.{false, refl, sym, ap, ◌∙◌, subst, arith}
 use Rattle.std.proofs.Common.{length-append, append_assoc}
 use Rattle.std.specs.Prelude.{◌⊎◌, nat_lt}
 use Rattle.std.specs.Str.{NonePass, IsUtf8, IsCharBoundary, chars}
@@ -61,10 +62,12 @@ pub front_of : (n : ℕ) (text rest : List ℕ) → IsBehind n text rest → (fr
 front_of zero text rest h = ([], h)
 front_of (suc n) text rest h =
     let f = front_of n h.1 rest h.3 in
-    let first = h.2 in
-    (h.0 ++ (spell first.ending ++ f.0), first.spells ∙ ap (λ (z : List ℕ). h.0 ++ (spell first.ending ++ z)) f.1
-    ∙ ap (λ (z : List ℕ). h.0 ++ z) (sym (append_assoc (spell first.ending) f.0 rest))
-    ∙ sym (append_assoc h.0 (spell first.ending ++ f.0) rest))
+    let first = h.2 in (
+      h.0 ++ (spell first.ending ++ f.0),
+      first.spells ∙ ap (λ (z : List ℕ). h.0 ++ (spell first.ending ++ z)) f.1
+          ∙ ap (λ (z : List ℕ). h.0 ++ z) (sym (append_assoc (spell first.ending) f.0 rest))
+          ∙ sym (append_assoc h.0 (spell first.ending ++ f.0) rest),
+    )
 
 -- the characters of the line that are within a limit, and the place behind them
 module _ (encoding limits : Encoding) (limit n : ℕ) (text rest line : List ℕ) (behind : IsBehind n text rest) (is : IsLineOf rest line)
@@ -77,9 +80,12 @@ module _ (encoding limits : Encoding) (limit n : ℕ) (text rest line : List ℕ
 
   cut : (ds : List ℕ) × (chars line ≡ found ++ ds) × (rest ≡ encodes found ++ (encodes ds ++ is.more))
   cut =
-      let f = fitting_front limits limit (chars line) in
-      (f.0, f.1, sym spelled ∙ ap (λ (z : List ℕ). encodes z ++ is.more) f.1 ∙ ap (λ (z : List ℕ). z ++ is.more) (encodes-append found f.0)
-      ∙ append_assoc (encodes found) (encodes f.0) is.more)
+      let f = fitting_front limits limit (chars line) in (
+        f.0,
+        f.1,
+        sym spelled ∙ ap (λ (z : List ℕ). encodes z ++ is.more) f.1 ∙ ap (λ (z : List ℕ). z ++ is.more) (encodes-append found f.0)
+            ∙ append_assoc (encodes found) (encodes f.0) is.more,
+      )
 
   plain : NonePass is_line_end (encodes found)
   plain =

@@ -28,11 +28,11 @@ compare e (b ∷ bs) (c ∷ cs) x y d h =
     (sym (append_assoc (encode b) (encodes bs) x) ∙ h ∙ append_assoc (encode c) (encodes cs) (encode d ++ y)) in
     let count : unit_count e b ≡ unit_count e c = ap (λ (z : ℕ). unit_count e z) one.0 in
     by count (compare e bs cs x y d one.1) where
-  by : unit_count e b ≡ unit_count e c → (units e bs ≤ units e cs) ⊎ (units e cs + unit_count e d ≤ units e bs) →
-      (unit_count e b + units e bs ≤ unit_count e c + units e cs) ⊎
-      ((unit_count e c + units e cs) + unit_count e d ≤ unit_count e b + units e bs)
-  by count (inl low) = inl (omega arith)
-  by count (inr high) = inr (omega arith)
+      by : unit_count e b ≡ unit_count e c → (units e bs ≤ units e cs) ⊎ (units e cs + unit_count e d ≤ units e bs) →
+          (unit_count e b + units e bs ≤ unit_count e c + units e cs) ⊎
+          ((unit_count e c + units e cs) + unit_count e d ≤ unit_count e b + units e bs)
+      by count (inl low) = inl (omega arith)
+      by count (inr high) = inr (omega arith)
 
 -- a position before the end of a character means its beginning
 means_within : (e : Encoding) (text : List ℕ) (l c o d character : ℕ) (y : List ℕ) (s : Stands e text l c o) → s.behind ≡ encode d ++ y →
@@ -45,12 +45,12 @@ means_within e text l c o d character y s next low high =
       last = λ k p t le. by k p t le (compare e t.before s.before t.behind y d
           (sym t.cut ∙ behind_same l text t.rest s.rest t.lines s.lines ∙ s.cut ∙ ap (λ (zs : List ℕ). encodes s.before ++ zs) next));
     }) where
-  by : (k p : ℕ) (t : Stands e text l k p) → k ≤ character →
-      (units e t.before ≤ units e s.before) ⊎ (units e s.before + unit_count e d ≤ units e t.before) → k ≤ c
-  by k p t le (inl less) =
-      let a : k ≡ units e t.before = t.counts in let b : c ≡ units e s.before = s.counts in omega arith
-  by k p t le (inr more) =
-      let a : k ≡ units e t.before = t.counts in let b : c ≡ units e s.before = s.counts in absurd (omega arith)
+      by : (k p : ℕ) (t : Stands e text l k p) → k ≤ character →
+          (units e t.before ≤ units e s.before) ⊎ (units e s.before + unit_count e d ≤ units e t.before) → k ≤ c
+      by k p t le (inl less) =
+          let a : k ≡ units e t.before = t.counts in let b : c ≡ units e s.before = s.counts in omega arith
+      by k p t le (inr more) =
+          let a : k ≡ units e t.before = t.counts in let b : c ≡ units e s.before = s.counts in absurd (omega arith)
 
 units_append : (e : Encoding) (xs ys : List ℕ) → units e xs ≤ units e (xs ++ ys)
 units_append e [] ys = omega arith
@@ -67,13 +67,13 @@ means_end e text l c o character s stops low =
       last = λ k p t le. by k p t (within_line t.before s.before t.behind s.behind
           (sym t.cut ∙ behind_same l text t.rest s.rest t.lines s.lines ∙ s.cut) t.plain stops);
     }) where
-  by : (k p : ℕ) (t : Stands e text l k p) → (ds : List ℕ) × (s.before ≡ t.before ++ ds) × (t.behind ≡ encodes ds ++ s.behind) → k ≤ c
-  by k p t w =
-      let a : k ≡ units e t.before = t.counts in
-      let b : c ≡ units e s.before = s.counts in
-      let more : units e t.before ≤ units e (t.before ++ w.0) = units_append e t.before w.0 in
-      let same : units e s.before ≡ units e (t.before ++ w.0) = ap (λ (zs : List ℕ). units e zs) w.1 in
-      omega arith
+      by : (k p : ℕ) (t : Stands e text l k p) → (ds : List ℕ) × (s.before ≡ t.before ++ ds) × (t.behind ≡ encodes ds ++ s.behind) → k ≤ c
+      by k p t w =
+          let a : k ≡ units e t.before = t.counts in
+          let b : c ≡ units e s.before = s.counts in
+          let more : units e t.before ≤ units e (t.before ++ w.0) = units_append e t.before w.0 in
+          let same : units e s.before ≡ units e (t.before ++ w.0) = ap (λ (zs : List ℕ). units e zs) w.1 in
+          omega arith
 
 -- in a line that isn't there it means the end
 means_no_line : (e : Encoding) (text : List ℕ) (i l character : ℕ) (rest : List ℕ) → IsBehind i text rest → NonePass is_line_end rest → i < l →
@@ -162,9 +162,12 @@ behind_two : IsBehind 2 ended (99 ∷ 10 ∷ 100 ∷ [])
 behind_two = (97 ∷ [], 98 ∷ 13 ∷ 99 ∷ 10 ∷ 100 ∷ [], first_line, (98 ∷ [], 99 ∷ 10 ∷ 100 ∷ [], next_line, refl))
 
 behind_three : IsBehind 3 ended (100 ∷ [])
-behind_three =
-    (97 ∷ [], 98 ∷ 13 ∷ 99 ∷ 10 ∷ 100 ∷ [], first_line,
-    (98 ∷ [], 99 ∷ 10 ∷ 100 ∷ [], next_line, (99 ∷ [], 100 ∷ [], last_line, refl)))
+behind_three = (
+  97 ∷ [],
+  98 ∷ 13 ∷ 99 ∷ 10 ∷ 100 ∷ [],
+  first_line,
+  (98 ∷ [], 99 ∷ 10 ∷ 100 ∷ [], next_line, (99 ∷ [], 100 ∷ [], last_line, refl)),
+)
 
 -- where a line begins a place stands, and behind a character of ASCII another
 begins : (e : Encoding) (text : List ℕ) (l o : ℕ) (rest : List ℕ) → IsBehind l text rest → o + length rest ≡ length text → Stands e text l 0 o

@@ -40,13 +40,7 @@ pub fn offset_of(text: &str, position: Position, encoding: Encoding) -> usize
 }
 
 // The position of the last place before or at an offset, which stands in the first line of the rest.
-fn position_in(
-    text: &str,
-    rest: &str,
-    line: usize,
-    offset: usize,
-    encoding: Encoding,
-) -> Position
+fn position_in(text: &str, rest: &str, line: usize, offset: usize, encoding: Encoding) -> Position
     requires { IsLineAt text.now offset line rest.now }
     ensures { IsPositionOf encoding text.now offset result }
 {

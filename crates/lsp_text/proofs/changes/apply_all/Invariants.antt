@@ -5,4 +5,4 @@ use Rattle.lsp_text.proofs.changes.apply_all.Given as goal
 abbrev pub invariant-loop-change : goal.invariant-loop-change
 invariant-loop-change l =
     (last : List ℕ) → AreApplied l.encoding (drop l.change-index l.changes) (string_bytes l.text) last
-        → AreApplied l.encoding l.changes (string_bytes l.initial.text) last
+    → AreApplied l.encoding l.changes (string_bytes l.initial.text) last

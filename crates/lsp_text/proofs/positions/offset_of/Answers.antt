@@ -8,8 +8,11 @@ use Rattle.lsp_text.proofs.positions.offset_of.Goals as goal
 pub returns-in-None-clause-means : goal.returns-in-None-clause-means
 returns-in-None-clause-means c =
     let less : c.loop-line._line < c.args.position.line = omega arith in
-    inr ((λ r. no_line c.loop-line._line c.args.position.line c.args.text.now c.loop-line.rest.now r c.loop-line.invariant.behind
-    c.in-None.ensures.line less), refl)
+    inr (
+      (λ r. no_line c.loop-line._line c.args.position.line c.args.text.now c.loop-line.rest.now r c.loop-line.invariant.behind
+          c.in-None.ensures.line less),
+      refl,
+    )
 
 pub loop-line-preserved : goal.loop-line-preserved
 loop-line-preserved c =
