@@ -15,6 +15,12 @@ pub fn one_meaning()
         → Means e text position o → Means e text position p → o ≡ p }
 {}
 
+/// An offset has one position.
+pub fn one_position()
+    ensures { (e : Encoding) (text : List ℕ) (o : ℕ) (p q : Position)
+        → IsPositionOf e text o p → IsPositionOf e text o q → p ≡ q }
+{}
+
 /// The position of a place means that place.
 pub fn there_and_back()
     ensures { (e : Encoding) (text : List ℕ) (l c o p : ℕ) (position : Position)
