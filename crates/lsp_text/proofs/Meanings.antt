@@ -97,6 +97,7 @@ one_place e text l m c d o s t = by (order l m) (order m l) where
       let before : o + length v.rest < length text = stands_before e text j a o k v.rest u v.lines less in
       let from : o + length v.rest ≡ length text + length (encodes v.before) = stands_from e text k b o v.rest v v.lines in
       omega arith
+
   by : (l < m) ⊎ (m ≤ l) → (m < l) ⊎ (l ≤ m) → (l ≡ m) × (c ≡ d)
   by (inl less) _ = absurd (never l m c d s t less)
   by (inr _) (inl more) = absurd (never m l d c t s more)

@@ -1,13 +1,13 @@
 -- Mungo's places grow with the offset.
-use Rattle.std.proofs.Common.{◌≡◌, ℕ, zero, suc, ◌+◌, ◌<◌, ◌≤◌, List, [], ◌∷◌, ◌++◌, length, get_or, take, Bool, true, false}
+use Rattle.std.proofs.Common.{◌≡◌, ℕ, zero, suc, ◌+◌, ◌-◌, ◌<◌, ◌≤◌, List, [], ◌∷◌, ◌++◌, length, get_or, take, drop, Bool, true, false}
 use Rattle.std.proofs.Common.{refl, sym, ap, ◌∙◌, subst, arith}
 use Rattle.std.proofs.Common.{inl, inr, length-append, length-take-le}
 use Rattle.std.specs.Prelude.{◌⊎◌, if◌then◌else◌, ◌==◌}
 use Rattle.mg_text.specs.declared.place.Place.{Place}
 use Rattle.mg_text.specs.Places.{start_of, step, place_after}
-use Rattle.std.proofs.lemmas.List.{take_more}
+use Rattle.std.proofs.lemmas.List.{take_more, length-drop, get_or-drop}
 use Rattle.lsp_text.proofs.PlaceLaws.{order}
-use Rattle.lsp_text.specs.Places.{here, place_at, IsReached, IsOffsetOf}
+use Rattle.lsp_text.specs.Places.{here, place_at, IsReached, IsOffsetOf, AreOffsetsOf}
 
 -- the place behind a byte is behind the place before it
 abbrev IsBeyond : Place → Place → Type 0
@@ -127,16 +127,52 @@ get_or_same [] i d e less = absurd (omega arith)
 get_or_same (x ∷ xs) zero d e less = refl
 get_or_same (x ∷ xs) (suc i) d e less = get_or_same xs i d e (omega arith)
 
--- the same, with the numbers that the code has
-pub stopped_at : (text items : List ℕ) (w : Place) (i offset line column next_line next_column b : ℕ) → items ≡ text → i < length items →
-    offset ≡ i → here w.file line column ≡ place_at w.file text i → (0 < i → IsReached (place_at w.file text i) w) → b ≡ get_or items i 0 →
-    here w.file next_line next_column ≡ step (here w.file line column) b → ¬ IsReached (here w.file next_line next_column) w →
-    IsOffsetOf text w offset
-stopped_at text items w i offset line column next_line next_column b same less at so_far reached is next beyond =
-    let long : length items ≡ length text = ap length same in
-    let within : i < length text = omega arith in
-    let byte : b ≡ get_or text i b = is ∙ ap (λ (zs : List ℕ). get_or zs i 0) same ∙ get_or_same text i 0 b within in
-    let there : place_at w.file text (i + 1) ≡ here w.file next_line next_column =
-    place_next w.file text i b within byte ∙ ap (λ (p : Place). step p b) (sym so_far) ∙ sym next in
-    subst (IsOffsetOf text w) (sym at)
-    (stopped text w i within reached (λ h. beyond (subst (λ (p : Place). IsReached p w) there h)))
+-- a walk from one offset on: the byte of a turn, and the place behind it
+module _ (text ahead : List ℕ) (k i offset b : ℕ) (rest : ahead ≡ drop k text) (less : i < length ahead) (at : offset ≡ k + i)
+    (is : b ≡ get_or ahead i 0) where
+  within_text : offset < length text
+  within_text =
+      let long : length ahead ≡ length text - k = ap length rest ∙ length-drop k text in
+      omega arith
+
+  byte_here : b ≡ get_or text offset b
+  byte_here =
+      is ∙ ap (λ (zs : List ℕ). get_or zs i 0) rest ∙ get_or-drop k text i 0 ∙ ap (λ (z : ℕ). get_or text z 0) (sym at)
+      ∙ get_or_same text offset 0 b within_text
+
+  pub spot_next : (line column next_line next_column : ℕ) → ((file : ℕ) → here file line column ≡ place_at file text offset) →
+      ((file : ℕ) → here file next_line next_column ≡ step (here file line column) b) → (file : ℕ) →
+      here file next_line next_column ≡ place_at file text (offset + 1)
+  spot_next line column next_line next_column so_far next file =
+      next file ∙ ap (λ (p : Place). step p b) (so_far file) ∙ sym (place_next file text offset b within_text byte_here)
+
+  pub spot_stops : (w : Place) (line column next_line next_column : ℕ) → ((file : ℕ) → here file line column ≡ place_at file text offset) →
+      ((file : ℕ) → here file next_line next_column ≡ step (here file line column) b) →
+      (0 < offset → IsReached (here w.file line column) w) → ¬ IsReached (here w.file next_line next_column) w → IsOffsetOf text w offset
+  spot_stops w line column next_line next_column so_far next reached beyond =
+      let there = spot_next line column next_line next_column so_far next w.file in
+      stopped text w offset within_text (λ some. subst (λ (p : Place). IsReached p w) (so_far w.file) (reached some))
+      (λ h. beyond (subst (λ (p : Place). IsReached p w) (sym there) h))
+
+-- the walk has passed all bytes
+pub spot_ends : (text ahead : List ℕ) (w : Place) (k i offset line column : ℕ) → ahead ≡ drop k text → k ≤ length text → length ahead ≤ i →
+    offset ≡ k + i → offset ≤ length text → ((file : ℕ) → here file line column ≡ place_at file text offset) →
+    (0 < offset → IsReached (here w.file line column) w) → IsOffsetOf text w offset
+spot_ends text ahead w k i offset line column rest low done at high so_far reached =
+    let long : length ahead ≡ length text - k = ap length rest ∙ length-drop k text in
+    let all : offset ≡ length text = omega arith in
+    ended text w offset all (λ some. subst (λ (p : Place). IsReached p w) (so_far w.file) (reached some))
+
+-- one offset more
+pub offsets_push : (text : List ℕ) (ps : List Place) (os : List ℕ) (p : Place) (o : ℕ) → AreOffsetsOf text ps os → IsOffsetOf text p o →
+    AreOffsetsOf text (ps ++ p ∷ []) (os ++ o ∷ [])
+offsets_push text [] [] p o h one = (one, tt)
+offsets_push text [] (n ∷ os) p o h one = absurd h
+offsets_push text (q ∷ ps) [] p o h one = absurd h
+offsets_push text (q ∷ ps) (n ∷ os) p o h one = (h.0, offsets_push text ps os p o h.1 one)
+
+pub offsets_more : (text : List ℕ) (ps : List Place) (os : List ℕ) (i o : ℕ) (d : Place) → i < length ps → AreOffsetsOf text (take i ps) os →
+    IsOffsetOf text (get_or ps i d) o → AreOffsetsOf text (take (i + 1) ps) (os ++ o ∷ [])
+offsets_more text ps os i o d less h one =
+    subst (λ (zs : List Place). AreOffsetsOf text zs (os ++ o ∷ [])) (sym (take_more ps i d less))
+    (offsets_push text (take i ps) os (get_or ps i d) o h one)

@@ -1,5 +1,5 @@
 -- Offsets of mungo's places: their lines end with line feeds alone, their columns count bytes, and both begin with 1.
-use Rattle.std.specs.Prelude.{◌≡◌, ℕ, ◌<◌, ◌≤◌, List, length, take, ◌⊎◌}
+use Rattle.std.specs.Prelude.{◌≡◌, ℕ, ◌<◌, ◌≤◌, List, [], ◌∷◌, length, take, ◌⊎◌, ⊤}
 use Rattle.mg_text.specs.declared.place.Place.{Place}
 use Rattle.mg_text.specs.Places.{start_of, place_after}
 
@@ -20,3 +20,10 @@ pub record IsOffsetOf (text : List ℕ) (place : Place) (offset : ℕ) : Type 0 
   pub within : offset ≤ length text
   pub reached : 0 < offset → IsReached (place_at place.file text offset) place
   pub last : (o : ℕ) → o ≤ length text → IsReached (place_at place.file text o) place → o ≤ offset
+
+-- these are the offsets of these places, one for each
+abbrev pub AreOffsetsOf : List ℕ → List Place → List ℕ → Type 0
+AreOffsetsOf text [] [] = ⊤
+AreOffsetsOf text [] (o ∷ os) = ⊥
+AreOffsetsOf text (p ∷ ps) [] = ⊥
+AreOffsetsOf text (p ∷ ps) (o ∷ os) = IsOffsetOf text p o × AreOffsetsOf text ps os

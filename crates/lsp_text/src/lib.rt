@@ -15,7 +15,8 @@ pub use changes::{Change, Range, apply, apply_all};
 pub use documents::{ChangeFault, Document, Documents};
 pub use encoding::Encoding;
 pub use laws::{
-    boundaries_are_places, one_meaning, one_position, places_have_their_offsets, rows_hold, there_and_back,
+    boundaries_are_places, one_meaning, one_position, places_have_their_offsets, rows_hold,
+    there_and_back,
 };
-pub use places::{offset_of_place, position_of_place};
+pub use places::{offset_of_place, offsets_of_places, position_of_place};
 pub use positions::{Position, offset_of, position_of, positions_of};

@@ -1,13 +1,15 @@
 //! From places of mungo to offsets and positions. Mungo ends a line at a line feed alone, and counts a column in bytes.
 
-ghost use Rattle.std.specs.Prelude.{◌≡◌, ◌+◌, ◌<◌, ◌≤◌, ◌^◌, ℕ, MatchBool};
+ghost use Rattle.std.specs.Prelude.{◌≡◌, ◌+◌, ◌<◌, ◌≤◌, ◌^◌, ℕ, MatchBool, IfOk};
 ghost use Rattle.mg_text.specs.Places.{step};
-ghost use Rattle.lsp_text.specs.Places.{here, IsReached, IsOffsetOf};
+ghost use Rattle.lsp_text.specs.Places.{here, IsReached, IsOffsetOf, AreOffsetsOf};
+ghost use Rattle.lsp_text.specs.inner.Spots.{IsSpot};
 ghost use Rattle.lsp_text.specs.Positions.{IsPositionOf};
 
 use crate::encoding::Encoding;
 use crate::positions::{Position, position_of};
-use mg_text::Place;
+use mg_text::{Memory, Place};
+use std::alloc::Global;
 
 // The line and column behind a byte.
 fn behind_byte(line: usize, column: usize, byte: u8) -> (usize, usize)
@@ -34,23 +36,90 @@ fn is_reached(line: usize, column: usize, place: Place) -> bool
     line < place.line as usize
 }
 
-/// The offset in bytes that a place of mungo has in a text, whatever its file: the last one whose place isn't behind it.
-pub fn offset_of_place(text: &str, place: Place) -> usize
-    ensures { IsOffsetOf text.now place result }
+// Where a walk over a text has come to: how many bytes are passed, and the line and column behind them.
+#[derive(Clone, Copy)]
+struct Spot {
+    line: usize,
+    column: usize,
+    offset: usize,
+}
+
+// Where a text begins.
+fn beginning() -> Spot
+    ensures { result ≡ record { line = 1; column = 1; offset = 0 } }
 {
-    let mut line: usize = 1;
-    let mut column: usize = 1;
-    let mut offset = 0;
-    for byte in text.as_bytes() {
+    Spot {
+        line: 1,
+        column: 1,
+        offset: 0,
+    }
+}
+
+// The last spot that isn't behind a place, from one on that isn't.
+fn spot_from(text: &str, known: Spot, place: Place) -> Spot
+    requires spot { IsSpot text.now known }
+    requires reached { 0 < known.offset → IsReached (here place.file known.line known.column) place }
+    ensures spot { IsSpot text.now result }
+    ensures offset { IsOffsetOf text.now place result.offset }
+{
+    let (_, ahead) = text.as_bytes().split_at(known.offset);
+    let mut line = known.line;
+    let mut column = known.column;
+    let mut offset = known.offset;
+    for byte in ahead {
         let (next_line, next_column) = behind_byte(line, column, *byte);
         if !is_reached(next_line, next_column, place) {
-            return offset;
+            return Spot {
+                line,
+                column,
+                offset,
+            };
         }
         line = next_line;
         column = next_column;
         offset += 1;
     }
-    offset
+    Spot {
+        line,
+        column,
+        offset,
+    }
+}
+
+// The last spot that isn't behind a place, sought from a known one on, or from the text's start where that is behind it.
+fn spot_of(text: &str, known: Spot, place: Place) -> Spot
+    requires { IsSpot text.now known }
+    ensures spot { IsSpot text.now result }
+    ensures offset { IsOffsetOf text.now place result.offset }
+{
+    if is_reached(known.line, known.column, place) {
+        return spot_from(text, known, place);
+    }
+    spot_from(text, beginning(), place)
+}
+
+/// The offset in bytes that a place of mungo has in a text, whatever its file: the last one whose place isn't behind it.
+pub fn offset_of_place(text: &str, place: Place) -> usize
+    ensures { IsOffsetOf text.now place result }
+{
+    spot_from(text, beginning(), place).offset
+}
+
+/// The offsets that places of mungo have in a text, one for each in their order. Where the places ascend
+/// they are sought in one walk over the text.
+///
+/// # Errors
+/// `Memory` only.
+pub fn offsets_of_places(alloc: Global, text: &str, places: &[Place]) -> Result<Vec<usize>, Memory>
+    ensures { IfOk result (λ v. AreOffsetsOf text.now places.now v.items) }
+{
+    let mut offsets = Vec::with_capacity(alloc, places.len())?;
+    let mut spot = beginning();
+    for place in places {
+        spot = spot_of(text, spot, *place);
+        offsets.push(spot.offset)?;
+    }
+    Ok(offsets)
 }
 
 /// The position of a place of mungo in a text. Its lines may be more than mungo's: a carriage return
