@@ -1,5 +1,5 @@
 -- Which documents stand, and what an opening, a change and a closing make of them.
-use Rattle.std.specs.Prelude.{◌≡◌, ℕ, ℤ, List, Option, Some, string_bytes, if◌then◌else◌}
+use Rattle.std.specs.Prelude.{false, ◌≡◌, ℕ, ℤ, List, Option, Some, string_bytes, if◌then◌else◌}
 use Rattle.std.specs.Option.{option_map}
 use Rattle.std.specs.Str.{bytes_eq}
 use Rattle.std.specs.BTreeMap.{get_by_text}
@@ -24,6 +24,10 @@ document_at documents name = option_map shown (get_by_text documents.by_name nam
 -- at this name this stands, or nothing, and at every other what stood there before
 abbrev pub Puts : Documents → Documents → List ℕ → Option Standing → Type 0
 Puts old new name document = (q : List ℕ) → document_at new q ≡ (if bytes_eq name q then document else document_at old q)
+
+-- at every other name what stood there stays
+abbrev pub KeepsOthers : Documents → Documents → List ℕ → Type 0
+KeepsOthers old new name = (q : List ℕ) → bytes_eq name q ≡ false → document_at new q ≡ document_at old q
 
 -- the changes are made in the document of this name, which is open, and it has this version
 pub record Changes (encoding : Encoding) (old new : Documents) (name : List ℕ) (version : ℤ) (changes : List Change) : Type 0 where

@@ -45,7 +45,7 @@ impl Documents {
     ghost use Rattle.std.specs.Prelude.{◌≡◌, ℕ, List, None, Some, Err, OnOk, IfErr, string_bytes, is_some};
     ghost use Rattle.std.specs.Option.{option_map};
     ghost use Rattle.lsp_text.specs.declared.documents.ChangeFault.TheVariants.{NotOpen};
-    ghost use Rattle.lsp_text.specs.Documents.{shown, document_at, Puts, Changes};
+    ghost use Rattle.lsp_text.specs.Documents.{shown, document_at, Puts, Changes, KeepsOthers};
 
     /// No documents. Nothing is allocated before the first is opened.
     pub fn new(alloc: Global) -> Documents
@@ -87,7 +87,7 @@ impl Documents {
     ///
     /// # Errors
     /// `NotOpen` exactly where no document of this name is open; nothing has changed then. `Memory`,
-    /// where memory is wanted; some of the changes may then be made.
+    /// where memory is wanted; some of the changes may then be made. The other documents stay in any case.
     pub fn change(
         &mut self,
         name: &str,
@@ -98,6 +98,7 @@ impl Documents {
         ensures ok { OnOk result (Changes encoding self.old self.new name.now version changes.now) }
         ensures not_open { IfErr result (λ e. e ≡ NotOpen → (document_at self.old name.now ≡ None) × (self.new ≡ self.old)) }
         ensures open { document_at self.old name.now ≡ None → result ≡ Err NotOpen }
+        ensures others { KeepsOthers self.old self.new name.now }
     {
         match self.by_name.get_mut(name) {
             Some(document) => {
