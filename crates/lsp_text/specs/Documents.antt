@@ -1,5 +1,6 @@
 -- Which documents stand, and what an opening, a change and a closing make of them.
-use Rattle.std.specs.Prelude.{false, ◌≡◌, ℕ, ℤ, List, Option, Some, string_bytes, if◌then◌else◌}
+use Rattle.std.specs.Prelude.{false, String, ◌≡◌, ℕ, ℤ, List, Option, Some, string_bytes, if◌then◌else◌}
+use Rattle.std.specs.declared.alloc.Global.{Global}
 use Rattle.std.specs.Option.{option_map}
 use Rattle.std.specs.Str.{bytes_eq}
 use Rattle.std.specs.BTreeMap.{get_by_text}
@@ -16,6 +17,10 @@ pub record Standing : Type 0 where
 
 abbrev pub shown : Document → Standing
 shown d = record { version = d.version; text = string_bytes d.text }
+
+-- the documents with their names, as their map has them
+abbrev pub entries : Documents → List (String Global × Document)
+entries documents = documents.by_name.entries
 
 -- what stands at a name, if anything does
 abbrev pub document_at : Documents → List ℕ → Option Standing

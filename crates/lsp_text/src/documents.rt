@@ -4,7 +4,7 @@ use crate::changes::{Change, apply_all};
 use crate::encoding::Encoding;
 use mg_text::Memory;
 use std::alloc::Global;
-use std::collections::BTreeMap;
+use std::collections::{BTreeMap, btree_map};
 
 /// A document as it stands in the editor.
 #[derive(Debug, Drop)]
@@ -45,7 +45,9 @@ impl Documents {
     ghost use Rattle.std.specs.Prelude.{◌≡◌, ℕ, List, None, Some, Err, OnOk, IfErr, string_bytes, is_some};
     ghost use Rattle.std.specs.Option.{option_map};
     ghost use Rattle.lsp_text.specs.declared.documents.ChangeFault.TheVariants.{NotOpen};
-    ghost use Rattle.lsp_text.specs.Documents.{shown, document_at, Puts, Changes, KeepsOthers};
+    ghost use Rattle.lsp_text.specs.Documents.{shown, entries, document_at, Puts, Changes, KeepsOthers};
+    ghost use Rattle.std.specs.BTreeMap.{IsOrdered};
+    ghost use Rattle.std.specs.String.{string_cmp};
 
     /// No documents. Nothing is allocated before the first is opened.
     pub fn new(alloc: Global) -> Documents
@@ -61,6 +63,14 @@ impl Documents {
         ensures { option_map (λ d. shown d.now) result ≡ document_at self.now name.now }
     {
         self.by_name.get(name)
+    }
+
+    /// The documents with their names, in the order of the names' bytes.
+    pub fn iter(&self) -> btree_map::Iter<'_, String, Document>
+        ensures entries { result ≡ entries self.now }
+        ensures ordered { IsOrdered string_cmp self.now.by_name }
+    {
+        self.by_name.iter()
     }
 
     /// Opens a document: from then on this text and version stand at its name.
