@@ -1,0 +1,3 @@
+pub mod Fitting
+pub mod Walk
+pub mod Spots
