@@ -96,6 +96,60 @@ joined_all_either (k ∷ ks) (l ∷ ls) =
 pub raised_not_second : (ks ls : List Kind) → length ks ≡ length ls → is_raised ls ks ≡ false → joined_all ks ls ≡ ls
 raised_not_second ks ls n e = joined_all_either ks ls ∙ raised_not ls ks (sym n) e
 
+-- what both fit, the first joined once more
+number_itself : (k : ℕ) → joined_number k k ≡ k
+number_itself k = ap (λ (x : Kind). x.0) (joined_itself (record { 0 = k }))
+
+or_true : (a : Bool) → (a || true) ≡ true
+or_true true = refl
+or_true false = refl
+
+or_left : (a b : Bool) → (a || b) ≡ false → a ≡ false
+or_left true b e = cc e
+or_left false b e = refl
+
+number_any : (k : ℕ) → joined_number k 3 ≡ 3
+number_any k = go (nat_eq k 3) refl (nat_eq k 2) refl
+  where
+    go : (a : Bool) → nat_eq k 3 ≡ a → (c : Bool) → nat_eq k 2 ≡ c → joined_number k 3 ≡ 3
+    go true e c g = chain_is k 3 true true c false e (or_true (is_plain k)) g refl ∙ equal_true k 3 e
+    go false e c g = chain_is k 3 false true c false e (or_true (is_plain k)) g refl
+
+number_four : (k : ℕ) → is_plain k ≡ false → nat_eq k 2 ≡ false → joined_number k 4 ≡ 4
+number_four k p g = go (nat_eq k 4) refl
+  where
+    go : (a : Bool) → nat_eq k 4 ≡ a → joined_number k 4 ≡ 4
+    go true e = chain_is k 4 true false false false e (ap (λ b. b || false) p) g refl ∙ equal_true k 4 e
+    go false e = chain_is k 4 false false false false e (ap (λ b. b || false) p) g refl
+
+number_again : (k l : ℕ) → joined_number k (joined_number k l) ≡ joined_number k l
+number_again k l = go (nat_eq k l) refl (is_plain k || is_plain l) refl (nat_eq k 2) refl (nat_eq l 2) refl
+  where
+    at : (a b c d : Bool) → nat_eq k l ≡ a → (is_plain k || is_plain l) ≡ b → nat_eq k 2 ≡ c → nat_eq l 2 ≡ d →
+        joined_number k (chain k l a b c d) ≡ chain k l a b c d
+    at true b c d e f g h = number_itself k
+    at false true c d e f g h = number_any k
+    at false false true d e f g h = chain_is k l false false true d e f g h
+    at false false false true e f g h = number_itself k
+    at false false false false e f g h = number_four k (or_left (is_plain k) (is_plain l) f) g
+
+    go : (a : Bool) → nat_eq k l ≡ a → (b : Bool) → (is_plain k || is_plain l) ≡ b → (c : Bool) → nat_eq k 2 ≡ c → (d : Bool) →
+        nat_eq l 2 ≡ d → joined_number k (joined_number k l) ≡ joined_number k l
+    go a e b f c g d h =
+        ap (joined_number k) (chain_is k l a b c d e f g h) ∙ at a b c d e f g h ∙ sym (chain_is k l a b c d e f g h)
+
+pub raised_to : (ks ls : List Kind) → is_raised ks (joined_all ks ls) ≡ is_raised ks ls
+raised_to [] ls = refl
+raised_to (k ∷ ks) [] = refl
+raised_to (k ∷ ks) (l ∷ ls) = ap₂ (λ n b. not (nat_eq n k.0) || b) (number_again k.0 l.0) (raised_to ks ls)
+
+pub never_back : (ks ls : List Kind) → is_raised (joined_all ks ls) ks ≡ false
+never_back [] ls = refl
+never_back (k ∷ ks) [] = refl
+never_back (k ∷ ks) (l ∷ ls) =
+    let n = joined_number k.0 l.0 in
+    ap₂ (λ a b. not a || b) (equal_is (joined_number n k.0) n (joined_number_either n k.0 ∙ number_again k.0 l.0)) (never_back ks ls)
+
 -- one more element of two lists
 pub raised_more : (xs ys : List Kind) (i : ℕ) (d e : Kind) → i < length xs → length xs ≡ length ys →
     is_raised (drop i xs) (drop i ys) ≡ (not (joined_number (get_or xs i d).0 (get_or ys i e).0 == (get_or xs i d).0) || is_raised

@@ -1,12 +1,16 @@
 -- Lists of operands by numbers: what is made keeps what was there.
 use Rattle.std.proofs.Common.{◌≡◌, ℕ, zero, suc, ◌+◌, ◌-◌, ◌<◌, ◌≤◌, ◌^◌, ◌⊎◌, inl, inr, List, [], ◌∷◌, ◌++◌, length, get_or, refl, sym, ap}
-use Rattle.std.proofs.Common.{subst, ◌∙◌, arith}
-use Rattle.std.specs.Prelude.{fold}
+use Rattle.std.proofs.Common.{ap₂, set, ltb, ⊎_elim, subst, ◌∙◌, arith}
+use Rattle.std.specs.Prelude.{fold, Bool, true, false}
+use Rattle.std.specs.Bool.{OnTrue}
 use Rattle.std.proofs.lemmas.List.{append-nil, append_assoc, length_push, get_or_push, get_or_append_left}
-use Rattle.std.proofs.lemmas.Bool.{cases_lt}
+use Rattle.std.proofs.lemmas.Bool.{cases_lt, ltb-true}
+use Rattle.std.proofs.lemmas.Grind.{get_or_default_zero}
 use Rattle.cls_kinds.specs.declared.kind.Kind.{Kind}
 use Rattle.cls_kinds.specs.declared.stacks.Node.{Node}
-use Rattle.cls_kinds.specs.Stacks.{stack_at, with_node, stacks_of, AreNodes, Grows}
+use Rattle.cls_kinds.specs.Numbers.{is_raised, joined_all}
+use Rattle.cls_kinds.proofs.Joining.{raised_to, never_back}
+use Rattle.cls_kinds.specs.Stacks.{stack_at, with_node, stacks_of, AreNodes, IsHigher, IsRaised, AreRaised, Grows}
 
 pub grows_none : (s : List (List Kind)) → Grows s s
 grows_none s = record { more = []; is = sym (append-nil s) }
@@ -140,3 +144,67 @@ are_more nodes n a few within deep = record {
         ∙ sym (length_push (stack_at (stacks_of nodes) n.below) n.kind)
         ∙ ap length (sym (stack_made nodes n))
         ∙ ap (λ k. length (stack_at (stacks_of (nodes ++ n ∷ [])) (k + 1))) (last i h g)
+
+-- ---- what is noted of raised lists
+
+pub none_raised : (stacks : List (List Kind)) (raised : List ℕ) → raised ≡ [] → AreRaised stacks raised
+none_raised stacks raised e i h = absurd (let n : 0 < get_or [] i 0 = subst (λ (r : List ℕ). 0 < get_or r i 0) e h in omega (arith, n))
+
+pub raised_more_lists : (a b : List (List Kind)) (raised : List ℕ) → Grows a b → AreRaised a raised → AreRaised b raised
+raised_more_lists a b raised g r i h =
+    let long = grows_long a b g in
+    let was = r i h in
+    record {
+      from_there = (let w = was.from_there in omega (arith, w, long));
+      to_there = (let w = was.to_there in omega (arith, w, long));
+      higher = subst (λ x. IsHigher x (stack_at b (get_or raised i 0))) (sym (grows_keeps a b (i + 1) g was.from_there))
+          (subst (IsHigher (stack_at a (i + 1))) (sym (grows_keeps a b (get_or raised i 0) g was.to_there)) was.higher);
+    }
+
+zero_behind : (raised : List ℕ) (i : ℕ) → get_or (raised ++ 0 ∷ []) i 0 ≡ get_or raised i 0
+zero_behind [] zero = refl
+zero_behind [] (suc i) = refl
+zero_behind (r ∷ raised) zero = refl
+zero_behind (r ∷ raised) (suc i) = zero_behind raised i
+
+pub raised_with_none : (stacks : List (List Kind)) (raised : List ℕ) → AreRaised stacks raised → AreRaised stacks (raised ++ 0 ∷ [])
+raised_with_none stacks raised r i h =
+    subst (IsRaised stacks (i + 1)) (sym (zero_behind raised i)) (r i (subst (λ n. 0 < n) (zero_behind raised i) h))
+
+-- what is noted at a place
+pub noted_at : (stacks : List (List Kind)) (raised : List ℕ) (from to number d : ℕ) → AreRaised stacks raised → 0 < from → 0 < to →
+    true ≡ ltb (from - 1) (length raised) → number ≡ get_or raised (from - 1) d → number ≡ to →
+    IsHigher (stack_at stacks from) (stack_at stacks to)
+noted_at stacks raised from to number d r f t w g e =
+    let inside : from - 1 < length raised = ltb-true (from - 1) (length raised) (sym w) in
+    let same : get_or raised (from - 1) 0 ≡ to = sym (get_or_default_zero raised (from - 1) d inside) ∙ sym g ∙ e in
+    let was = r (from - 1) (subst (λ n. 0 < n) (sym same) t) in
+    subst (λ k. IsHigher (stack_at stacks k) (stack_at stacks to)) (let k : from - 1 + 1 ≡ from = omega (arith, f) in k)
+    (subst (λ k. IsHigher (stack_at stacks (from - 1 + 1)) (stack_at stacks k)) same was.higher)
+
+pub on_true : (b : Bool) (P : Type 0) → b ≡ true → OnTrue b P → P
+on_true true P e p = p
+on_true false P e p = absurd (cc e)
+
+set_at : (raised : List ℕ) (k to i : ℕ) → ((i ≡ k) × (get_or (set raised k to) i 0 ≡ to)) ⊎ (get_or (set raised k to) i 0 ≡ get_or raised i 0)
+set_at [] k to i = inr refl
+set_at (r ∷ raised) zero to zero = inl (refl, refl)
+set_at (r ∷ raised) zero to (suc i) = inr refl
+set_at (r ∷ raised) (suc k) to zero = inr refl
+set_at (r ∷ raised) (suc k) to (suc i) = ⊎_elim (λ e. inl (ap suc e.0, e.1)) (λ e. inr e) (set_at raised k to i)
+
+pub raised_set : (stacks : List (List Kind)) (raised : List ℕ) (k to : ℕ) → AreRaised stacks raised → IsRaised stacks (k + 1) to →
+    AreRaised stacks (set raised k to)
+raised_set stacks raised k to r new i h =
+    ⊎_elim
+    (λ e. subst (λ n. IsRaised stacks (n + 1) (get_or (set raised k to) i 0)) (sym e.0) (subst (IsRaised stacks (k + 1)) (sym e.1) new))
+    (λ e. subst (IsRaised stacks (i + 1)) (sym e) (r i (subst (λ n. 0 < n) e h)))
+    (set_at raised k to i)
+
+pub set_past : (xs : List ℕ) (i y : ℕ) → length xs ≤ i → set xs i y ≡ xs
+set_past [] i y h = refl
+set_past (x ∷ xs) zero y h = absurd (omega (arith, h))
+set_past (x ∷ xs) (suc i) y h = ap (λ l. x ∷ l) (set_past xs i y (omega (arith, h)))
+
+pub higher_of : (from to ks ls : List Kind) → from ≡ ks → to ≡ joined_all ks ls → is_raised ks ls ≡ true → IsHigher from to
+higher_of from to ks ls f t e = record { higher = ap₂ is_raised f t ∙ raised_to ks ls ∙ e; highest = ap₂ is_raised t f ∙ never_back ks ls }

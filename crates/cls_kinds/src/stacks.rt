@@ -2,10 +2,12 @@
 //! A list is made anew only where what is pushed, or what it is pushed on, has changed.
 
 ghost use Rattle.std.specs.Prelude.{◌≡◌, ◌<◌, ◌++◌, ◌∷◌, [], length, IfOk, OnOk, MatchOption};
-ghost use Rattle.std.specs.Prelude.{◌≤◌, ◌-◌, get_or, reverse, false, IfSome};
+ghost use Rattle.std.specs.Prelude.{◌≤◌, ◌-◌, get_or, slice_set, reverse, false, IfSome, List};
+ghost use Rattle.std.specs.Bool.{OnTrue};
+ghost use Rattle.cls_kinds.specs.declared.kind.Kind.{Kind};
 ghost use Rattle.cls_kinds.specs.Numbers.{joined_all, is_raised};
 ghost use Rattle.cls_kinds.specs.declared.stacks.Node.{Node as Listed};
-ghost use Rattle.cls_kinds.specs.Stacks.{stack_at, stacks_of, AreNodes, Grows};
+ghost use Rattle.cls_kinds.specs.Stacks.{stack_at, stacks_of, AreNodes, AreRaised, IsHigher, Grows};
 
 use crate::kind::Kind;
 use mg_text::Memory;
@@ -33,6 +35,8 @@ pub struct Stacks {
     nodes: Vec<Node>,
     /// By slots: the list that was pushed there last.
     pushed: Vec<u32>,
+    /// By numbers, less one: the list to which one was raised last, or 0.
+    raised: Vec<u32>,
 }
 
 impl Model for Stacks {
@@ -41,11 +45,11 @@ impl Model for Stacks {
 
     ghost Value = { List (List Kind) };
 
-    ghost use Rattle.cls_kinds.specs.Stacks.{stacks_of, AreNodes};
+    ghost use Rattle.cls_kinds.specs.Stacks.{stacks_of, AreStacks};
 
     ghost view = { λ s. stacks_of s.nodes.items };
 
-    ghost invariant = { λ s. AreNodes s.nodes.items };
+    ghost invariant = { λ s. AreStacks s.nodes.items s.raised.items };
 }
 
 /// The list that was pushed last at a slot, where it is this one.
@@ -65,11 +69,14 @@ fn pushed_at(nodes: &[Node], pushed: &[u32], slot: usize, below: u32, kind: Kind
     None
 }
 
-/// Notes what was pushed at a slot.
-fn note(pushed: &mut [u32], slot: usize, number: u32) {
-    if slot < pushed.len() {
-        pushed[slot] = number;
+/// Notes a list at a slot, where there is such a slot.
+fn note(slots: &mut [u32], slot: usize, number: u32)
+    ensures { slots.new ≡ slice_set slots.old slot number }
+{
+    if slot >= slots.len() {
+        return;
     }
+    slots[slot] = number;
 }
 
 /// The topmost kind of a list, and the list below it.
@@ -115,6 +122,7 @@ impl Stacks {
         Ok(Stacks {
             nodes: Vec::new(alloc),
             pushed,
+            raised: Vec::new(alloc),
         })
     }
 
@@ -149,6 +157,7 @@ impl Stacks {
         let Some(depth) = depth_of(self.nodes.as_slice(), below).checked_add(1) else {
             return Err(Memory);
         };
+        self.raised.push(0)?;
         self.nodes.push(Node { kind, below, depth })?;
         Ok(count as u32 + 1)
     }
@@ -178,9 +187,30 @@ impl Stacks {
     }
 }
 
+/// Whether it is noted that the first of two lists was raised to the second.
+fn was_raised(raised: &[u32], first: u32, second: u32) -> bool
+    ensures { OnTrue result ((stacks : List (List Kind)) → AreRaised stacks raised.now →
+        IsHigher (stack_at stacks first) (stack_at stacks second)) }
+{
+    if first == 0 {
+        return false;
+    }
+    if second == 0 {
+        return false;
+    }
+    let Some(number) = raised.get(first as usize - 1) else {
+        return false;
+    };
+    if *number == second {
+        return true;
+    }
+    false
+}
+
 /// Whether one of two lists of one length isn't the least that both fit.
-fn raises_stack(nodes: &[Node], first: u32, second: u32) -> bool
+fn raises_stack(nodes: &[Node], raised: &[u32], first: u32, second: u32) -> bool
     requires made { AreNodes nodes.now }
+    requires raised { AreRaised (stacks_of nodes.now) raised.now }
     requires first { first < length (stacks_of nodes.now) }
     requires second { second < length (stacks_of nodes.now) }
     requires even { length (stack_at (stacks_of nodes.now) first) ≡ length (stack_at (stacks_of nodes.now) second) }
@@ -191,6 +221,12 @@ fn raises_stack(nodes: &[Node], first: u32, second: u32) -> bool
     'down: loop {
         if a == b {
             return false;
+        }
+        if was_raised(raised, b, a) {
+            return false;
+        }
+        if was_raised(raised, a, b) {
+            return true;
         }
         let Some(old) = top_of(nodes, a) else {
             return false;
@@ -215,9 +251,16 @@ struct Joint {
     below: u32,
 }
 
-/// What two lists of one length are joined to, down to where both are one list.
-fn joined_down(alloc: Global, nodes: &[Node], first: u32, second: u32) -> Result<Joint, Memory>
+/// What two lists of one length are joined to, down to where both are one list, or one was raised to the other.
+fn joined_down(
+    alloc: Global,
+    nodes: &[Node],
+    raised: &[u32],
+    first: u32,
+    second: u32,
+) -> Result<Joint, Memory>
     requires made { AreNodes nodes.now }
+    requires raised { AreRaised (stacks_of nodes.now) raised.now }
     requires first { first < length (stacks_of nodes.now) }
     requires second { second < length (stacks_of nodes.now) }
     requires even { length (stack_at (stacks_of nodes.now) first) ≡ length (stack_at (stacks_of nodes.now) second) }
@@ -235,6 +278,20 @@ fn joined_down(alloc: Global, nodes: &[Node], first: u32, second: u32) -> Result
                 kinds,
                 seconds,
                 below: a,
+            });
+        }
+        if was_raised(raised, b, a) {
+            return Ok(Joint {
+                kinds,
+                seconds,
+                below: a,
+            });
+        }
+        if was_raised(raised, a, b) {
+            return Ok(Joint {
+                kinds,
+                seconds,
+                below: b,
             });
         }
         let Some(old) = top_of(nodes, a) else {
@@ -273,18 +330,39 @@ impl Stacks {
         ensures joined { IfOk result (λ s. stack_at self.new s ≡ joined_all (stack_at self.old first) (stack_at self.old second)) }
         ensures kept { IfOk result (λ s. is_raised (stack_at self.old first) (stack_at self.old second) ≡ false → s ≡ first) }
     {
-        if !raises_stack(self.nodes.as_slice(), first, second) {
+        if !raises_stack(self.nodes.as_slice(), self.raised.as_slice(), first, second) {
             return Ok(first);
         }
-        if !raises_stack(self.nodes.as_slice(), second, first) {
+        if !raises_stack(self.nodes.as_slice(), self.raised.as_slice(), second, first) {
+            self.note_raised(first, second);
             return Ok(second);
         }
-        let joint = joined_down(alloc, self.nodes.as_slice(), first, second)?;
-        self.add_all(
+        let joint = joined_down(
+            alloc,
+            self.nodes.as_slice(),
+            self.raised.as_slice(),
+            first,
+            second,
+        )?;
+        let joined = self.add_all(
             joint.below,
             joint.kinds.as_slice(),
             joint.seconds.as_slice(),
-        )
+        )?;
+        self.note_raised(first, joined);
+        Ok(joined)
+    }
+
+    /// Notes that a list was raised to another one.
+    fn note_raised(&mut self, first: u32, to: u32)
+        requires first { first < length self.old }
+        requires to { to < length self.old }
+        requires higher { IsHigher (stack_at self.old first) (stack_at self.old to) }
+        ensures { self.new ≡ self.old }
+    {
+        if first > 0 {
+            note(self.raised.as_mut_slice(), first as usize - 1, to);
+        }
     }
 
     /// A list with one more kind on top: that which a list of numbers has at a place, where it is the same.

@@ -2,10 +2,19 @@ use Rattle.std.proofs.Common.{sym, ap, ◌∙◌}
 use Rattle.cls_kinds.specs.declared.kind.Kind.{Kind}
 use Rattle.cls_kinds.specs.Stacks.{stack_at, stacks_of}
 use Rattle.cls_kinds.proofs.Joining.{stopped_same, raised_step, raised_here, even_step}
+use Rattle.cls_kinds.proofs.Stacking.{on_true}
 use Rattle.cls_kinds.proofs.stacks.raises_stack.Goals as goal
 
 pub returns-then-a-b : goal.returns-then-a-b
 returns-then-a-b c = sym (stopped_same (stacks_of c.args.nodes.now) c.down.a c.down.b c.if-a-b.true) ∙ c.down.invariant.same
+
+pub returns-then-was_raised : goal.returns-then-was_raised
+returns-then-was_raised c =
+    sym (on_true _ _ c.if-was_raised.true c.was_raised.ensures (stacks_of c.args.nodes.now) c.requires.raised).highest ∙ c.down.invariant.same
+
+pub returns-then-was_raised-2 : goal.returns-then-was_raised-2
+returns-then-was_raised-2 c =
+    sym (on_true _ _ c.if-was_raised-2.true c.was_raised-in-down.ensures (stacks_of c.args.nodes.now) c.requires.raised).higher ∙ c.down.invariant.same
 
 pub returns-then-joined-old : goal.returns-then-joined-old
 returns-then-joined-old c =

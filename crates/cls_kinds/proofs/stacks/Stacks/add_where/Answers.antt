@@ -24,5 +24,5 @@ returns-in-Some-clause-made c =
     × ((get_or ns (c.in-Some.number - 1) d).kind ≡ c.args.kind))
     c.as_slice.ensures.value (c.in-Some.ensures.same d) in
     subst (λ s. stack_at s c.in-Some.number ≡ stack_at s c.args.below ++ c.args.kind ∷ []) c.self.view_is
-    (list_at nodes c.self.invariant c.in-Some.number d c.in-Some.ensures.within.0 h
+    (list_at nodes c.self.invariant.made c.in-Some.number d c.in-Some.ensures.within.0 h
     ∙ ap₂ (λ b k. stack_at (stacks_of nodes) b ++ k ∷ []) same.0 same.1)
