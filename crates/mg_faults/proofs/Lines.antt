@@ -124,7 +124,7 @@ module _ (p : Program) where
   pub line_said : (d e : Demand) → same_line p d e ≡ true → said d ≡ said e
   line_said d e h =
       let x = both (bytes_eq (demand_word d.kind) (demand_word e.kind))
-          (same_place d.place e.place && bytes_eq (demand_name p d) (demand_name p e)) h in
+      (same_place d.place e.place && bytes_eq (demand_name p d) (demand_name p e)) h in
       let y = both (same_place d.place e.place) (bytes_eq (demand_name p d) (demand_name p e)) x.1 in
       ap (λ k. refusal_at k d.place (demand_name p d)) ((bytes_eq-Decides (demand_word d.kind) (demand_word e.kind)).0 x.0)
       ∙ ap (λ (q : Place). refusal_at (demand_word e.kind) q (demand_name p d)) (place_is d.place e.place y.0)
@@ -135,7 +135,7 @@ module _ (p : Program) where
       let w : demand_word d.kind ≡ demand_word e.kind = ap (λ (r : Refusal). r.kind) h in
       let q : d.place ≡ e.place = text_place d.place e.place (ap (λ (r : Refusal). r.spot) h) in
       let n : demand_name p d ≡ demand_name p e =
-          sym (unnamed (demand_name p d)) ∙ ap (λ (r : Refusal). name_or_none r.name) h ∙ unnamed (demand_name p e) in
+      sym (unnamed (demand_name p d)) ∙ ap (λ (r : Refusal). name_or_none r.name) h ∙ unnamed (demand_name p e) in
       all_true (bytes_eq (demand_word d.kind) (demand_word e.kind)) (same_place d.place e.place)
       (bytes_eq (demand_name p d) (demand_name p e))
       ((bytes_eq-Decides (demand_word d.kind) (demand_word e.kind)).1 w)
@@ -195,7 +195,7 @@ module _ (p : Program) where
   apart_more [] e a h = ((λ y m. absurd m), tt)
   apart_more (x ∷ xs) e a h = (
     (λ y m. ⊎_elim (a.0 y) (λ i. ap (same_line p x) i ∙ h x (inl refl)) (of_appended xs e y m)),
-    apart_more xs e a.1 (λ y m. h y (inr m))
+    apart_more xs e a.1 (λ y m. h y (inr m)),
   )
 
   line_apart : (ds : List Demand) (e : Demand) → Apart ds → Apart (with_line p ds e)

@@ -71,9 +71,9 @@ one_faults p ds es a b =
     let r : b.reached ≡ a.reached = reached_same p b.reached a.reached b.are a.are in
     let least : Least p a.reached b.tables = subst (λ r. Least p r b.tables) r b.least in
     let same : all_failed p b.reached b.tables ≡ all_failed p a.reached a.tables =
-        ap (λ r. all_failed p r b.tables) r
-        ∙ sym (members_decide p a.reached a.tables b.tables (record { each = a.least.within b.tables least.closed })
-        (record { each = least.within a.tables a.least.closed })) in
+    ap (λ r. all_failed p r b.tables) r
+    ∙ sym (members_decide p a.reached a.tables b.tables (record { each = a.least.within b.tables least.closed })
+    (record { each = least.within a.tables a.least.closed })) in
     a.is
     ∙ ap (once p) (one_order (all_failed p a.reached a.tables) a.listed b.listed a.sorted a.stable b.sorted
     (subst (λ xs. IsStableBy stands_before xs b.listed) same b.stable))

@@ -85,7 +85,7 @@ module _ (p : Program) where
         go true h = absurd (false≢true (sym (is ∙ ap not h) ∙ fresh))
         go false h =
             let grown : with_line p seen d ≡ seen ++ d ∷ [] =
-                ap (λ b. cond b seen (seen ++ d ∷ [])) (sym (any_line seen ks d k was.keyed key) ∙ h) in
+            ap (λ b. cond b seen (seen ++ d ∷ [])) (sym (any_line seen ks d k was.keyed key) ∙ h) in
             record {
               keyed = subst (λ ds. AreKeys p ds ks') (sym grown)
                   (subst (AreKeys p (seen ++ d ∷ [])) (sym (keys ∙ ap (λ b. cond b ks (ks ++ k ∷ [])) h))
@@ -102,7 +102,7 @@ module _ (p : Program) where
         go false h = absurd (false≢true (sym old ∙ is ∙ ap not h))
         go true h =
             let grown : with_line p seen d ≡ seen =
-                ap (λ b. cond b seen (seen ++ d ∷ [])) (sym (any_line seen ks d k was.keyed key) ∙ h) in
+            ap (λ b. cond b seen (seen ++ d ∷ [])) (sym (any_line seen ks d k was.keyed key) ∙ h) in
             record {
               keyed = subst (λ ds. AreKeys p ds ks') (sym grown)
                   (subst (AreKeys p seen) (sym (keys ∙ ap (λ b. cond b ks (ks ++ k ∷ [])) h)) was.keyed);

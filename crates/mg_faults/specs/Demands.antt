@@ -25,12 +25,12 @@ element_number (elements.State q) = suc (suc (suc q))
 abbrev pub stands_before : Demand → Demand → Bool
 stands_before a b =
     if nat_eq a.place.file b.place.file then
-      (if nat_eq a.place.line b.place.line then
-        (if nat_eq a.place.column b.place.column then
-          (if nat_eq a.variable b.variable then nat_lt (element_number a.element) (element_number b.element)
-          else nat_lt a.variable b.variable)
-        else nat_lt a.place.column b.place.column)
-      else nat_lt a.place.line b.place.line)
+    (if nat_eq a.place.line b.place.line then
+    (if nat_eq a.place.column b.place.column then
+    (if nat_eq a.variable b.variable then nat_lt (element_number a.element) (element_number b.element)
+    else nat_lt a.variable b.variable)
+    else nat_lt a.place.column b.place.column)
+    else nat_lt a.place.line b.place.line)
     else nat_lt a.place.file b.place.file
 
 module _ (p : Program) where

@@ -26,7 +26,11 @@ fn refused(alloc: Global, number: u32, name: &Text, bytes: &[u8]) -> Result<Opti
 ///
 /// # Errors
 /// `Memory` only.
-pub(crate) fn read_each(alloc: Global, names: &[Text], contents: &[Bytes]) -> Result<Vec<Refusal>, Memory>
+pub(crate) fn read_each(
+    alloc: Global,
+    names: &[Text],
+    contents: &[Bytes],
+) -> Result<Vec<Refusal>, Memory>
     requires same { length names.now ≡ length contents.now }
     requires count { length contents.now < 2 ^ 32 }
     requires kinds { HaveKinds names.now }

@@ -116,11 +116,7 @@ fn say_all(alloc: Global, core: &Core, demands: &[Demand]) -> Result<Vec<Refusal
 }
 
 /// What is said of demands that fail, in order, each line once.
-pub(crate) fn told(
-    alloc: Global,
-    core: &Core,
-    failed: List<Demand>,
-) -> Result<Vec<Refusal>, Memory>
+pub(crate) fn told(alloc: Global, core: &Core, failed: List<Demand>) -> Result<Vec<Refusal>, Memory>
     ensures { IfOk result (λ v. IsTold core.now failed.items v.items) }
 {
     let demands = sorted(failed)?;

@@ -20,8 +20,11 @@ not_before_of q r h = ⊎_elim inl
 
 of_not_before : (q r : Place) → NotBefore q r → is_earlier r q ≡ false
 of_not_before q r o = not_lex r.file q.file (lex r.line q.line (nat_lt r.column q.column))
-    (⊎_elim inl (λ p. inr (p.0, not_lex r.line q.line (nat_lt r.column q.column)
-    (⊎_elim inl (λ c. inr (c.0, le-ltb r.column q.column c.1)) p.1))) o)
+    (⊎_elim inl (λ p. inr (
+      p.0,
+      not_lex r.line q.line (nat_lt r.column q.column)
+          (⊎_elim inl (λ c. inr (c.0, le-ltb r.column q.column c.1)) p.1),
+    )) o)
 
 in_turn : (x y z : Place) → NotBefore x y → NotBefore y z → NotBefore x z
 in_turn x y z (inl a) (inl b) = inl (omega (arith, a, b))

@@ -118,11 +118,7 @@ fn sites_of(sites: &mut Vec<Site>, within: u32, stmt: &CoreStmt) -> Result<(), M
 // Appends those in statements.
 #[tactic(auto, using(crate::proofs::Walking::statements))]
 #[cycle(statements)]
-fn sites_of_all(
-    sites: &mut Vec<Site>,
-    within: u32,
-    body: &[CoreStmt],
-) -> Result<(), Memory>
+fn sites_of_all(sites: &mut Vec<Site>, within: u32, body: &[CoreStmt]) -> Result<(), Memory>
     ensures { OnOk result (sites.new.items ≡ sites.old.items
         ++ sites_of_all within (stmts_of (map stmt_of body.now))) }
 {
@@ -135,11 +131,7 @@ fn sites_of_all(
 // Appends those in the groups of a switch.
 #[tactic(auto, using(crate::proofs::Walking::groups))]
 #[cycle(statements)]
-fn sites_of_groups(
-    sites: &mut Vec<Site>,
-    within: u32,
-    groups: &[CoreGroup],
-) -> Result<(), Memory>
+fn sites_of_groups(sites: &mut Vec<Site>, within: u32, groups: &[CoreGroup]) -> Result<(), Memory>
     ensures { OnOk result (sites.new.items ≡ sites.old.items
         ++ sites_of_groups within (groups_of (map group_of groups.now))) }
 {

@@ -88,7 +88,11 @@ fn put_members(
 ///
 /// # Errors
 /// `Memory` only.
-pub fn put_set(out: &mut String, typestate: Option<&Typestate>, set: &StateSet) -> Result<(), Memory>
+pub fn put_set(
+    out: &mut String,
+    typestate: Option<&Typestate>,
+    set: &StateSet,
+) -> Result<(), Memory>
     ensures { OnOk result (string_bytes out.new ≡ string_bytes out.old
         ++ set_text (typestate_or_end (option_map (λ t. t.now) typestate.entry)) (members set.now)) }
 {

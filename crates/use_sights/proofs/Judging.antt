@@ -45,7 +45,7 @@ module _ (rule : ℕ → Option DemandKind) (q : Place) (y : ℕ) (x : Name) (c 
   pub is_of : (s : Set) (d : Demand) → Mem d (judged rule q y x c s) → IsOf s d
   is_of s d m =
       let i : Source (judged_from rule q y x c) (λ e. failed_by e (rule e)) (λ k. refl) (λ k s. refl) (λ k s. refl) d 0 s =
-          has_source (judged_from rule q y x c) (λ e. failed_by e (rule e)) (λ k. refl) (λ k s. refl) (λ k s. refl) d 0 s m in
+      has_source (judged_from rule q y x c) (λ e. failed_by e (rule e)) (λ k. refl) (λ k s. refl) (λ k s. refl) d 0 s m in
       one_of (rule i.element) s i.element d i.here refl (subst (λ e. Mem d (failed_by e (rule e))) (nothing i.element) i.stands)
     where
       nothing : (e : ℕ) → 0 + e ≡ e

@@ -90,7 +90,7 @@ module _ {X : Type 0} (lt : X → X → Bool) (self : (x : X) → lt x x ≡ fal
       let zy : lt z y ≡ false = not_before y z ys a.0 (there z (y ∷ ys) zs (h z)) in
       let yz : lt y z ≡ false = not_before z y zs b.0 (there y (z ∷ zs) ys (sym (h y))) in
       let same : y ∷ filter (ties lt y) ys ≡ z ∷ filter (ties lt y) zs =
-          sym (kept y y ys (ties_self y)) ∙ h y ∙ kept y z zs (both_not (lt y z) (lt z y) yz zy) in
+      sym (kept y y ys (ties_self y)) ∙ h y ∙ kept y z zs (both_not (lt y z) (lt z y) yz zy) in
       let e : y ≡ z = head_same y z _ _ same in
       ap (λ w. w ∷ ys) e ∙ ap (λ r. z ∷ r) (unique ys zs a.1 b.1 (λ x. rest x y z ys zs (sym e) (h x)))
 
@@ -98,7 +98,7 @@ module _ {X : Type 0} (lt : X → X → Bool) (self : (x : X) → lt x x ≡ fal
   rising_more [] e r h = ((λ y m. absurd m), tt)
   rising_more (x ∷ xs) e r h = (
     (λ y m. ⊎_elim (r.0 y) (λ i. subst (λ w. lt w x ≡ false) (sym i) (h x (inl refl))) (of_appended xs e y m)),
-    rising_more xs e r.1 (λ y m. h y (inr m))
+    rising_more xs e r.1 (λ y m. h y (inr m)),
   )
 
   rising_steps : (xs : List X) → IsRising xs → Steps xs

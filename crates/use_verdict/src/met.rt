@@ -84,7 +84,15 @@ pub fn find_usages(alloc: Global, core: &Core) -> Result<Usages, Memory>
     let tables = infer(alloc, core, &mut follows)?;
     let mut failed = List::new(alloc);
     let mut sights = List::new(alloc);
-    meet(alloc, core, &tables, tables.contexts(), &mut failed, &mut sights, &mut follows)?;
+    meet(
+        alloc,
+        core,
+        &tables,
+        tables.contexts(),
+        &mut failed,
+        &mut sights,
+        &mut follows,
+    )?;
     Ok(Usages {
         tables,
         failed,

@@ -13,5 +13,5 @@ invariant_of-result c = record {
 pub returns-then-len-eq0-clause-accepted : goal.returns-then-len-eq0-clause-accepted
 returns-then-len-eq0-clause-accepted c = λ p are. (
   refl,
-  no_demand p c.args.usages are (let e : length c.args.usages.failed.items ≡ 0 = omega arith in e)
+  no_demand p c.args.usages are (let e : length c.args.usages.failed.items ≡ 0 = omega arith in e),
 )
