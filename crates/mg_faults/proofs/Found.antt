@@ -62,7 +62,7 @@ module _ (files : List Source) (p : Core.Program) (have : HaveCore files p) (u :
           subst (AllRefusals files) (sym (told.is ∙ ap (said_of p) (sym e))) (usages p d ds have faults)
 
 -- What follows from its being one answer.
-module _ {E : Type 0} (files : List Source) where
+module _ (files : List Source) where
   only_accepted : (f : Finding) → IsFound files f → (core : Core.Program) → AreAccepted files core → IsAccepted core f
   only_accepted (findings.Accepted a) h core k = one_core files a.core core h.files_are.have k.have
   only_accepted (findings.Refused rs) h core k = none_where_accepted files core rs.items k h
@@ -71,12 +71,13 @@ module _ {E : Type 0} (files : List Source) where
   told_of (findings.Accepted a) h r first = not_refused files a.core r h.files_are first
   told_of (findings.Refused rs) h r first = first_is_among files r rs.items first h
 
+module _ {E : Type 0} (files : List Source) where
   pub accepted_found : (answer : Result Finding E) → IfOk answer (λ f. IsFound files f) → (core : Core.Program) → AreAccepted files core →
       IfOk answer (λ f. IsAccepted core f)
-  accepted_found (Ok f) h core k = only_accepted f h core k
+  accepted_found (Ok f) h core k = only_accepted files f h core k
   accepted_found (Err e) h core k = tt
 
   pub refused_found : (answer : Result Finding E) → IfOk answer (λ f. IsFound files f) → (r : Refusal) → FirstRefusal files r →
       IfOk answer (λ f. IsToldOf r f)
-  refused_found (Ok f) h r first = told_of f h r first
+  refused_found (Ok f) h r first = told_of files f h r first
   refused_found (Err e) h r first = tt

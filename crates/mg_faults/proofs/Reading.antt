@@ -46,7 +46,7 @@ nothing_left [] b is e = refl
 nothing_left (x ∷ xs) b is e = let no : length (x ∷ xs) ≡ 0 = eqb-true (length (x ∷ xs)) 0 (sym is ∙ e) in absurd (omega (arith, no))
 
 pub something_left : {A : Type 0} (xs : List A) (b : Bool) → b ≡ nat_eq (length xs) 0 → b ≡ false → xs ≡ [] → ⊥
-something_left {A} xs b is e none = false≢true (sym e ∙ is ∙ eq-eqb (length xs) 0 (ap (λ (ys : List A). length ys) none))
+something_left {A} xs b is e nil = false≢true (sym e ∙ is ∙ eq-eqb (length xs) 0 (ap (λ (ys : List A). length ys) nil))
 
 -- files that all are read have no refusal by their readers
 not_read : {files : List Source} {r : Refusal} → AreRefused files [] → Judged Refuses files (Some r) → ⊥
@@ -62,9 +62,9 @@ alone r a (at_next sourced are t) = types sourced are t
 
 pub all_alone : (files : List Source) (rs new : List Refusal) (r : Refusal) → AreRefused files rs → rs ≡ [] → new ≡ rs ++ r ∷ [] →
     FirstRefusal files r → AllRefusals files new
-all_alone files rs new r a none more first =
-    subst (AllRefusals files) (sym (more ∙ ap (λ xs. xs ++ r ∷ []) none))
-    (alone r (subst (AreRefused files) none a) first)
+all_alone files rs new r a nil more first =
+    subst (AllRefusals files) (sym (more ∙ ap (λ xs. xs ++ r ∷ []) nil))
+    (alone r (subst (AreRefused files) nil a) first)
 
 pub all_refused : (files : List Source) (rs : List Refusal) → AreRefused files rs → (rs ≡ [] → ⊥) → AllRefusals files rs
 all_refused files [] a h = absurd (h refl)

@@ -42,7 +42,7 @@ fn all_of(
     ensures { IfOk result (λ v. AllRefusals (sources names.now contents.now) v.items) }
 {
     let mut refusals = read_each(alloc, names, contents)?;
-    if !refusals.is_empty() {
+    if !refusals.as_slice().is_empty() {
         return Ok(refusals);
     }
     refusals.push(first)?;

@@ -1,9 +1,13 @@
-use Rattle.std.proofs.Common.{arith, refl, None, Some}
+use Rattle.std.proofs.Common.{arith, refl, sym, subst, [], None, Some}
 use Rattle.mg_sources.specs.Files.{source_of, sources}
 use Rattle.mg_sources.proofs.Endings.{kind_at}
 use Rattle.mg_sources.proofs.PartLemmas.{source_is, source_within, sources_length}
+use Rattle.mg_faults.specs.Faults.{AreRefused, none}
 use Rattle.mg_faults.proofs.Reading.{file_found, files_found}
 use Rattle.mg_faults.proofs.readings.read_each.Goals as goal
+
+pub loop-number-init : goal.loop-number-init
+loop-number-init c = subst (AreRefused []) (sym c.new-refusals.ensures.items) none
 
 pub refused-requires : goal.refused-requires
 refused-requires c =
