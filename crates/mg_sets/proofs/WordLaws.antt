@@ -1,5 +1,5 @@
 -- Sets as words: what bits say of the truth values.
-use Rattle.std.proofs.Common.{◌≡◌, ◌≢◌, ℕ, zero, suc, ◌+◌, ◌*◌, ◌<◌, ◌≤◌, Bool, true, false, not, ◌⊎◌, List, [], ◌∷◌, length, set}
+use Rattle.std.proofs.Common.{◌≡◌, ◌≢◌, ℕ, zero, suc, ◌+◌, ◌*◌, ◌<◌, ◌≤◌, Bool, true, false, ◌⊎◌, List, [], ◌∷◌, length}
 use Rattle.std.proofs.Common.{replicate, refl, sym, ap, ◌∙◌, subst, arith, inl, inr, ⊎_elim, length-set, max}
 use Rattle.std.specs.Prelude.{◌||◌, ◌/◌, ◌%◌, ◌^◌, nat_eq, bit_or, slice_set, IsTrue, ◌↔◌}
 use Rattle.std.specs.Int.{bit_at, w64}
@@ -9,8 +9,7 @@ use Rattle.std.proofs.lemmas.Bool.Decides.{nat_tests}
 use Rattle.std.proofs.lemmas.List.{get_or-set_same, get_or-set_other, get_or_past}
 use Rattle.std.proofs.lemmas.Nat.Bits.{bit_at-zero, bit_at-lt, bit_at_or, bit_at_set_same, bit_at_set_other, same_from_bits}
 use Rattle.mg_sets.specs.Sets.{has, join, IsSubset, Grows}
-use Rattle.mg_sets.proofs.SetLaws.{member-below}
-use Rattle.mg_sets.specs.Words.{word, bit, values_from, values, AreWords, Differ, Ored, IsWithin, IsOutside}
+use Rattle.mg_sets.specs.Words.{word, bit, values_from, values, AreWords, Ored, IsWithin, IsOutside}
 use Rattle.mg_sets.proofs.Bits.{or_bit, bit_cases}
 
 pub values_length : (ws : List ℕ) (k n : ℕ) → length (values_from ws k n) ≡ n

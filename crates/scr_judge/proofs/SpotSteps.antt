@@ -16,7 +16,7 @@ use Rattle.scr_tree.specs.Tree.{Statements, Nothing, Says, Choice, Rec, Continue
 use Rattle.scr_tree.specs.View.{front, statements}
 use Rattle.scr_tree.proofs.ViewLemmas.{front-Message, front-Choice, front-Rec, front-Continue, front-Do}
 use Rattle.mg_read.specs.Culprit.{Culprit, culprit}
-use Rattle.scr_judge.specs.inner.Seen.{Names}
+use Rattle.scr_judge.specs.inner.Seen.{Names, noted_in}
 use Rattle.scr_judge.specs.inner.Finding.{first_said}
 use Rattle.scr_judge.specs.inner.OnSpot.{Asks, is_send, all_send, uniform, is_nothing, some_empty, unless, unknown_role, peer_is_self}
 use Rattle.scr_judge.specs.inner.OnSpot.{unknown_rec, unknown_protocol, duplicate_rec, branch_start, mixed_choice, is_free_label}
@@ -42,7 +42,7 @@ module _ (begins : Option Name) (around : List Name) (s : Statement) (rest : Sta
   free_alike me (Some at) = alike (free_label me at) (λ m. refl) (λ p a bs. refl) (λ p name body. refl) (λ p name. refl) (λ p name. refl)
 
   pub test-front : (check : Check) → test check begins around (front s rest) ≡ test check begins around (front s Nothing)
-  test-front (checks.UnknownRole roles) = alike (unknown_role (contains_text roles.now)) (λ m. refl) (λ p at bs. refl) (λ p name body. refl)
+  test-front (checks.UnknownRole roles) = alike (unknown_role (noted_in roles.now)) (λ m. refl) (λ p at bs. refl) (λ p name body. refl)
       (λ p name. refl) (λ p name. refl)
   test-front (checks.PeerIsSelf me) = alike (peer_is_self me.now) (λ m. refl) (λ p at bs. refl) (λ p name body. refl) (λ p name. refl)
       (λ p name. refl)

@@ -10,6 +10,7 @@ ghost use Rattle.scr_tree.specs.Spots.{spots};
 ghost use Rattle.scr_tree.specs.Conditions as says;
 ghost use Rattle.scr_judge.specs.inner.OnSpot.{asks_role, asks_protocol, unknown_protocol, unknown_role, peer_is_self, is_free_label};
 ghost use Rattle.scr_judge.specs.inner.OnSpot.{unknown_rec, duplicate_rec, branch_start, mixed_choice, reserved_label, test, walk, walk_in};
+ghost use Rattle.scr_judge.specs.inner.Seen.{noted_in};
 ghost use Rattle.scr_judge.specs.inner.View.{begins_of, names_of, culprit_of};
 ghost use Rattle.scr_tree.specs.View.{bodies};
 
@@ -25,7 +26,7 @@ use std::collections::HashSet;
 #[derive(Clone, Copy)]
 pub enum Check<'a> {
     /// A role that is not one of these.
-    UnknownRole(&'a HashSet<String>),
+    UnknownRole(&'a HashSet<&'a str>),
     /// A peer that is this role.
     PeerIsSelf(&'a Text),
     UnknownRec,
@@ -40,8 +41,8 @@ pub enum Check<'a> {
 }
 
 /// The first message or choice that names a role that is not among these.
-pub fn find_unknown_peer<'a>(roles: &HashSet<String>, body: &'a [Statement]) -> Option<Culprit<'a>>
-    ensures { culprit_of result ≡ walk (asks_role (contains_text roles.now)) None [] (statements body.now) }
+pub fn find_unknown_peer<'a>(roles: &HashSet<&str>, body: &'a [Statement]) -> Option<Culprit<'a>>
+    ensures { culprit_of result ≡ walk (asks_role (noted_in roles.now)) None [] (statements body.now) }
 {
     find_all(Check::UnknownRole(roles), None, &Names::Outside, body)
 }
@@ -185,8 +186,8 @@ fn test_at<'a>(
 }
 
 #[tactic(auto, using(crate::proofs::SpotSteps::tests))]
-fn unknown_role<'a>(roles: &HashSet<String>, statement: &'a Statement) -> Option<Culprit<'a>>
-    ensures { culprit_of result ≡ unknown_role (contains_text roles.now) (front statement.now Nothing) }
+fn unknown_role<'a>(roles: &HashSet<&str>, statement: &'a Statement) -> Option<Culprit<'a>>
+    ensures { culprit_of result ≡ unknown_role (noted_in roles.now) (front statement.now Nothing) }
 {
     match statement {
         Statement::Message(message) => {

@@ -8,11 +8,12 @@ ghost use Rattle.scr_tree.specs.Listing.{UnknownRole, itself, within};
 ghost use Rattle.scr_tree.specs.Spots.{spots};
 ghost use Rattle.scr_tree.specs.View.{statements};
 ghost use Rattle.scr_judge.specs.inner.Listed.{ListedTwice};
+ghost use Rattle.scr_judge.specs.inner.Seen.{noted_in};
 ghost use Rattle.scr_judge.specs.inner.View.{culprit_of};
 
 use crate::culprit::Culprit;
 use crate::on_spot::find_unknown_peer;
-use crate::seen::{add_name, no_names};
+use crate::seen::{add_name, no_names, note_name, room_for};
 use mg_text::Memory;
 use scr_tree::{Role, WrittenPart};
 use std::alloc::Global;
@@ -22,10 +23,9 @@ use std::collections::HashSet;
 pub fn find_listed_twice(alloc: Global, roles: &[Role]) -> Result<Option<Culprit<'_>>, Memory>
     ensures { IfOk result (λ r. Judged ListedTwice (with_earlier roles.now) (culprit_of r)) }
 {
-    let mut names = no_names(alloc);
+    let mut names = room_for(alloc, roles.len())?;
     for role in roles {
-        let name = String::from_str(alloc, role.name.as_str())?;
-        if !add_name(&mut names, name)? {
+        if !note_name(&mut names, role.name.as_str())? {
             return Ok(Some(Culprit {
                 place: role.place,
                 name: role.name.as_str(),
@@ -41,7 +41,7 @@ pub fn find_unknown_role(alloc: Global, part: &WrittenPart) -> Result<Option<Cul
     ensures { IfOk result (λ r. Judged (UnknownRole (map role_name part.now.roles.items))
         (itself part.now.me ∷ map within (spots [] (statements part.now.body.items))) (culprit_of r)) }
 {
-    let listed = listed_roles(alloc, part.roles.as_slice())?;
+    let listed = noted_roles(alloc, part.roles.as_slice())?;
     let me = &part.me;
     if !listed.contains(me.name.as_str()) {
         return Ok(Some(Culprit {
@@ -50,6 +50,17 @@ pub fn find_unknown_role(alloc: Global, part: &WrittenPart) -> Result<Option<Cul
         }));
     }
     Ok(find_unknown_peer(&listed, part.body.as_slice()))
+}
+
+// The names of the roles, where they stand.
+fn noted_roles(alloc: Global, roles: &[Role]) -> Result<HashSet<&str>, Memory>
+    ensures { IfOk result (λ s. (q : List ℕ) → IsTrue (noted_in s q) ↔ Contains (map role_name roles.now) q) }
+{
+    let mut names = room_for(alloc, roles.len())?;
+    for role in roles {
+        note_name(&mut names, role.name.as_str())?;
+    }
+    Ok(names)
 }
 
 /// The names of the roles.

@@ -47,12 +47,13 @@ pub(crate) fn refusal(fault: Fault) -> ScrFault
 }
 
 // The names of roles.
-fn names_of(alloc: Global, roles: &[Role]) -> Result<List<Text>, Memory>
-    ensures { IfOk result (λ l. l.items ≡ map role_name roles.now) }
+fn names_of(alloc: Global, roles: List<Role>) -> Result<List<Text>, Memory>
+    ensures { IfOk result (λ l. l.items ≡ map role_name roles.items) }
 {
     let mut names = List::new(alloc);
-    for role in roles {
-        names.push(role.name.copy()?)?;
+    for role in roles.into_vec() {
+        let Role { place: _, name } = role;
+        names.push(name)?;
     }
     Ok(names)
 }
@@ -97,6 +98,6 @@ pub(crate) fn protocol_of(alloc: Global, file: u32, written: Written) -> Result<
         arguments: _,
         body,
     } = first;
-    let roles = names_of(alloc, roles.as_slice())?;
+    let roles = names_of(alloc, roles)?;
     Ok(Local::new(file, name, me.name, roles, body, others))
 }

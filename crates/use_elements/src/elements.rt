@@ -108,10 +108,8 @@ pub fn image(
     ensures { IfOk result (λ s. s ≡ image width (mapping_of mapping) set.now) }
 {
     let mut found = empty_set(alloc, width)?;
-    for element in 0..set.width() {
-        if set.has(element) {
-            mark_found(&mut found, lead(mapping, element));
-        }
+    for element in set.iter() {
+        mark_found(&mut found, lead(mapping, element));
     }
     Ok(found)
 }
@@ -268,11 +266,9 @@ pub fn judge(
         ++ judged (rule_of rule (typestate_or_end (option_map (λ t. t.now) typestate.entry)))
         subject.place subject.variable (title_in names.now subject.title) subject.class set.now) }
 {
-    for element in 0..set.width() {
-        if set.has(element) {
-            let kind = asked(rule, typestate, element);
-            blame(alloc, names, failed, subject, element, kind)?;
-        }
+    for element in set.iter() {
+        let kind = asked(rule, typestate, element);
+        blame(alloc, names, failed, subject, element, kind)?;
     }
     Ok(())
 }

@@ -11,7 +11,7 @@ use Rattle.scr_tree.specs.declared.syntax.Direction.{Direction}
 use Rattle.scr_tree.specs.declared.syntax.Direction.TheVariants as directions
 use Rattle.scr_tree.specs.Tree.{Statements, Nothing, Says, Choice, Rec, Continue, Do, Branches, NoBranch, Branch}
 use Rattle.scr_judge.specs.inner.Names.{is_among}
-use Rattle.scr_judge.specs.inner.Seen.{Names}
+use Rattle.scr_judge.specs.inner.Seen.{Names, noted_in}
 use Rattle.scr_judge.specs.declared.on_spot.Check.{Check}
 use Rattle.scr_judge.specs.declared.on_spot.Check.TheVariants as checks
 
@@ -105,7 +105,7 @@ asks_protocol names begins around = unknown_protocol names
 
 -- what one statement answers
 abbrev pub test : Check → Asks
-test (checks.UnknownRole roles) begins around = unknown_role (contains_text roles.now)
+test (checks.UnknownRole roles) begins around = unknown_role (noted_in roles.now)
 test (checks.PeerIsSelf me) begins around = peer_is_self me.now
 test checks.UnknownRec begins around = unknown_rec around
 test checks.DuplicateRec begins around = duplicate_rec around
