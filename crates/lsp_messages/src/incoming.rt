@@ -46,6 +46,17 @@ pub enum Call {
     },
     /// `shutdown`.
     Shutdown,
+    /// Something about a document.
+    Ask(Question),
+    /// A method that isn't one of these.
+    Unknown,
+    /// One of these, whose parameters aren't the protocol's.
+    BadParameters,
+}
+
+/// What is asked about a document.
+#[derive(Debug, Drop)]
+pub enum Question {
     /// `textDocument/hover`.
     Hover(Point),
     /// `textDocument/completion`.
@@ -63,10 +74,6 @@ pub enum Call {
     Symbols(Text),
     /// `workspace/executeCommand` with `mungo.diagram`, with the document's name.
     Diagram(Text),
-    /// A method that isn't one of these.
-    Unknown,
-    /// One of these, whose parameters aren't the protocol's.
-    BadParameters,
 }
 
 /// What a notification tells.

@@ -7,7 +7,7 @@ mod incoming;
 mod outgoing;
 
 pub use id::Id;
-pub use incoming::{Call, Incoming, Notice, Point};
+pub use incoming::{Call, Incoming, Notice, Point, Question};
 pub use outgoing::{
     Answer, Code, Diagnostic, Hint, Item, Location, Outgoing, Symbol, SymbolKind,
 };
