@@ -1,0 +1,4 @@
+pub mod Phases
+pub mod Steps
+pub mod Standing
+pub mod Runs
