@@ -1,2 +1,2 @@
 mod Single
-mod Laws
+mod WholeRuns

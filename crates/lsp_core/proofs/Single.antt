@@ -1,5 +1,5 @@
 -- Single messages.
-use Rattle.std.proofs.Common.{◌≡◌, Bool, true, false, List, [], refl, Option, Some, None}
+use Rattle.std.proofs.Common.{◌≡◌, Bool, true, false, [], refl}
 use Rattle.lsp_text.specs.declared.encoding.Encoding.{Encoding}
 use Rattle.lsp_text.specs.declared.documents.Documents.{Documents}
 use Rattle.lsp_messages.specs.declared.incoming.Call.TheVariants as calls

@@ -2,3 +2,4 @@ pub mod Phases
 pub mod Steps
 pub mod Standing
 pub mod Runs
+pub mod examples

@@ -4,7 +4,6 @@ use Rattle.std.specs.List.{flat_map}
 use Rattle.lsp_text.specs.declared.encoding.Encoding.{Encoding}
 use Rattle.lsp_text.specs.declared.documents.Documents.{Documents}
 use Rattle.lsp_messages.specs.declared.id.Id.{Id}
-use Rattle.lsp_messages.specs.declared.incoming.Call.{Call}
 use Rattle.lsp_messages.specs.declared.incoming.Call.TheVariants as calls
 use Rattle.lsp_messages.specs.declared.incoming.Notice.{Notice}
 use Rattle.lsp_messages.specs.declared.incoming.Notice.TheVariants as notices
@@ -13,7 +12,7 @@ use Rattle.lsp_messages.specs.declared.incoming.Incoming.TheVariants as messages
 use Rattle.lsp_messages.specs.declared.outgoing.Outgoing.{Outgoing}
 use Rattle.lsp_messages.specs.declared.outgoing.Outgoing.TheVariants.{Answered, Refused, Diagnosed}
 use Rattle.lsp_core.specs.declared.phase.Phase.{Phase}
-use Rattle.lsp_core.specs.declared.phase.Phase.TheVariants.{Fresh, Running, Down, Gone}
+use Rattle.lsp_core.specs.declared.phase.Phase.TheVariants.{Running, Gone}
 use Rattle.lsp_core.specs.declared.step.Step.{Step}
 use Rattle.lsp_core.specs.declared.step.Step.TheVariants.{Quiet, Say, Judge, Ask}
 use Rattle.lsp_core.specs.declared.server.Server.{Server}

@@ -8,7 +8,7 @@ mod server;
 mod standing;
 mod step;
 
-pub use laws::{documents_are_of_notices, nothing_after_exit, one_response_each};
+pub use laws::{documents_are_of_notices, nothing_after_exit, one_response_each, rows_hold};
 pub use phase::Phase;
 pub use server::Server;
 pub use step::Step;

@@ -30,7 +30,11 @@ pub enum Step {
 pub(crate) fn encoding_of(utf8: bool) -> Encoding
     ensures { result ≡ encoding_of utf8 }
 {
-    if utf8 { Encoding::Utf8 } else { Encoding::Utf16 }
+    if utf8 {
+        Encoding::Utf8
+    } else {
+        Encoding::Utf16
+    }
 }
 
 // How lines are counted behind a request.

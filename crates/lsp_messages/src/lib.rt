@@ -8,6 +8,4 @@ mod outgoing;
 
 pub use id::Id;
 pub use incoming::{Call, Incoming, Notice, Point, Question};
-pub use outgoing::{
-    Answer, Code, Diagnostic, Hint, Item, Location, Outgoing, Symbol, SymbolKind,
-};
+pub use outgoing::{Answer, Code, Diagnostic, Hint, Item, Location, Outgoing, Symbol, SymbolKind};

@@ -1,4 +1,4 @@
-use Rattle.lsp_core.proofs.Laws as laws
+use Rattle.lsp_core.proofs.WholeRuns as laws
 use Rattle.lsp_core.proofs.laws.one_response_each.Goals as goal
 
 pub returns : goal.returns

@@ -1,6 +1,7 @@
 -- Runs of messages.
 use Rattle.std.proofs.Common.{◌≡◌, Bool, true, false, List, [], ◌∷◌, ◌++◌, refl, sym, ap, ◌∙◌, subst, cond}
 use Rattle.std.specs.Prelude.{All}
+use Rattle.std.proofs.lemmas.List.Elements.{All-nil, All-cons, All-head, All-tail}
 use Rattle.std.specs.List.{flat_map}
 use Rattle.lsp_text.specs.declared.encoding.Encoding.{Encoding}
 use Rattle.lsp_text.specs.declared.documents.Documents.{Documents}
@@ -23,25 +24,31 @@ use Rattle.lsp_core.specs.Runs.{OneResponseEach, NothingAfterExit, DocumentsAreO
 use Rattle.lsp_core.specs.Runs as runs
 use Rattle.lsp_core.proofs.Single.{answered, exits, exit_asks_nothing, stays, quiet, still, same_behind}
 
+abbrev IsQuiet : Step → Type 0
+IsQuiet step = step ≡ Quiet
+
+abbrev GoesOn : Incoming → Type 0
+GoesOn message = goes_on message ≡ true
+
 -- behind `exit`
 pub nothing_after_exit : NothingAfterExit
-nothing_after_exit old _ _ _ g runs.none = record { quiet = tt; phase = refl; documents = λ name. refl }
-nothing_after_exit old new _ _ g (runs.more {between = between} {message = message} {messages = ms} {steps = ss} takes rest) =
+nothing_after_exit old _ _ _ g runs.none = record { quiet = All-nil IsQuiet; phase = refl; documents = λ name. refl }
+nothing_after_exit old new _ _ g (runs.more {between = between} {message = message} {step = step} {messages = ms} {steps = ss} takes rest) =
     let phase : between.phase ≡ old.phase = takes.phase ∙ still old.phase message g in
     let gone : is_gone between.phase ≡ true = ap (λ (p : Phase). is_gone p) phase ∙ g in
     let later : IsStill between ss new = nothing_after_exit between new ms ss gone rest in
     let same : AreSame old.documents between.documents = same_behind old.phase old.encoding message old.documents between.documents g takes.documents in
     record {
-        quiet = (takes.comes ∙ quiet old.phase message g, later.quiet);
-        phase = later.phase ∙ phase;
-        documents = λ name. later.documents name ∙ same name
+      quiet = All-cons IsQuiet step ss (takes.comes ∙ quiet old.phase message g) later.quiet;
+      phase = later.phase ∙ phase;
+      documents = λ name. later.documents name ∙ same name;
     }
 
 -- quiet steps respond to nothing
-quiet_steps : (steps : List Step) → All (λ (step : Step). step ≡ Quiet) steps → flat_map answered_id steps ≡ []
+quiet_steps : (steps : List Step) → All IsQuiet steps → flat_map answered_id steps ≡ []
 quiet_steps [] h = refl
 quiet_steps (step ∷ steps) h =
-    ap (λ (s : Step). answered_id s ++ flat_map answered_id steps) h.0 ∙ quiet_steps steps h.1
+    ap (λ (s : Step). answered_id s ++ flat_map answered_id steps) (All-head IsQuiet step steps h) ∙ quiet_steps steps (All-tail IsQuiet step steps h)
 
 -- what is before the first `exit`
 chosen : (message : Incoming) (ms : List Incoming) (b : Bool) → is_exit message ≡ b →
@@ -133,5 +140,7 @@ module _ (old between new : Server) (message : Incoming) (step : Step) (later : 
 pub documents_are_of_notices : DocumentsAreOfNotices
 documents_are_of_notices old _ _ _ on all runs.none = runs.none
 documents_are_of_notices old new _ _ on all (runs.more {between = between} {message = message} {step = step} {messages = ms} {steps = ss} takes rest) =
-    stands_more old between new message step (flat_map notice_in ms) on all.0 takes
-    (documents_are_of_notices between new ms ss (phase_on old between new message step (flat_map notice_in ms) on all.0 takes) all.1 rest)
+    let now : goes_on message ≡ true = All-head GoesOn message ms all in
+    stands_more old between new message step (flat_map notice_in ms) on now takes
+    (documents_are_of_notices between new ms ss (phase_on old between new message step (flat_map notice_in ms) on now takes)
+    (All-tail GoesOn message ms all) rest)
