@@ -1,6 +1,6 @@
 -- Names of documents: which are in one folder, and which name sources.
-use Rattle.std.specs.Prelude.{ℕ, ◌-◌, ◌==◌, ◌&&◌, ◌||◌, Bool, true, false, List, [], ◌∷◌, length, drop, codes, if◌then◌else◌}
-use Rattle.std.specs.List.{list_any}
+use Rattle.std.specs.Prelude.{ℕ, ◌==◌, ◌&&◌, ◌||◌, nat_eq, Bool, List, [], ◌∷◌, codes, if◌then◌else◌}
+use Rattle.std.specs.List.{list_any, ends_with}
 use Rattle.std.specs.Str.{bytes_eq}
 
 -- a slash parts a folder from what is in it
@@ -12,12 +12,10 @@ abbrev pub folder_of : List ℕ → List ℕ
 folder_of [] = []
 folder_of (b ∷ bs) = if list_any is_slash (b ∷ bs) then b ∷ folder_of bs else []
 
-abbrev pub ends_with : (suffix name : List ℕ) → Bool
-ends_with suffix name = bytes_eq (drop (length name - length suffix) name) suffix
-
--- sources are local protocols, typestates, and classes and enums
+-- the name of a local protocol, of typestates, or of classes and enums
 abbrev pub is_source : List ℕ → Bool
-is_source name = ends_with (codes ".scr") name || (ends_with (codes ".protocol") name || ends_with (codes ".java") name)
+is_source name =
+    ends_with nat_eq name (codes ".scr") || (ends_with nat_eq name (codes ".protocol") || ends_with nat_eq name (codes ".java"))
 
 -- the name is that of a source in the folder of the document
 abbrev pub is_part : (document name : List ℕ) → Bool

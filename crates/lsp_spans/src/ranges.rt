@@ -1,10 +1,9 @@
 //! Ranges of words.
 
-ghost use Rattle.std.specs.Prelude.{◌≡◌, ◌+◌, ◌≤◌, ℕ, All, IfOk, length, drop, map};
-ghost use Rattle.lsp_text.specs.Positions.{ArePositionsOf};
-ghost use Rattle.lsp_text.specs.Places.{AreOffsetsOf};
+ghost use Rattle.std.specs.Prelude.{◌≡◌, ◌+◌, ◌≤◌, All, IfOk, length, drop, map};
 ghost use Rattle.lsp_spans.specs.Words.{word_len};
 ghost use Rattle.lsp_spans.specs.Spans.{AreRangesOf};
+ghost use Rattle.lsp_spans.specs.inner.Pairs.{ranges};
 
 use crate::words::word_len;
 use lsp_text::{Encoding, Position, Range, offsets_of_places, positions_of};
@@ -25,23 +24,22 @@ fn ends_of(alloc: Global, text: &[u8], starts: &[usize]) -> Result<Vec<usize>, M
 }
 
 // The ranges between positions, one by one.
-fn between(
-    alloc: Global,
-    starts: &[Position],
-    ends: &[Position],
-) -> Result<Vec<Range>, Memory>
+fn between(alloc: Global, starts: &[Position], ends: &[Position]) -> Result<Vec<Range>, Memory>
     requires { length starts.now ≡ length ends.now }
-    ensures { IfOk result (λ v. v.items ≡ zip_with (λ s e. record { start = s; «end» = e }) starts.now ends.now) }
+    ensures { IfOk result (λ v. v.items ≡ ranges starts.now ends.now) }
 {
     let mut ranges = Vec::with_capacity(alloc, starts.len())?;
     for (place, start) in starts.iter().enumerate() {
-        ranges.push(Range { start: *start, end: ends[place] })?;
+        ranges.push(Range {
+            start: *start,
+            end: ends[place],
+        })?;
     }
     Ok(ranges)
 }
 
-/// The ranges of the words that stand at places of a text, whatever their file, one for each in their order. Where the places
-/// ascend the text is walked once.
+/// The ranges of the words that stand at places of a text, whatever their file, one for each in
+/// their order. Where the places ascend the text is walked a few times, however many they are.
 ///
 /// # Errors
 /// `Memory` only.

@@ -1,7 +1,7 @@
 //! How far a word goes.
 
 ghost use Rattle.std.specs.Prelude.{◌≡◌, ◌≤◌, length};
-ghost use Rattle.lsp_spans.specs.Words.{is_word_byte, is_path_byte, is_line_end, run_len, word_len, path_len};
+ghost use Rattle.lsp_spans.specs.Words.{is_word_byte, run_len, word_len, path_len};
 
 // Whether words have this byte.
 fn is_word_byte(byte: u8) -> bool
@@ -25,7 +25,8 @@ fn run_len(bytes: &[u8], dots: bool) -> usize
     count
 }
 
-/// How many bytes the word has that stands in front. Where none does it is one byte, and where the line or the text ends there none.
+/// How many bytes the word has that stands in front. Where none does it is one byte, and where the
+/// line or the text ends there none.
 pub fn word_len(bytes: &[u8]) -> usize
     ensures value { result ≡ word_len bytes.now }
     ensures within { result ≤ length bytes.now }
@@ -37,7 +38,8 @@ pub fn word_len(bytes: &[u8]) -> usize
     }
 }
 
-/// How many bytes the words have that stand in front with dots between them, as a variable and a method of it do.
+/// How many bytes the words have that stand in front with dots between them, as a variable and a
+/// method of it do.
 pub fn path_len(bytes: &[u8]) -> usize
     ensures value { result ≡ path_len bytes.now }
     ensures within { result ≤ length bytes.now }
