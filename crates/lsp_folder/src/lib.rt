@@ -1,9 +1,0 @@
-//! The program that a document belongs to: the sources of its folder, those that are open in the
-//! editor by their text there.
-#![tactic(auto)]
-
-mod names;
-mod program;
-
-pub use names::is_part;
-pub use program::{File, Member, Program, program_of};
