@@ -25,5 +25,5 @@ returns-in_ok-text-in-Refused c =
     let found : AllRefusals (sources c.args.names.now c.args.contents.now) c.in-Refused.refusals.items
     = rw c.in-Refused.is at c.in_ok-found.ensures.found in
     faults_said c.args.names.now c.args.contents.now c.in-Refused.refusals.items c.in_ok-text-in-Refused.text c.said.result found
-    (c.in_ok-text-in-Refused.ensures ∙ ap (refusal_lines c.args.names.now) c.as_slice.ensures.items) c.said.ensures.actions
+    (c.in_ok-text-in-Refused.ensures ∙ ap (refusal_lines c.args.names.now) c.as_slice.ensures.value) c.said.ensures.actions
     c.said.ensures.status
