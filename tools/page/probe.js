@@ -145,7 +145,7 @@ const probe = (() => {
             if (!random(4)) openFile([...page.files.keys()][random(page.files.size)]);
             edit();
             if (random(8)) continue;
-            page.view = Object.keys(views)[random(6)];
+            page.view = Object.keys(views)[random(7)];
             showRest();
             showStep(page, random(60), true);
         }
