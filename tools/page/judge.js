@@ -86,7 +86,7 @@ function spanOf(text, fault) {
     return [Math.min(from, text.length), Math.min(from + (word ? word[0].length : 0), text.length)];
 }
 
-// The typestate of the class that a variable is declared of, if possible before a place { file, line, column }; or null.
+// The typestate of the class that a variable is declared of, before a place { file, line, column } if it is; or null.
 function typestateOf(variable, place, { sources, classes, typestates }) {
     const text = sources.get(place.file);
     if (!text || !/^\w+$/.test(variable)) return null;
