@@ -63,6 +63,22 @@ const probe = (() => {
             crossed: crossed(),
         };
     }
+    // The lines that refuse, as they are told; and the calls in the table of `show`, as rows of texts.
+    function told() {
+        const lines = [...document.querySelectorAll('#say [data-fault]')].map(it => it.textContent);
+        return lines.length ? lines.join('\n') : null;
+    }
+    function calls() {
+        const room = document.createElement('div');
+        room.innerHTML = views.show.body(page);
+        const rows = [...room.querySelectorAll('tr')].slice(1);
+        return rows.map(row => [...row.children].map(it => it.textContent));
+    }
+    // What stands beside the lines of the text that is open, by their numbers.
+    function beside() {
+        const lines = element('beside').textContent.split('\n').map((line, at) => [at + 1, line.trim()]);
+        return Object.fromEntries(lines.filter(([, line]) => line));
+    }
     const lit = () => [...document.querySelectorAll('#drawn .state.on')].map(it => it.dataset.state);
 
     // The objects of the run that at the step that is shown are neither at their end nor where they may be left.
@@ -155,5 +171,6 @@ const probe = (() => {
         return opened();
     }
 
-    return { answered, opened, covered, drawn, lit, unfinished, focus, controls, outside, heap, edits };
+    const seeing = { told, calls, beside, drawn, lit, unfinished };
+    return { answered, opened, covered, ...seeing, focus, controls, outside, heap, edits };
 })();
