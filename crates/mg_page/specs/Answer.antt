@@ -6,7 +6,7 @@ use Rattle.mg_delivery.specs.Outside.{Outside, outside, stream}
 use Rattle.mg_top.specs.Promises.{Promises}
 use Rattle.mg_page.specs.declared.answering.Outcome.{Outcome}
 use Rattle.mg_page.specs.Told.{Told, files_in}
-use Rattle.mg_page.specs.Pieces.{ArePieces, AreFiles, AreTexts, HaveNames, piece_bytes, files_bytes}
+use Rattle.mg_page.specs.Pieces.{IsText, IsFile, AreAll, piece_bytes, files_bytes}
 
 -- The outside before a run: the files are told, nothing was put, and nothing failed.
 abbrev pub before : List Told → Outside
@@ -30,10 +30,8 @@ answer_bytes answer =
 
 -- two rows of bytes ask these words of these files
 pub record Asks (words files : List ℕ) (meant : List Name) (told : List Told) : Type 0 where
-  pub are_words : ArePieces words meant
-  pub are_files : AreFiles files told
-  pub texts : AreTexts meant
-  pub names : HaveNames told
+  pub are_words : AreAll IsText words meant
+  pub are_files : AreAll IsFile files told
 
 -- the bytes are the answer to what two rows of bytes ask
 pub record Responds (words files bytes : List ℕ) : Type 0 where

@@ -11,26 +11,22 @@ pub record IsPiece (bytes piece rest : List ℕ) : Type 0 where
   pub count : big_number 4 bytes ≡ length piece
   pub parts : drop 4 bytes ≡ piece ++ rest
 
--- the bytes are these pieces
-abbrev pub ArePieces : List ℕ → List (List ℕ) → Type 0
-ArePieces bytes [] = bytes ≡ []
-ArePieces bytes (piece ∷ pieces) = (rest : List ℕ) × IsPiece bytes piece rest × ArePieces rest pieces
+-- the bytes begin with a piece that is a text
+pub record IsText (bytes text rest : List ℕ) : Type 0 where
+  pub piece : IsPiece bytes text rest
+  pub utf8 : IsUtf8 text
 
--- the bytes are these files: of each its name, and then what it holds
-abbrev pub AreFiles : List ℕ → List Told → Type 0
-AreFiles bytes [] = bytes ≡ []
-AreFiles bytes (file ∷ files) =
-    (content rest : List ℕ) × IsPiece bytes file.name content × IsPiece content file.content rest × AreFiles rest files
+-- The bytes begin with a file: its name, which is a text, and then what it holds. The rest stands behind both.
+pub record IsFile (bytes : List ℕ) (file : Told) (rest : List ℕ) : Type 0 where
+  pub middle : List ℕ
+  pub name : IsPiece bytes file.name middle
+  pub content : IsPiece middle file.content rest
+  pub utf8 : IsUtf8 file.name
 
--- each is a text
-abbrev pub AreTexts : List (List ℕ) → Type 0
-AreTexts [] = Unit {0}
-AreTexts (text ∷ texts) = IsUtf8 text × AreTexts texts
-
--- each file's name is a text
-abbrev pub HaveNames : List Told → Type 0
-HaveNames [] = Unit {0}
-HaveNames (file ∷ files) = IsUtf8 file.name × HaveNames files
+-- the bytes are these, one behind another, where one and the rest behind it are told by the relation
+abbrev pub AreAll : {X : Type 0} → (List ℕ → X → List ℕ → Type 0) → List ℕ → List X → Type 0
+AreAll begins bytes [] = bytes ≡ []
+AreAll begins bytes (x ∷ xs) = (rest : List ℕ) × begins bytes x rest × AreAll begins rest xs
 
 -- a piece behind its length
 abbrev pub piece_bytes : List ℕ → List ℕ
@@ -48,7 +44,16 @@ file_bytes file = piece_bytes file.name ++ piece_bytes file.content
 abbrev pub files_bytes : List Told → List ℕ
 files_bytes files = flat_map file_bytes files
 
--- each has a length that four bytes hold
-abbrev pub AreShort : List (List ℕ) → Type 0
-AreShort [] = Unit {0}
-AreShort (piece ∷ pieces) = (length piece < 2 ^ 32) × AreShort pieces
+-- a text whose length four bytes hold, and a file whose parts have such lengths
+pub record IsShort (text : List ℕ) : Type 0 where
+  pub short : length text < 2 ^ 32
+  pub utf8 : IsUtf8 text
+
+pub record IsShortFile (file : Told) : Type 0 where
+  pub name : IsShort file.name
+  pub content : length file.content < 2 ^ 32
+
+-- it holds of each
+abbrev pub Each : {X : Type 0} → (X → Type 0) → List X → Type 0
+Each P [] = Unit {0}
+Each P (x ∷ xs) = P x × Each P xs

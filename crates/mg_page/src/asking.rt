@@ -1,10 +1,9 @@
 //! What is asked, in bytes: words, and files by their names.
 
 ghost use Rattle.std.specs.Prelude.{◌≡◌, ℕ, List, IfOk, IsErrOf};
-ghost use Rattle.std.specs.Str.{IsUtf8};
 ghost use Rattle.mg_text.specs.Call.{Name};
 ghost use Rattle.mg_page.specs.Told.{Told};
-ghost use Rattle.mg_page.specs.Pieces.{ArePieces, AreFiles, AreTexts, HaveNames};
+ghost use Rattle.mg_page.specs.Pieces.{IsText, IsFile, AreAll};
 
 use crate::file::File;
 use crate::pieces::first_piece;
@@ -33,14 +32,13 @@ impl From<Memory> for AskFault {
 
 /// The words that stand in bytes.
 pub(crate) fn words_in(alloc: Global, bytes: &[u8]) -> Result<List<Text>, AskFault>
-    ensures ok { IfOk result (λ l. ArePieces bytes.now l.items × AreTexts l.items) }
-    ensures form { IsErrOf result AskFault.Form → (words : List Name) → ArePieces bytes.now words → AreTexts words → ⊥ }
+    ensures ok { IfOk result (λ l. AreAll IsText bytes.now l.items) }
+    ensures form { IsErrOf result AskFault.Form → (words : List Name) → AreAll IsText bytes.now words → ⊥ }
 {
     let mut words = List::new(alloc);
     let mut rest = bytes;
     while !rest.is_empty() {
-        let (word, behind) = first_piece(rest)?;
-        let word = text_of(alloc, word)?;
+        let (word, behind) = first_text(alloc, rest)?;
         words.push(word)?;
         rest = behind;
     }
@@ -49,44 +47,45 @@ pub(crate) fn words_in(alloc: Global, bytes: &[u8]) -> Result<List<Text>, AskFau
 
 /// The files that stand in bytes.
 pub(crate) fn files_in(alloc: Global, bytes: &[u8]) -> Result<List<File>, AskFault>
-    ensures ok { IfOk result (λ l. AreFiles bytes.now l.items × HaveNames l.items) }
-    ensures form { IsErrOf result AskFault.Form → (files : List Told) → AreFiles bytes.now files → HaveNames files → ⊥ }
+    ensures ok { IfOk result (λ l. AreAll IsFile bytes.now l.items) }
+    ensures form { IsErrOf result AskFault.Form → (files : List Told) → AreAll IsFile bytes.now files → ⊥ }
 {
     let mut files = List::new(alloc);
     let mut rest = bytes;
     while !rest.is_empty() {
-        let (name, behind) = first_piece(rest)?;
-        let (content, behind) = first_piece(behind)?;
-        let file = file_of(alloc, name, content)?;
+        let (file, behind) = first_file(alloc, rest)?;
         files.push(file)?;
         rest = behind;
     }
     Ok(files)
 }
 
-// The text that these bytes are.
-fn text_of(alloc: Global, bytes: &[u8]) -> Result<Text, AskFault>
-    ensures ok { IfOk result (λ t. (t ≡ bytes.now) × IsUtf8 bytes.now) }
-    ensures form { IsErrOf result AskFault.Form → IsUtf8 bytes.now → ⊥ }
+// The text that the bytes begin with, and the rest behind it.
+fn first_text(alloc: Global, bytes: &[u8]) -> Result<(Text, &[u8]), AskFault>
+    ensures ok { IfOk result (λ x. IsText bytes.now x.0 x.1.now) }
+    ensures form { IsErrOf result AskFault.Form → (text : Name) → (rest : List ℕ) → IsText bytes.now text rest → ⊥ }
 {
-    match str::from_utf8(bytes) {
+    let (text, rest) = first_piece(bytes)?;
+    match str::from_utf8(text) {
         Ok(text) => {
             let text = Text::of(alloc, text)?;
-            Ok(text)
+            Ok((text, rest))
         }
         Err(_) => Err(AskFault::Form),
     }
 }
 
-// The file of this name that holds this.
-fn file_of(alloc: Global, name: &[u8], content: &[u8]) -> Result<File, AskFault>
-    ensures ok { IfOk result (λ f. (f ≡ record { name = name.now; content = content.now }) × IsUtf8 name.now) }
-    ensures form { IsErrOf result AskFault.Form → IsUtf8 name.now → ⊥ }
+// The file that the bytes begin with, and the rest behind it.
+fn first_file(alloc: Global, bytes: &[u8]) -> Result<(File, &[u8]), AskFault>
+    ensures ok { IfOk result (λ x. IsFile bytes.now x.0 x.1.now) }
+    ensures form { IsErrOf result AskFault.Form → (file : Told) → (rest : List ℕ) → IsFile bytes.now file rest → ⊥ }
 {
+    let (name, middle) = first_piece(bytes)?;
+    let (content, rest) = first_piece(middle)?;
     match str::from_utf8(name) {
         Ok(name) => {
             let file = File::of(alloc, name, content)?;
-            Ok(file)
+            Ok((file, rest))
         }
         Err(_) => Err(AskFault::Form),
     }

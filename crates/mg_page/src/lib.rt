@@ -2,7 +2,7 @@
 //! Its contract is that of the top call, over files and sinks that are told and never fail.
 #![tactic(auto)]
 
-ghost use Rattle.mg_page.specs.Laws.{AsksOnce, AreSpelled};
+ghost use Rattle.mg_page.specs.Laws.{AsksOnce, AreAsked};
 
 mod answering;
 mod asking;
@@ -22,7 +22,7 @@ pub fn asks_once()
     ensures { AsksOnce }
 {}
 
-/// Words and files whose lengths four bytes hold can be asked. The function carries a law.
-pub fn are_spelled()
-    ensures { AreSpelled }
+/// Words and files whose lengths four bytes hold are asked by these bytes. The function carries a law.
+pub fn are_asked()
+    ensures { AreAsked }
 {}
