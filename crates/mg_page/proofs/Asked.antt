@@ -4,7 +4,7 @@ use Rattle.std.proofs.lemmas.List.{take_at, drop_at}
 use Rattle.std.specs.Str.{IsUtf8}
 use Rattle.byteorder.specs.Endian.{big_number}
 use Rattle.mg_page.specs.Told.{Told}
-use Rattle.mg_page.specs.Pieces.{IsPiece, IsText, IsFile, AreAll}
+use Rattle.mg_page.specs.Pieces.{IsPiece, IsText, IsFile, AreAll, BeginWithNone, AreNone}
 
 -- bytes begin with one piece at most
 the_piece : (bytes piece rest : List ℕ) → IsPiece bytes piece rest → take (big_number 4 bytes) (drop 4 bytes) ≡ piece
@@ -47,6 +47,22 @@ file_shortens bytes file rest is =
     let one = piece_shortens bytes file.name is.middle is.name in
     let other = piece_shortens is.middle file.content rest is.content in omega (arith, one, other)
 
+-- a piece that is no text begins no text
+pub text_refused : (bytes text rest : List ℕ) → IsPiece bytes text rest → (IsUtf8 text → ⊥) → BeginWithNone IsText bytes
+text_refused bytes text rest is never x r so =
+    never (subst IsUtf8 (one_piece bytes x text r rest so.piece is).0 so.utf8)
+
+-- nor a file as its name
+pub name_refused : (bytes name middle : List ℕ) → IsPiece bytes name middle → (IsUtf8 name → ⊥) → BeginWithNone IsFile bytes
+name_refused bytes name middle is never x r so =
+    never (subst IsUtf8 (one_piece bytes x.name name so.middle middle so.name is).0 so.utf8)
+
+-- a name behind which no piece stands begins no file
+pub content_refused : (bytes name middle : List ℕ) → IsPiece bytes name middle → BeginWithNone IsPiece middle → BeginWithNone IsFile bytes
+content_refused bytes name middle is never x r so =
+    let moved = (one_piece bytes x.name name so.middle middle so.name is).1 in
+    never x.content r (subst (λ m. IsPiece m x.content r) moved so.content)
+
 module _ {X : Type 0} (begins : List ℕ → X → List ℕ → Type 0) where
   -- These were read of the bytes, and the rest is left.
   pub record AreRead (bytes rest : List ℕ) (xs : List X) : Type 0 where
@@ -57,16 +73,17 @@ module _ {X : Type 0} (begins : List ℕ → X → List ℕ → Type 0) where
   none_read bytes = record { spelled = λ more h. h; left = λ all h. (all, h) }
 
   -- all were read
-  pub all_read : (bytes : List ℕ) (xs : List X) → AreRead bytes [] xs → AreAll begins bytes xs
-  all_read bytes xs read = subst (AreAll begins bytes) (append-nil xs) (read.spelled [] refl)
+  pub all_read : (bytes rest : List ℕ) (xs : List X) → AreRead bytes rest xs → length rest ≡ 0 → AreAll begins bytes xs
+  all_read bytes [] xs read e = subst (AreAll begins bytes) (append-nil xs) (read.spelled [] refl)
+  all_read bytes (b ∷ rest) xs read e = absurd (omega arith)
 
   -- bytes that are left, and begin with nothing that is told, aren't told at all
-  pub none_told : (bytes rest : List ℕ) (xs : List X) → AreRead bytes rest xs → (rest ≡ [] → ⊥) →
-      ((x : X) (r : List ℕ) → begins rest x r → ⊥) → (all : List X) → AreAll begins bytes all → ⊥
-  none_told bytes rest xs read some no all h = let l = read.left all h in go l.0 l.1 where
+  pub none_told : (bytes rest : List ℕ) (xs : List X) → AreRead bytes rest xs → 0 < length rest → BeginWithNone begins rest →
+      AreNone begins bytes
+  none_told bytes rest xs read long never all h = let l = read.left all h in go l.0 l.1 where
     go : (more : List X) → AreAll begins rest more → ⊥
-    go [] e = some e
-    go (x ∷ more) e = no x e.0 e.1
+    go [] e = let h = ap length e in omega (arith, h, long)
+    go (x ∷ more) e = never x e.0 e.1
 
   -- one thing is told at most at the front, and none where there are no bytes
   module _ (one : (bytes : List ℕ) (x y : X) (r s : List ℕ) → begins bytes x r → begins bytes y s → (x ≡ y) × (r ≡ s))

@@ -28,6 +28,14 @@ abbrev pub AreAll : {X : Type 0} → (List ℕ → X → List ℕ → Type 0) �
 AreAll begins bytes [] = bytes ≡ []
 AreAll begins bytes (x ∷ xs) = (rest : List ℕ) × begins bytes x rest × AreAll begins rest xs
 
+-- the bytes begin with nothing that the relation tells
+abbrev pub BeginWithNone : {X : Type 0} → (List ℕ → X → List ℕ → Type 0) → List ℕ → Type 0
+BeginWithNone {X} begins bytes = (x : X) (rest : List ℕ) → begins bytes x rest → ⊥
+
+-- the bytes aren't such things one behind another
+abbrev pub AreNone : {X : Type 0} → (List ℕ → X → List ℕ → Type 0) → List ℕ → Type 0
+AreNone {X} begins bytes = (xs : List X) → AreAll begins bytes xs → ⊥
+
 -- a piece behind its length
 abbrev pub piece_bytes : List ℕ → List ℕ
 piece_bytes piece = big_bytes 4 (length piece) ++ piece

@@ -1,9 +1,7 @@
 //! What is asked, in bytes: words, and files by their names.
 
-ghost use Rattle.std.specs.Prelude.{◌≡◌, ℕ, List, IfOk, IsErrOf};
-ghost use Rattle.mg_text.specs.Call.{Name};
-ghost use Rattle.mg_page.specs.Told.{Told};
-ghost use Rattle.mg_page.specs.Pieces.{IsText, IsFile, AreAll};
+ghost use Rattle.std.specs.Prelude.{IfOk, IsErrOf};
+ghost use Rattle.mg_page.specs.Pieces.{IsText, IsFile, AreAll, BeginWithNone, AreNone};
 
 use crate::file::File;
 use crate::pieces::first_piece;
@@ -33,7 +31,7 @@ impl From<Memory> for AskFault {
 /// The words that stand in bytes.
 pub(crate) fn words_in(alloc: Global, bytes: &[u8]) -> Result<List<Text>, AskFault>
     ensures ok { IfOk result (λ l. AreAll IsText bytes.now l.items) }
-    ensures form { IsErrOf result AskFault.Form → (words : List Name) → AreAll IsText bytes.now words → ⊥ }
+    ensures form { IsErrOf result AskFault.Form → AreNone IsText bytes.now }
 {
     let mut words = List::new(alloc);
     let mut rest = bytes;
@@ -48,7 +46,7 @@ pub(crate) fn words_in(alloc: Global, bytes: &[u8]) -> Result<List<Text>, AskFau
 /// The files that stand in bytes.
 pub(crate) fn files_in(alloc: Global, bytes: &[u8]) -> Result<List<File>, AskFault>
     ensures ok { IfOk result (λ l. AreAll IsFile bytes.now l.items) }
-    ensures form { IsErrOf result AskFault.Form → (files : List Told) → AreAll IsFile bytes.now files → ⊥ }
+    ensures form { IsErrOf result AskFault.Form → AreNone IsFile bytes.now }
 {
     let mut files = List::new(alloc);
     let mut rest = bytes;
@@ -63,7 +61,7 @@ pub(crate) fn files_in(alloc: Global, bytes: &[u8]) -> Result<List<File>, AskFau
 // The text that the bytes begin with, and the rest behind it.
 fn first_text(alloc: Global, bytes: &[u8]) -> Result<(Text, &[u8]), AskFault>
     ensures ok { IfOk result (λ x. IsText bytes.now x.0 x.1.now) }
-    ensures form { IsErrOf result AskFault.Form → (text : Name) → (rest : List ℕ) → IsText bytes.now text rest → ⊥ }
+    ensures form { IsErrOf result AskFault.Form → BeginWithNone IsText bytes.now }
 {
     let (text, rest) = first_piece(bytes)?;
     match str::from_utf8(text) {
@@ -78,7 +76,7 @@ fn first_text(alloc: Global, bytes: &[u8]) -> Result<(Text, &[u8]), AskFault>
 // The file that the bytes begin with, and the rest behind it.
 fn first_file(alloc: Global, bytes: &[u8]) -> Result<(File, &[u8]), AskFault>
     ensures ok { IfOk result (λ x. IsFile bytes.now x.0 x.1.now) }
-    ensures form { IsErrOf result AskFault.Form → (file : Told) → (rest : List ℕ) → IsFile bytes.now file rest → ⊥ }
+    ensures form { IsErrOf result AskFault.Form → BeginWithNone IsFile bytes.now }
 {
     let (name, middle) = first_piece(bytes)?;
     let (content, rest) = first_piece(middle)?;

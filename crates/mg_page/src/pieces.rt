@@ -1,7 +1,7 @@
 //! Pieces of bytes, each behind its length.
 
-ghost use Rattle.std.specs.Prelude.{◌≡◌, ℕ, List, ◌++◌, IfOk, IsErrOf, OnOk};
-ghost use Rattle.mg_page.specs.Pieces.{IsPiece, piece_bytes};
+ghost use Rattle.std.specs.Prelude.{◌≡◌, ◌++◌, IfOk, IsErrOf, OnOk};
+ghost use Rattle.mg_page.specs.Pieces.{IsPiece, BeginWithNone, piece_bytes};
 
 use crate::asking::AskFault;
 use byteorder::{BigEndian, ByteOrder};
@@ -10,7 +10,7 @@ use mg_text::{Bytes, Memory};
 /// The piece that the bytes begin with, and the rest behind it.
 pub(crate) fn first_piece(bytes: &[u8]) -> Result<(&[u8], &[u8]), AskFault>
     ensures ok { IfOk result (λ x. IsPiece bytes.now x.0.now x.1.now) }
-    ensures form { IsErrOf result AskFault.Form → (piece rest : List ℕ) → IsPiece bytes.now piece rest → ⊥ }
+    ensures form { IsErrOf result AskFault.Form → BeginWithNone IsPiece bytes.now }
     ensures memory { IsErrOf result AskFault.Memory → ⊥ }
 {
     if bytes.len() < 4 {
