@@ -1,10 +1,19 @@
 -- How far bytes have been read: what was read stands at their front, and nothing else can.
-use Rattle.std.proofs.Common.{◌≡◌, ◌≤◌, ◌<◌, ◌+◌, ◌-◌, ℕ, List, [], ◌∷◌, ◌++◌, length, take, drop, refl, sym, ap, ◌∙◌, subst, arith, append-nil, append_assoc, length-append, length-drop}
+use Rattle.std.proofs.Common.{◌≡◌, ◌≤◌, ◌<◌, ◌+◌, ◌-◌, ℕ, List, [], ◌∷◌, ◌++◌, length, take, drop, refl, sym, ap, ◌∙◌, subst, arith, append-nil, append_assoc, length-append, length-drop, Result, Ok, Err}
 use Rattle.std.proofs.lemmas.List.{take_at, drop_at}
 use Rattle.std.specs.Str.{IsUtf8}
 use Rattle.byteorder.specs.Endian.{big_number}
 use Rattle.mg_page.specs.Told.{Told}
 use Rattle.mg_page.specs.Pieces.{IsPiece, IsText, IsFile, AreAll, BeginWithNone, AreNone}
+
+-- an error is the same beside values of another type
+error_or : {T E : Type 0} → E → Result T E → E
+error_or y (Ok x) = y
+error_or y (Err x) = x
+
+pub same_error : {T U E : Type 0} (x y : E) → ◌≡◌ {A = Result T E} (Err x) (Err y) → ◌≡◌ {A = Result U E} (Err x) (Err y)
+unfolding error_or
+same_error {T = T} x y e = let same : x ≡ y = ap (error_or {T = T} x) e in ap Err same
 
 -- bytes begin with one piece at most
 the_piece : (bytes piece rest : List ℕ) → IsPiece bytes piece rest → take (big_number 4 bytes) (drop 4 bytes) ≡ piece

@@ -1,7 +1,7 @@
 use Rattle.std.proofs.Common.{◌≡◌, ◌<◌, length, sym, subst, arith, false-eqb, eqb-true}
 use Rattle.std.proofs.lemmas.Result.{err_from_is_err_and}
 use Rattle.mg_page.specs.Pieces.{IsText}
-use Rattle.mg_page.proofs.Asked.{AreRead, none_told, all_read, one_read, one_text, some_text, piece_shortens}
+use Rattle.mg_page.proofs.Asked.{AreRead, same_error, none_told, all_read, one_read, one_text, some_text, piece_shortens}
 use Rattle.mg_page.proofs.asking.words_in.Goals as goal
 
 pub returns-in_err-word-clause-form : goal.returns-in_err-word-clause-form
@@ -9,7 +9,7 @@ returns-in_err-word-clause-form c =
     let p = err_from_is_err_and c.from_residual.result c.from_residual.ensures.1 in
     let long : 0 < length c.loop-rest.rest.now = omega (arith, false-eqb _ 0 c.loop-rest-test.ensures) in
     rw (p.1, p.2) (λ e. none_told IsText c.args.bytes.now c.loop-rest.rest.now c.loop-rest.words.items c.loop-rest.invariant long
-    (c.in_err-word.ensures.form e))
+    (c.in_err-word.ensures.form (same_error _ _ e)))
 
 pub loop-rest-smaller : goal.loop-rest-smaller
 loop-rest-smaller c = piece_shortens c.loop-rest.rest.now c.in_ok-word.word c.in_ok-word.behind.now c.in_ok-word.ensures.ok.piece
