@@ -1,4 +1,4 @@
-//! The calls that `show` tells: what an object may be before each, and behind it; beside the text, and as a table.
+//! The calls that `show` tells: what an object may be before each, and after it; beside the text, and as a table.
 'use strict';
 
 const SEEN = /^(.+):(\d+):(\d+): (\S+)\.(\w+) (.+) -> (.+)$/;
@@ -15,26 +15,17 @@ function seenCall([, file, line, column, variable, method, before, after]) {
     return { ...place, variable, method, before: states(before), after: states(after) };
 }
 
-// The states of calls, as one reads them. Calls of one object on a line that follow one another are told in one go.
+// What is told behind calls on a line: where each leads, behind the name of its variable where they are of several.
 const setText = states => states.join(' ') || '–';
 function seenText(calls) {
-    const parts = [];
-    for (const { variable, before, after } of calls) {
-        const last = parts[parts.length - 1];
-        if (last?.variable === variable && last.after === setText(before)) {
-            last.text += ` → ${setText(after)}`;
-            last.after = setText(after);
-        } else {
-            const text = `${variable}: ${setText(before)} → ${setText(after)}`;
-            parts.push({ variable, text, after: setText(after) });
-        }
-    }
-    return parts.map(part => part.text).join(', ');
+    const rows = [...grouped(calls, call => call.variable)], isOne = rows.length === 1;
+    const told = ([name, list]) => [...isOne ? [] : [name], ...list.map(call => `→ ${setText(call.after)}`)].join(' ');
+    return rows.map(told).join(', ');
 }
 
-// What stands beside a text: behind each line with calls their states, as text in which blanks stand for the line.
+// What stands beside a text: behind each line with calls where they lead, as text in which blanks stand for the line.
 function besideText(text, calls) {
-    const rows = grouped(calls, call => call.line), GAP = '    ';
+    const rows = grouped(calls, call => call.line), GAP = '   ';
     const beside = (line, at) => {
         const here = rows.get(at + 1);
         return here ? line.replace(/[^\t]/gu, ' ') + GAP + seenText(here) : '';
