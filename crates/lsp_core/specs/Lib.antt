@@ -1,0 +1,5 @@
+pub mod Phases
+pub mod Steps
+pub mod Standing
+pub mod Runs
+pub mod examples

@@ -1,0 +1,7 @@
+pub mod Begins
+pub mod Digits
+pub mod Walks
+pub mod Readings
+pub mod More
+pub mod FrameLaws
+pub mod Written

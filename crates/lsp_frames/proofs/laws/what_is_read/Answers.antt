@@ -1,0 +1,5 @@
+use Rattle.lsp_frames.proofs.FrameLaws as laws
+use Rattle.lsp_frames.proofs.laws.what_is_read.Goals as goal
+
+pub returns : goal.returns
+returns c = laws.what_is_read

@@ -1,0 +1,5 @@
+pub mod Fields
+pub mod Reading
+pub mod Frames
+pub mod examples
+pub mod inner

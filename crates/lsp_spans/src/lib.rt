@@ -1,0 +1,8 @@
+//! Ranges of the words that stand at places of mungo, as the protocol has them.
+#![tactic(auto)]
+
+mod ranges;
+mod words;
+
+pub use ranges::ranges_of;
+pub use words::{path_len, word_len};
