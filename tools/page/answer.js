@@ -48,7 +48,7 @@ function piecesIn(bytes) {
 // The bytes of the answer to what two rows of bytes ask. The program puts them into room that it is given, as far as that
 // goes, and says how long they are; where there is too little, it is asked once more.
 function answerBytes(words, files) {
-    const { memory, take, answer } = new WebAssembly.Instance(program, {}).exports, MUCH = 1 << 22;
+    const { memory, take, answer } = new WebAssembly.Instance(program, {}).exports, MUCH = (1 << 20) - 16;
     const took = length => {
         const at = take(length) >>> 0;
         if (!at) throw new Error('there is too little memory');
