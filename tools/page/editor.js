@@ -20,35 +20,61 @@ function coloured(text) {
     });
 }
 
-// Shows a text, and where a fault stands in it, from an offset to another: its line is lit, and its word is underlined.
-function showText(text, span, isReadOnly) {
-    const area = element('text'), faulty = element('faulty'), numbers = element('numbers');
+// A text with colours, in which words are marked: those at spans, pairs of offsets in their order that don't meet.
+function markedText(text, spans) {
+    const colour = text.length > MOST_COLOURED ? escaped : coloured, parts = [];
+    let at = 0;
+    for (const [from, to] of spans) {
+        const word = tag('u', {}, colour(text.slice(from, to)).trim() || ' ');
+        parts.push(colour(text.slice(at, from)), word);
+        at = to;
+    }
+    return parts.join('') + colour(text.slice(at)) + '\n';
+}
+
+// Spans in their order, of which those are left out that meet an earlier one.
+function apart(spans) {
+    const kept = [];
+    for (const span of [...spans].sort((one, other) => one[0] - other[0])) {
+        if (!kept.length || span[0] >= kept[kept.length - 1][1]) kept.push(span);
+    }
+    return kept;
+}
+
+const lineAt = (text, offset) => text.slice(0, offset).split('\n').length - 1;
+
+// Shows a text, the places where faults stand in it, as spans, whose lines are lit and whose words are underlined, and
+// what stands beside it.
+function showText(text, spans, beside, isReadOnly) {
+    const area = element('text'), numbers = element('numbers');
     if (area.value !== text) area.value = text;
     area.readOnly = isReadOnly;
-    const colour = text.length > MOST_COLOURED ? escaped : coloured, [from, to] = span ?? [text.length, text.length];
-    const marked = span ? tag('u', {}, colour(text.slice(from, to)).trim() || ' ') : '';
-    element('shown').innerHTML = colour(text.slice(0, from)) + marked + colour(text.slice(to)) + '\n';
+    element('shown').innerHTML = markedText(text, apart(spans));
+    element('beside').textContent = beside;
     const count = text.split('\n').length;
     if (numbers.dataset.count !== String(count)) {
         numbers.dataset.count = count;
         numbers.textContent = Array.from({ length: count }, (_, at) => at + 1).join('\n') + '\n\n';
     }
-    faulty.hidden = !span;
-    faulty.dataset.line = text.slice(0, from).split('\n').length - 1;
+    const lines = new Set(spans.map(([from]) => lineAt(text, from)));
+    const light = line => tag('i', { style: `top: ${EDGE + LINE_HEIGHT * line}px` });
+    element('faulty').innerHTML = [...lines].map(light).join('');
     scrollText();
 }
 
 // Moves what stands behind the text area to where that has been scrolled.
 function scrollText() {
-    const area = element('text'), faulty = element('faulty');
-    element('shown').style.transform = `translate(${-area.scrollLeft}px, ${-area.scrollTop}px)`;
+    const area = element('text');
+    for (const id of ['shown', 'beside']) {
+        element(id).style.transform = `translate(${-area.scrollLeft}px, ${-area.scrollTop}px)`;
+    }
     element('numbers').scrollTop = area.scrollTop;
-    faulty.style.top = `${EDGE + LINE_HEIGHT * Number(faulty.dataset.line ?? 0) - area.scrollTop}px`;
+    element('faulty').style.transform = `translateY(${-area.scrollTop}px)`;
 }
 
 // Puts the caret at an offset, and its line into sight.
 function goTo(offset) {
-    const area = element('text'), line = area.value.slice(0, offset).split('\n').length - 1;
+    const area = element('text'), line = lineAt(area.value, offset);
     area.focus();
     area.setSelectionRange(offset, offset);
     area.scrollTop = Math.max(0, LINE_HEIGHT * line - area.clientHeight / 2);

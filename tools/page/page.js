@@ -1,11 +1,12 @@
 //! The page: which files are open, when they are judged, and what the user does.
 'use strict';
 
-const examples = JSON.parse(element('examples').textContent), faults = JSON.parse(element('faults').textContent);
+const examples = JSON.parse(element('examples').textContent), sections = JSON.parse(element('faults').textContent);
 
 const page = {
     files: new Map(), at: '',               // the files, a map from names to texts, and the one that is shown
     judged: null, took: 0, count: 0,        // what judge.js says of them, in how many milliseconds, for the which time
+    fault: 0, call: null,                   // which of the faults is chosen, and the call of `show` that is, or null
     words: null, auto: '',                  // the words of the run that were written, or null, and those found
     ran: null, run: null,                   // what `run` gave, and what sequence.js reads in its trace
     objects: new Map(), step: 0, window: null,      // the run's objects, the step that is shown, and the first row
@@ -21,6 +22,7 @@ let later = 0;
 function judgeNow(isTyping = false) {
     const began = performance.now();
     page.judged = judge(page.files);
+    Object.assign(page, { fault: 0, call: null });
     if (!page.files.has(page.at) && !page.judged.given.has(page.at)) page.at = [...page.files.keys()][0] ?? '';
     showFiles(page);
     showVerdict(page);
@@ -34,9 +36,13 @@ function showRest() {
     clearTimeout(later);
     later = 0;
     runProgram(page);
-    page.shown = stateOf(page.judged)?.typestate.name ?? page.shown;
+    page.shown = stateOf(page.judged.faults[page.fault], page.judged)?.typestate.name ?? page.shown;
     showTypestates(page);
     showView();
+}
+function goToStep(step) {
+    page.call = null;
+    showStep(page, step, true);
 }
 function showView() {
     const view = views[page.view], controls = element('controls');
@@ -55,7 +61,7 @@ function typed() {
     page.files.set(page.at, element('text').value);
     clearTimeout(pause);
     if (page.took < SHORT) return judgeNow(true);
-    showText(element('text').value, null, false);
+    showText(element('text').value, [], '', false);
     pause = setTimeout(judgeNow, Math.min(page.took, LONG), true);
 }
 
@@ -93,11 +99,33 @@ function openFile(name) {
     element('text').scrollTop = 0;
     scrollText();
 }
-function goToFault() {
-    const { fault } = page.judged;
-    if (!fault?.file || !page.textOf(fault.file)) return;
-    openFile(fault.file);
-    goTo(spanOf(page.textOf(fault.file), fault)[0]);
+// Goes to a place { file, line, column }.
+function goToPlace(place) {
+    if (!place?.file || !page.textOf(place.file)) return;
+    openFile(place.file);
+    goTo(spanOf(page.textOf(place.file), place)[0]);
+}
+function chooseFault(number) {
+    const fault = page.judged.faults[number];
+    Object.assign(page, { fault: number, call: null });
+    showVerdict(page);
+    page.shown = stateOf(fault, page.judged)?.typestate.name ?? page.shown;
+    showTypestates(page);
+    goToPlace(fault);
+}
+// Goes to a call that `show` tells, by its number, and lights its states.
+function chooseCall(number) {
+    const call = [...page.judged.seen.values()].flat()[number];
+    const typestate = typestateOf(call.variable, call, page.judged);
+    page.call = typestate && { ...call, typestate };
+    page.shown = typestate?.name ?? page.shown;
+    showTypestates(page);
+    goToPlace(call);
+}
+function toggleBeside() {
+    const isShown = element('beside').hidden;
+    element('beside').hidden = !isShown;
+    element('states-beside').setAttribute('aria-pressed', isShown);
 }
 // Asks for a name, to add a file, or to rename the one that is shown.
 function askName(what) {
@@ -141,13 +169,14 @@ function listen() {
     });
     pressed('states', it => { page.shown = it.dataset.name; showTypestates(page); });
     pressed('views', it => { page.view = it.dataset.name; showView(); });
-    pressed('say', it => { if (it.id === 'fault') goToFault(); });
-    pressed('controls', it => { if (it.id === 'go') showView(); else showStep(page, steps[it.id](), true); });
+    pressed('say', it => { if (it.dataset.fault) chooseFault(Number(it.dataset.fault)); });
+    pressed('controls', it => { if (it.id === 'go') showView(); else goToStep(steps[it.id]()); });
     on('view', 'click', event => {
-        const row = event.target.closest('.row');
-        if (row) showStep(page, Number(row.dataset.at), true);
+        const row = event.target.closest('.row'), call = event.target.closest('[data-call]');
+        if (row) goToStep(Number(row.dataset.at));
+        if (call) chooseCall(Number(call.dataset.call));
     });
-    on('controls', 'input', ({ target }) => { if (target.id === 'slide') showStep(page, Number(target.value), true); });
+    on('controls', 'input', ({ target }) => { if (target.id === 'slide') goToStep(Number(target.value)); });
     on('controls', 'change', ({ target }) => {
         if (target.id === 'words') { page.words = target.value.trim() || null; showRest(); }
         if (target.tagName === 'SELECT') showView();
@@ -163,6 +192,7 @@ function listen() {
         takeName();
     });
     on('link', 'click', makeLink);
+    on('states-beside', 'click', toggleBeside);
     on('text', 'scroll', scrollText);
     on('text', 'input', typed);
     window.addEventListener('hashchange', openLink);

@@ -13,7 +13,8 @@ function setBar(bar, html) {
 
 // ---- files ----
 function showFiles(page) {
-    const { given, fault } = page.judged, isBad = name => fault?.file === name ? 'bad' : '';
+    const { given, faults } = page.judged, bad = new Set(faults.map(it => it.file));
+    const isBad = name => bad.has(name) ? 'bad' : '';
     const own = [...page.files.keys()].map(name => nameButton(name, name === page.at, { class: isBad(name) }));
     const made = [...given].map(([name, { by }]) => {
         return nameButton(name, name === page.at, { class: `made ${isBad(name)}`, title: `made by mungo ${by}` });
@@ -26,13 +27,14 @@ function showFiles(page) {
     showFile(page);
 }
 function showFile(page) {
-    const text = page.textOf(page.at), { fault } = page.judged;
-    showText(text, fault && fault.file === page.at ? spanOf(text, fault) : null, !page.files.has(page.at));
+    const text = page.textOf(page.at), { faults, seen } = page.judged;
+    const spans = faults.filter(it => it.file === page.at).map(it => spanOf(text, it));
+    showText(text, spans, besideText(text, seen.get(page.at) ?? []), !page.files.has(page.at));
 }
 
 // ---- the verdict ----
 function showVerdict(page) {
-    element('say').innerHTML = page.judged.told ? refusedText(page.judged) : acceptedText(page.judged);
+    element('say').innerHTML = page.judged.told ? refusedText(page) : acceptedText(page.judged);
 }
 function acceptedText({ verdict, fitted, globals, program }) {
     const rows = verdict.out.split('\n').filter(Boolean).map(line => line.split(' = '));
@@ -42,13 +44,29 @@ function acceptedText({ verdict, fitted, globals, program }) {
     const verdictText = program.length ? `Accepted.${fits}` : 'Nothing is refused.';
     return tag('div', { class: 'yes' }, escaped(verdictText)) + (rows.length ? table : '');
 }
-function refusedText(judged) {
-    const { verdict, told, fault, globals } = judged, section = faults[fault.kind];
-    const text = told.err.trim() || statusText(told.status);
-    const line = tag('button', { class: 'no', id: 'fault', title: 'goes to the place' }, escaped(text));
+// The lines that refuse, each a button that leads to its place, and what is to be said of the one that is chosen.
+function refusedText({ judged, fault: chosen }) {
+    const { verdict, told, faults, globals } = judged, MOST = 100;
+    const lines = told.err.split('\n').filter(Boolean), fault = faults[chosen];
+    const lineButton = (text, at) => tag('button', {
+        class: 'no', 'data-fault': at, title: 'goes to the place', ...at === chosen && { id: 'fault' },
+        ...at === chosen && lines.length > 1 && { 'aria-current': 'true' },
+    }, escaped(text));
+    const list = (lines.length ? lines : [statusText(told.status)]).slice(0, MOST).map(lineButton).join('');
+    const more = lines.length > MOST ? hint(`and ${lines.length - MOST} more`) : '';
     const alone = `The program is accepted by \`check\`; \`fit\` refuses it with ${globals[0]}.`;
-    const which = verdict.status === 0 ? tag('p', {}, inline(alone)) : '';
-    return line + which + offersText(stateOf(judged)) + (section ? explanation(section, fault.file) : '');
+    const which = verdict.status === 0 ? tag('p', {}, inline(alone)) : '', section = sections[fault?.kind];
+    return list + more + which + offersText(stateOf(fault, judged)) + ledText(fault, judged)
+        + (section ? explanation(section, fault.file) : '');
+}
+// The calls on its variable before a fault that lead to the state that it tells.
+function ledText(fault, { seen }) {
+    const [variable, state] = (fault?.about ?? '').split(' '), isBefore = call => call.line < fault.line
+        || call.line === fault.line && call.column < fault.column;
+    const calls = state ? (seen.get(fault.file) ?? []).filter(call => call.variable === variable) : [];
+    const led = calls.filter(call => isBefore(call) && call.after.includes(state));
+    const told = call => `\`${variable}.${call.method}\` in line ${call.line}`;
+    return led.length ? tag('p', {}, inline(`There led ${led.map(told).join(', ')}.`)) : '';
 }
 // What the state offers that a fault tells.
 function offersText(found) {
@@ -89,11 +107,17 @@ function objectsOf(page, name) {
 }
 // Lights the states in which objects stand, and the calls by which the last one moved; or the state that a fault tells.
 function lightStates(page) {
-    const svg = element('drawn').querySelector('svg'), found = stateOf(page.judged);
+    const svg = element('drawn').querySelector('svg'), found = stateOf(page.judged.faults[page.fault], page.judged);
     if (!svg) return;
+    if (page.call?.typestate.name === page.shown) return lightCall(svg, page.call);
     const objects = objectsOf(page, page.shown), states = new Set(objects.map(it => it.step.state));
     if (found?.typestate.name === page.shown) states.add(found.state);
     light(svg, states, objects[0]?.step.keys ?? []);
+    intoSight(element('drawn'), svg.querySelector('.state.on'));
+}
+// Lights the states in which an object may be at a call that `show` tells, and the call in each of them.
+function lightCall(svg, { before, method }) {
+    light(svg, new Set(before), before.map(state => stateKey(state, method)));
     intoSight(element('drawn'), svg.querySelector('.state.on'));
 }
 // Scrolls a pane so that something in it is seen, and leaves the page where it is.

@@ -63,6 +63,22 @@ const probe = (() => {
             crossed: crossed(),
         };
     }
+    // The lines that refuse, as they are told; and the calls in the table of `show`, as rows of texts.
+    function told() {
+        const lines = [...document.querySelectorAll('#say [data-fault]')].map(it => it.textContent);
+        return lines.length ? lines.join('\n') : null;
+    }
+    function calls() {
+        const room = document.createElement('div');
+        room.innerHTML = views.show.body(page);
+        const rows = [...room.querySelectorAll('tr')].slice(1);
+        return rows.map(row => [...row.children].map(it => it.textContent));
+    }
+    // What stands beside the lines of the text that is open, by their numbers.
+    function beside() {
+        const lines = element('beside').textContent.split('\n').map((line, at) => [at + 1, line.trim()]);
+        return Object.fromEntries(lines.filter(([, line]) => line));
+    }
     const lit = () => [...document.querySelectorAll('#drawn .state.on')].map(it => it.dataset.state);
 
     // The objects of the run that at the step that is shown are neither at their end nor where they may be left.
@@ -88,7 +104,7 @@ const probe = (() => {
 
     // The heap of host.c under a random load: whether blocks keep what is put into them, and don't cover one another.
     function heap(turns) {
-        const heap = new WebAssembly.Instance(program, { page: hostOf([], new Map()).calls }).exports;
+        const heap = new WebAssembly.Instance(program, {}).exports;
         const random = generator(7), live = [], sizeOf = () => random(20) ? random(300) : random(70000);
         const view = ({ at, size }) => new Uint8Array(heap.memory.buffer, at, size);
         const keeps = (block, count) => view(block).subarray(0, count).every(byte => byte === block.mark);
@@ -145,7 +161,7 @@ const probe = (() => {
             if (!random(4)) openFile([...page.files.keys()][random(page.files.size)]);
             edit();
             if (random(8)) continue;
-            page.view = Object.keys(views)[random(6)];
+            page.view = Object.keys(views)[random(7)];
             showRest();
             showStep(page, random(60), true);
         }
@@ -155,5 +171,6 @@ const probe = (() => {
         return opened();
     }
 
-    return { answered, opened, covered, drawn, lit, unfinished, focus, controls, outside, heap, edits };
+    const seeing = { told, calls, beside, drawn, lit, unfinished };
+    return { answered, opened, covered, ...seeing, focus, controls, outside, heap, edits };
 })();

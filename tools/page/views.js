@@ -43,6 +43,16 @@ const views = {
             + '<span id="step"></span>',
         body: page => runBody(page),
     },
+    show: {
+        title: 'Show',
+        controls: '<span>mungo show</span>',
+        body({ judged: { shown, seen } }) {
+            if (!shown) return hint('There is no program here.');
+            if (shown.status !== 0) return given(shown);
+            const text = 'What each object may be where a method is called on it, in whatever way the call is come to.';
+            return hint(text) + (seen.size ? seenTable(seen) : hint('No method of a typestate is called here.'));
+        },
+    },
     project: {
         title: 'Project',
         controls: list('mungo project', 'global'),
