@@ -163,3 +163,11 @@ longest translate 238 translate --out "$out" "$sturdy/P.scr"
 longest compile 245 compile --out "$out" "$sturdy/P.scr" "$sturdy/M.java"
 longest "run --out" 245 run --out "$out" --main M "$sturdy/P.scr" "$sturdy/M.java"
 longest project 251 project --out "$out" "$sturdy/G.scr"
+# A check that is stopped by timeout leaves no folder.
+mkdir -p "$sturdy/stopped"
+printf '#!/bin/sh\nsleep 60\n' >"$sturdy/slow"
+chmod +x "$sturdy/slow"
+MUNGO=$sturdy/slow TMPDIR=$sturdy/stopped timeout 1 tools/check examples/adder/C.scr >/dev/null 2>&1
+status=$?
+rmdir "$sturdy/stopped" && [ "$status" -eq 124 ]
+count "tools/check that is stopped leaves no folder" $?

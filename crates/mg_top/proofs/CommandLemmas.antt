@@ -1,5 +1,5 @@
 -- What the functions of the commands answer.
-use Rattle.std.proofs.Common.{◌≡◌, ℕ, Bool, map, List, [], ◌∷◌, ◌++◌, All, codes, inl, inr, None, sym, ap, ◌∙◌, subst, append_assoc}
+use Rattle.std.proofs.Common.{◌≡◌, ℕ, Bool, true, map, List, [], ◌∷◌, ◌++◌, All, codes, inl, inr, None, sym, ap, ◌∙◌, subst, append_assoc}
 use Rattle.std.specs.Prelude.{IfOk, Result, Ok, Err, if◌then◌else◌}
 use Rattle.mg_text.specs.declared.memory.Memory.{Memory}
 use Rattle.mg_delivery.specs.declared.status.Status.{Status}

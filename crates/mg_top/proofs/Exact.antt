@@ -135,6 +135,7 @@ not_both {r = r} (fitted {roles = roles} {global = global} {files = files} {byte
     not_unfit (source_of (length files) global bytes) (sources files contents) (cast_mains_of roles) a r h
 not_both {contents = contents} {r = r} (shown {files = files} core have is) (commands.show h) =
     no_refusal (sources files contents) have.program r have.are h
+not_both (faulted h) r = elim r [ ]
 
 -- ---- one status
 

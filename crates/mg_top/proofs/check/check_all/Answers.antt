@@ -7,8 +7,8 @@ use Rattle.mg_faults.specs.Faults.{AllRefusals}
 use Rattle.mg_top.proofs.CommandLemmas.{report_given, faults_said}
 use Rattle.mg_top.proofs.check.check_all.Goals as goal
 
-pub show-requires-in-Accepted : goal.show-requires-in-Accepted
-show-requires-in-Accepted c =
+pub show-requires : goal.show-requires
+show-requires c =
     let found : IsProgramOf (sources c.args.names.now c.args.contents.now) c.in-Accepted.program
     = rw c.in-Accepted.is at c.in_ok-found.ensures.found in
     found.tables_are
@@ -25,5 +25,5 @@ returns-in_ok-text-in-Refused c =
     let found : AllRefusals (sources c.args.names.now c.args.contents.now) c.in-Refused.refusals.items
     = rw c.in-Refused.is at c.in_ok-found.ensures.found in
     faults_said c.args.names.now c.args.contents.now c.in-Refused.refusals.items c.in_ok-text-in-Refused.text c.said.result found
-    (c.in_ok-text-in-Refused.ensures ∙ ap (refusal_lines c.args.names.now) c.as_slice.ensures.items) c.said.ensures.actions
+    (c.in_ok-text-in-Refused.ensures ∙ ap (refusal_lines c.args.names.now) c.as_slice.ensures.value) c.said.ensures.actions
     c.said.ensures.status
