@@ -162,42 +162,42 @@ shown_so asked written text trace names counts all = kept_in asked.folder writte
     ++ (prints text ++ Say (trace ++ role_lines names counts all) ∷ [])
 
 abbrev pub shown_by : Asked → Ran → List Action
-shown_by asked shown = shown_so asked shown.files.items shown.printed shown.trace
-    (names_of (role_mains_of asked)) (map (λ r. r.instructions) shown.roles.items) (map (λ r. r.stand) shown.roles.items)
+shown_by asked outcome = shown_so asked outcome.files.items outcome.printed outcome.trace
+    (names_of (role_mains_of asked)) (map (λ r. r.instructions) outcome.roles.items) (map (λ r. r.stand) outcome.roles.items)
 
-shown_same : (asked : Asked) (r : Course) (shown : Ran) → Shows (role_mains_of asked) (are_named asked) asked.traced r shown
-    → shown_by asked shown ≡ kept_in asked.folder r.written ++ (prints (run_printed asked r) ++ Say (run_said asked r) ∷ [])
-shown_same asked r shown h = λ i. shown_so asked (h.written i) (h.printed_is i) (h.trace_is i) (names_of (role_mains_of asked)) (h.counts i)
+shown_same : (asked : Asked) (r : Course) (outcome : Ran) → Shows (role_mains_of asked) (are_named asked) asked.traced r outcome
+    → shown_by asked outcome ≡ kept_in asked.folder r.written ++ (prints (run_printed asked r) ++ Say (run_said asked r) ∷ [])
+shown_same asked r outcome h = λ i. shown_so asked (h.written i) (h.printed_is i) (h.trace_is i) (names_of (role_mains_of asked)) (h.counts i)
     (h.stands i)
 
 -- a run of what is asked for
-run_asked : (asked : Asked) (files : List Source) (mains : List RoleMain) (order : List ℕ) (limit : ℕ) (named : Bool) (shown : Ran)
+run_asked : (asked : Asked) (files : List Source) (mains : List RoleMain) (order : List ℕ) (limit : ℕ) (named : Bool) (outcome : Ran)
     → mains ≡ role_mains_of asked → order ≡ order_of asked → limit ≡ limit_of asked → named ≡ are_named asked
-    → IsOfRun files mains order limit named asked.traced shown → IsOfRun files (role_mains_of asked) (order_of asked) (limit_of asked)
-    (are_named asked) asked.traced shown
-run_asked asked files mains order limit named shown m o l n h =
-    subst (λ (z : Bool). IsOfRun files (role_mains_of asked) (order_of asked) (limit_of asked) z asked.traced shown) n
-    (subst (λ (z : ℕ). IsOfRun files (role_mains_of asked) (order_of asked) z named asked.traced shown) l
-    (subst (λ (z : List ℕ). IsOfRun files (role_mains_of asked) z limit named asked.traced shown) o
-    (subst (λ (z : List RoleMain). IsOfRun files z order limit named asked.traced shown) m h)))
+    → IsOfRun files mains order limit named asked.traced outcome → IsOfRun files (role_mains_of asked) (order_of asked) (limit_of asked)
+    (are_named asked) asked.traced outcome
+run_asked asked files mains order limit named outcome m o l n h =
+    subst (λ (z : Bool). IsOfRun files (role_mains_of asked) (order_of asked) (limit_of asked) z asked.traced outcome) n
+    (subst (λ (z : ℕ). IsOfRun files (role_mains_of asked) (order_of asked) z named asked.traced outcome) l
+    (subst (λ (z : List ℕ). IsOfRun files (role_mains_of asked) z limit named asked.traced outcome) o
+    (subst (λ (z : List RoleMain). IsOfRun files z order limit named asked.traced outcome) m h)))
 
 -- the class files of a run, what it printed, its trace and the lines of its roles
 pub run_given : RunsAreTypable → (asked : Asked) (files : List Word) (contents : List (List ℕ)) (mains : List RoleMain)
-    (order : List ℕ) (limit : ℕ) (named : Bool) (shown : Ran) (d : Delivery) → mains ≡ role_mains_of asked → order ≡ order_of asked →
+    (order : List ℕ) (limit : ℕ) (named : Bool) (outcome : Ran) (d : Delivery) → mains ≡ role_mains_of asked → order ≡ order_of asked →
     limit ≡ limit_of asked →
-    named ≡ are_named asked → IsOfRun (sources files contents) mains order limit named asked.traced shown →
-    d.actions.items ≡ shown_so asked shown.files.items shown.printed shown.trace (names_of mains)
-    (map (λ r. r.instructions) shown.roles.items) (map (λ r. r.stand) shown.roles.items) →
-    d.status ≡ status_of (map (λ r. r.stand) shown.roles.items) → Gives (Run asked files) contents d.actions.items d.status
-run_given typable asked files contents mains order limit named shown d m o l n given actions status =
-    let h : IsOfRun (sources files contents) (role_mains_of asked) (order_of asked) (limit_of asked) (are_named asked) asked.traced shown =
-    run_asked asked (sources files contents) mains order limit named shown m o l n given in
-    gives_so (Run asked files) contents (shown_by asked shown) (status_of (map (λ r. r.stand) shown.roles.items)) d
-    (actions ∙ ap (λ (z : List RoleMain). shown_so asked shown.files.items shown.printed shown.trace (names_of z)
-    (map (λ r. r.instructions) shown.roles.items) (map (λ r. r.stand) shown.roles.items)) m) status
-    (subst (λ (z : Status). Gives (Run asked files) contents (shown_by asked shown) z) (ap status_of (sym h.shows.stands))
+    named ≡ are_named asked → IsOfRun (sources files contents) mains order limit named asked.traced outcome →
+    d.actions.items ≡ shown_so asked outcome.files.items outcome.printed outcome.trace (names_of mains)
+    (map (λ r. r.instructions) outcome.roles.items) (map (λ r. r.stand) outcome.roles.items) →
+    d.status ≡ status_of (map (λ r. r.stand) outcome.roles.items) → Gives (Run asked files) contents d.actions.items d.status
+run_given typable asked files contents mains order limit named outcome d m o l n given actions status =
+    let h : IsOfRun (sources files contents) (role_mains_of asked) (order_of asked) (limit_of asked) (are_named asked) asked.traced outcome =
+    run_asked asked (sources files contents) mains order limit named outcome m o l n given in
+    gives_so (Run asked files) contents (shown_by asked outcome) (status_of (map (λ r. r.stand) outcome.roles.items)) d
+    (actions ∙ ap (λ (z : List RoleMain). shown_so asked outcome.files.items outcome.printed outcome.trace (names_of z)
+    (map (λ r. r.instructions) outcome.roles.items) (map (λ r. r.stand) outcome.roles.items)) m) status
+    (subst (λ (z : Status). Gives (Run asked files) contents (shown_by asked outcome) z) (ap status_of (sym h.shows.stands))
     (subst (λ (z : List Action). Gives (Run asked files) contents z (status_of (stands_in h.run.program h.run.last)))
-    (sym (shown_same asked h.run shown h.shows))
+    (sym (shown_same asked h.run outcome h.shows))
     (ran h.run h.is (typable (sources files contents) (role_mains_of asked) (order_of asked) (limit_of asked) h.run h.is))))
 
 -- ---- what all commands give
