@@ -20,9 +20,11 @@ piece_there piece rest short =
 
 pub words_there : (words : List Name) → Each IsShort words → AreAll IsText (pieces_bytes words) words
 words_there [] short = refl
-words_there (word ∷ words) short =
-    (pieces_bytes words, record { piece = piece_there word (pieces_bytes words) short.0.short; utf8 = short.0.utf8 },
-    words_there words short.1)
+words_there (word ∷ words) short = (
+  pieces_bytes words,
+  record { piece = piece_there word (pieces_bytes words) short.0.short; utf8 = short.0.utf8 },
+  words_there words short.1,
+)
 
 file_there : (file : Told) (rest : List ℕ) → IsShortFile file → IsFile (file_bytes file ++ rest) file rest
 file_there file rest short =

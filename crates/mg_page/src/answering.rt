@@ -29,8 +29,13 @@ pub fn answer(alloc: Global, words: &[Text], files: List<File>) -> Result<Outcom
     let mut folder = ToldFolder::of(alloc, files)?;
     let mut out = ToldSink::new(alloc);
     let mut err = ToldSink::new(alloc);
-    let status =
-        mungo::<ToldFolder, ToldSink, ToldSink>(alloc, words, &mut folder, &mut out, &mut err);
+    let status = mungo::<ToldFolder, ToldSink, ToldSink>(
+        alloc,
+        words,
+        &mut folder,
+        &mut out,
+        &mut err,
+    );
     Ok(Outcome {
         status,
         out: out.into_bytes(),
