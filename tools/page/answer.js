@@ -26,66 +26,66 @@ function joined(pieces) {
     return whole;
 }
 
-// What host.c asks of the page, over words and files, and what has been put and written.
-function hostOf(words, files) {
-    const NO_FILE = -2, OUT = 1, ERR = 2;
-    const spelled = ['mungo', ...words].map(toBytes), put = new Map([[OUT, []], [ERR, []]]);
-    const written = new Map(), open = new Map();
-    let memory, last = ERR;
-    const view = (at, length) => new Uint8Array(memory.buffer, at >>> 0, length >>> 0);
-    // Puts the front of bytes into the module's memory, as far as there is room, and answers its length.
-    const give = (bytes, at, space) => {
-        const length = Math.min(bytes.length, space >>> 0);
-        view(at, length).set(bytes.subarray(0, length));
-        return length;
+// Pieces as the program reads them, each behind its length in four bytes, the highest first; and such pieces in bytes.
+function piecesOf(pieces) {
+    const lengthOf = piece => {
+        const bytes = new Uint8Array(4);
+        new DataView(bytes.buffer).setUint32(0, piece.length);
+        return bytes;
     };
-    const contents = name => typeof files.get(name) === 'string' ? toBytes(files.get(name)) : files.get(name);
-    const calls = {
-        word(number, to, space) {
-            if (number >= spelled.length) return -1;
-            give(spelled[number], to, space);
-            return spelled[number].length;
-        },
-        open(at, length, writes) {
-            const name = toText(view(at, length));
-            if (writes ? files.refuses?.(name) : !files.has(name)) return NO_FILE;
-            last++;
-            if (writes) {
-                put.set(last, []);
-                written.set(name, put.get(last));
-            } else open.set(last, { bytes: contents(name), at: 0 });
-            return last;
-        },
-        read(file, to, space) {
-            const it = open.get(file), length = give(it.bytes.subarray(it.at), to, space);
-            it.at += length;
-            return length;
-        },
-        write(file, from, length) {
-            put.get(file).push(view(from, length).slice());
-            return length;
-        },
-        close: () => 0,
-    };
-    const given = () => ({
-        out: toText(joined(put.get(OUT))), err: toText(joined(put.get(ERR))),
-        written: new Map([...written].map(([name, pieces]) => [name, joined(pieces)])),
-    });
-    return { calls, begin: instance => { memory = instance.exports.memory; }, given };
+    return joined(pieces.flatMap(piece => [lengthOf(piece), piece]));
+}
+function piecesIn(bytes) {
+    const pieces = [], view = new DataView(bytes.buffer, bytes.byteOffset, bytes.length);
+    for (let at = 0; at < bytes.length;) {
+        const from = at + 4, until = from + view.getUint32(at);
+        pieces.push(bytes.subarray(from, until));
+        at = until;
+    }
+    return pieces;
 }
 
-// Runs `mungo WORDS` over files, a map from names to texts or bytes; any file may be written, or those that it doesn't
-// refuse. It gives the status, what was put on standard output and on standard error, and the files that were written,
-// a map from names to bytes. Where the browser stopped the program, as for want of stack, the status is null, and `err`
-// says why.
+// The bytes of the answer to what two rows of bytes ask. The program puts them into room that it is given, as far as that
+// goes, and says how long they are; where there is too little, it is asked once more.
+function answerBytes(words, files) {
+    const { memory, take, answer } = new WebAssembly.Instance(program, {}).exports, MUCH = (1 << 20) - 16;
+    const took = length => {
+        const at = take(length) >>> 0;
+        if (!at) throw new Error('there is too little memory');
+        return at;
+    };
+    const put = bytes => {
+        const at = took(bytes.length);
+        new Uint8Array(memory.buffer, at, bytes.length).set(bytes);
+        return [at, bytes.length];
+    };
+    const asked = [...put(words), ...put(files)];
+    for (let space = MUCH; ;) {
+        const room = took(space), length = answer(...asked, room, space) >>> 0;
+        if (!length) throw new Error('there is too little memory');
+        if (length <= space) return new Uint8Array(memory.buffer, room, length).slice();
+        space = length;
+    }
+}
+
+// Runs `mungo WORDS` over files, a map from names to texts or bytes, of which it sees those that are words. It gives the
+// status, what was put on standard output and on standard error, and the files that were written, a map from names to
+// bytes, without those that were so before. Where the browser stopped the program, as for want of stack, the status is
+// null, and `err` says why.
 function answer(words, files) {
-    const host = hostOf(words, files);
+    const bytesOf = name => typeof files.get(name) === 'string' ? toBytes(files.get(name)) : files.get(name);
+    const given = new Map([...new Set(words)].filter(word => files.has(word)).map(word => [word, bytesOf(word)]));
     try {
-        const instance = new WebAssembly.Instance(program, { page: host.calls });
-        host.begin(instance);
-        return { status: instance.exports.run(), ...host.given() };
+        const told = [...given].flatMap(([name, bytes]) => [toBytes(name), bytes]);
+        const bytes = answerBytes(piecesOf(words.map(toBytes)), piecesOf(told));
+        const [out, err, ...after] = piecesIn(bytes.subarray(1)), stand = new Map();
+        for (let at = 0; at < after.length; at += 2) stand.set(toText(after[at]), after[at + 1]);
+        const isNew = ([name, content]) => !given.has(name) || !isSame(given.get(name), content);
+        const written = new Map([...stand].filter(isNew));
+        return { status: bytes[0], out: toText(out), err: toText(err), written };
     } catch (fault) {
         const err = `the browser stopped the program: ${fault.message}`;
         return { status: null, out: '', err, written: new Map() };
     }
 }
+const isSame = (one, other) => one.length === other.length && one.every((byte, at) => byte === other[at]);

@@ -1,52 +1,16 @@
-// What the program calls of C, where a page is its host: words, files and streams, which answer.js gives and takes, and
-// a heap in the module's own memory. Places are handed over as numbers of 32 bits, which is what they have behind the
-// lowering (tools/page/lower). Nothing here is proved; tools/test-page tries it.
+// What the module calls of C: a heap in its own memory, and what compiled code calls by name. It calls nothing of the page,
+// which calls it (answer.js). Places are handed over as numbers of 32 bits, which is what they have behind the lowering
+// (tools/page/lower). Nothing here is proved; tools/test-page tries it.
 typedef unsigned long size_t;
-typedef long ssize_t;
 typedef unsigned char byte;
-#define FROM_PAGE(name) __attribute__((import_module("page"), import_name(#name)))
 #define FOR_PAGE(name) __attribute__((export_name(#name)))
 
-int main(int count, char **words);
-FOR_PAGE(run) int run(void) { return main(0, 0); }
-
-// Words: the bytes of one, of which at most `space` are put at `to`. The answer is its length, or -1 where there's none.
-FROM_PAGE(word) int page_word(unsigned number, unsigned to, unsigned space);
-ssize_t rattle_arg(size_t number, void *to, size_t space) {
-    return page_word((unsigned)number, (unsigned)(size_t)to, (unsigned)space);
+// The proved function, of the crate mungo_page: a slice is a place and a length.
+size_t page_answer(const byte *words, size_t count, const byte *files, size_t size, byte *room, size_t space);
+FOR_PAGE(answer)
+unsigned answer(unsigned words, unsigned count, unsigned files, unsigned size, unsigned room, unsigned space) {
+    return page_answer((byte *)(size_t)words, count, (byte *)(size_t)files, size, (byte *)(size_t)room, space);
 }
-
-// There is no environment, and no signal.
-ssize_t rattle_env(const char *name, void *to, size_t space) { return -1; }
-ssize_t rattle_env_at(size_t number, void *to, size_t space) { return -1; }
-long __sysv_signal(int signal, long handler) { return 0; }
-
-// Files and streams. The page answers a number below 0 where it fails, which is errno with its sign turned.
-FROM_PAGE(open) int page_open(unsigned name, unsigned length, int writes);
-FROM_PAGE(read) int page_read(int file, unsigned to, unsigned space);
-FROM_PAGE(write) int page_write(int file, unsigned from, unsigned count);
-FROM_PAGE(close) int page_close(int file);
-static int last_fault = 0;
-static int answered(int answer) {
-    if (answer >= 0) return answer;
-    last_fault = -answer;
-    return -1;
-}
-int rattle_errno(void) { return last_fault; }
-void rattle_set_errno(int fault) { last_fault = fault; }
-int open(const char *name, int flags, ...) {
-    unsigned length = 0;
-    while (name[length]) length++;
-    // The low two bits of the flags say whether the file is written.
-    return answered(page_open((unsigned)(size_t)name, length, flags & 3));
-}
-ssize_t read(int file, void *to, size_t space) {
-    return answered(page_read(file, (unsigned)(size_t)to, (unsigned)space));
-}
-ssize_t write(int file, const void *from, size_t count) {
-    return answered(page_write(file, (unsigned)(size_t)from, (unsigned)count));
-}
-int close(int file) { return answered(page_close(file)); }
 
 // The heap. A block has 32 bytes, or twice as many, and so on, and before what is handed out stand 16 bytes that tell
 // its class. What is given back waits in a list of its class. Where there is nothing the memory grows by 4 MiB or more.
@@ -108,7 +72,7 @@ struct tried rattle_realloc(void *block, size_t kept, size_t count, size_t align
 }
 void rattle_dealloc(void *block) { give(block); }
 
-// The heap for its test.
+// The heap for the page, and for its test.
 FOR_PAGE(take) unsigned page_take(unsigned count) { return (unsigned)(size_t)take(count); }
 FOR_PAGE(retake) unsigned page_retake(unsigned block, unsigned kept, unsigned count) {
     struct tried other = rattle_realloc((void *)(size_t)block, kept, count, 16);

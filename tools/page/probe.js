@@ -104,7 +104,7 @@ const probe = (() => {
 
     // The heap of host.c under a random load: whether blocks keep what is put into them, and don't cover one another.
     function heap(turns) {
-        const heap = new WebAssembly.Instance(program, { page: hostOf([], new Map()).calls }).exports;
+        const heap = new WebAssembly.Instance(program, {}).exports;
         const random = generator(7), live = [], sizeOf = () => random(20) ? random(300) : random(70000);
         const view = ({ at, size }) => new Uint8Array(heap.memory.buffer, at, size);
         const keeps = (block, count) => view(block).subarray(0, count).every(byte => byte === block.mark);
