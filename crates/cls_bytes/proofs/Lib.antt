@@ -2,6 +2,8 @@ pub mod Codes
 pub mod Consts
 pub mod Counted
 pub mod Lists
+pub mod Mapped
+pub mod Naming
 pub mod Numbers
 pub mod Parts
 pub mod Refusals
