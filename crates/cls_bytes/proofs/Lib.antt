@@ -4,6 +4,7 @@ pub mod Counted
 pub mod Lists
 pub mod Mapped
 pub mod Naming
+pub mod Named
 pub mod Numbers
 pub mod Parts
 pub mod Refusals

@@ -86,10 +86,10 @@ pub fn read_class(alloc: Global, bytes: &[u8]) -> Result<Class, ClassFault>
     if bytes.len() > u32::MAX as usize {
         return Err(ClassFault::Memory);
     }
-    match spelled_class(alloc, bytes)? {
-        Some(class) => Ok(class),
-        None => refused(alloc, bytes),
+    if let Some(class) = spelled_class(alloc, bytes)? {
+        return Ok(class);
     }
+    refused(alloc, bytes)
 }
 
 /// The class that the bytes spell, where they spell one.
@@ -119,10 +119,10 @@ fn refused(alloc: Global, bytes: &[u8]) -> Result<Class, ClassFault>
     ensures fault { IsTheirFault bytes.now result }
     ensures exact { (fault : Fault) → Fails bytes.now fault → IsFaultOrMemory result fault }
 {
-    match first_fault(alloc, bytes)? {
-        Some(fault) => Err(fault),
-        None => unreachable!(),
+    if let Some(fault) = first_fault(alloc, bytes)? {
+        return Err(fault);
     }
+    unreachable!()
 }
 
 /// Bytes spell one class at most.

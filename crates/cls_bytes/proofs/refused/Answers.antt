@@ -22,11 +22,11 @@ same_fault A (faults.Unsupported n) g e = e
 same_fault A (faults.Code f) g e = e
 same_fault A faults.Memory g e = tt
 
-pub returns-in_ok-Some-clause-only : goal.returns-in_ok-Some-clause-only
-returns-in_ok-Some-clause-only c = λ class s. absurd (c.requires.none class s)
+pub returns-in-Some-clause-only : goal.returns-in-Some-clause-only
+returns-in-Some-clause-only c = λ class s. absurd (c.requires.none class s)
 
-pub returns-in_ok-Some-clause-exact : goal.returns-in_ok-Some-clause-exact
-returns-in_ok-Some-clause-exact c = λ fault g.
+pub returns-in-Some-clause-exact : goal.returns-in-Some-clause-exact
+returns-in-Some-clause-exact c = λ fault g.
     let f : Fails c.args.bytes.now c.in-Some.fault = rw c.in-Some.is at c.in_ok-fault.ensures in
     same_fault Class c.in-Some.fault fault (one_fault c.args.bytes.now c.in-Some.fault fault f g)
 
