@@ -158,21 +158,21 @@ module _ (pool : List Const) where
 
   inner_true : (a : Inner) → InnerNames pool a → inner_names pool a ≡ true
   inner_true (Unread name bytes) p = tagged name 1 p
-  inner_true Misplaced p = elim p [ ]
+  inner_true Misplaced p = absurd p
 
   plain_right : (a : Attr) → FileAttr pool false a → attr_names pool a ≡ true → PlainNames pool a
-  plain_right (Coded c) f e = let no : false ≡ true = f.2.0 in absurd (cc)
+  plain_right (Coded c) f e = let no : false ≡ true = f.2 in absurd (cc)
   plain_right (Other name bytes) f e = found name 1 e
 
   plain_true : (a : Attr) → PlainNames pool a → attr_names pool a ≡ true
-  plain_true (Coded c) p = elim p [ ]
+  plain_true (Coded c) p = absurd p
   plain_true (Other name bytes) p = tagged name 1 p
 
   method_right : (a : Attr) → FileAttr pool true a → attr_names pool a ≡ true → MethodNames pool a
   method_right (Coded c) f e =
       let p = and_parts (list_all (instr_names pool) c.instrs) (list_all (inner_names pool) c.attributes) e in
       record {
-        name = code_named pool c.name f.2.1;
+        name = code_named pool c.name f.3;
         instrs = all_right (instr_names pool) _ instr_right c.instrs p.0;
         attributes = all_right (inner_names pool) _ inner_right c.attributes p.1;
       }
