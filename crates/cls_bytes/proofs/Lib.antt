@@ -3,7 +3,7 @@ pub mod Consts
 pub mod Counted
 pub mod Lists
 pub mod Mapped
-pub mod Naming
+pub mod WellNamed
 pub mod Named
 pub mod Numbers
 pub mod Parts

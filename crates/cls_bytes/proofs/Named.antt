@@ -9,7 +9,7 @@ use Rattle.cls_bytes.specs.Reading.{class_at}
 use Rattle.cls_bytes.specs.Spelling.{ClassSpells, IsSpelled}
 use Rattle.cls_bytes.proofs.Steps.{IsBytes}
 use Rattle.cls_bytes.proofs.Whole.{class_sound, only_one, one_spelled}
-use Rattle.cls_bytes.proofs.Naming.{well_formed, names_all}
+use Rattle.cls_bytes.proofs.WellNamed.{well_formed, names_all}
 use Rattle.cls_bytes.proofs.SpelledClasses.{spelled_right}
 use Rattle.cls_bytes.proofs.Single.{no_fault}
 
