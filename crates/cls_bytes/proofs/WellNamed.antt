@@ -1,5 +1,5 @@
 -- Where a class of a file names what it needs, by the test, it is well formed; and a class that is well formed does.
-use Rattle.std.proofs.Common.{◌≡◌, ◌⊎◌, inl, inr, ℕ, ◌+◌, ◌<◌, ◌≤◌, List, [], ◌∷◌, refl, ap, sym, subst, ⊎_elim, Bool, true, false}
+use Rattle.std.proofs.Common.{◌≡◌, ◌⊎◌, inl, inr, ℕ, ◌+◌, ◌<◌, ◌≤◌, List, [], ◌∷◌, refl, ap, sym, subst, ◌∙◌, ⊎_elim, Bool, true, false}
 use Rattle.std.proofs.Common.{◌&&◌, ◌||◌, Option, Some, None, arith}
 use Rattle.std.specs.Prelude.{codes, count_by}
 use Rattle.std.specs.List.{list_all, AllByRecursion}
@@ -173,21 +173,21 @@ module _ (pool : List Const) where
       let p = and_parts (list_all (instr_names pool) c.instrs) (list_all (inner_names pool) c.attributes) e in
       record {
         name = code_named pool c.name f.3;
-        instrs = all_right (instr_names pool) _ instr_right c.instrs p.0;
-        attributes = all_right (inner_names pool) _ inner_right c.attributes p.1;
+        instrs = all_right (instr_names pool) (InstrNames pool) instr_right c.instrs p.0;
+        attributes = all_right (inner_names pool) (InnerNames pool) inner_right c.attributes p.1;
       }
   method_right (Other name bytes) f e = (found name 1 e, not_code_named pool name f.2)
 
   method_true : (a : Attr) → MethodNames pool a → attr_names pool a ≡ true
   method_true (Coded c) p =
       and_from (list_all (instr_names pool) c.instrs) (list_all (inner_names pool) c.attributes)
-      (all_true (instr_names pool) _ instr_true c.instrs p.instrs) (all_true (inner_names pool) _ inner_true c.attributes p.attributes)
+      (all_true (instr_names pool) (InstrNames pool) instr_true c.instrs p.instrs) (all_true (inner_names pool) (InnerNames pool) inner_true c.attributes p.attributes)
   method_true (Other name bytes) p = tagged name 1 p.0
 
   -- ---- members
   field_right : (m : Member) → FileMember pool false m → member_names pool m ≡ true → IsField_in pool m
   field_right m f e =
-      let p = and_parts (has_tag pool m.name 1) _ e in
+      let p = and_parts (has_tag pool m.name 1) (has_tag pool m.descriptor 1 && list_all (attr_names pool) m.attributes) e in
       let q = and_parts (has_tag pool m.descriptor 1) (list_all (attr_names pool) m.attributes) p.1 in
       record {
         name = found m.name 1 p.0;
@@ -197,13 +197,13 @@ module _ (pool : List Const) where
 
   field_true : (m : Member) → IsField_in pool m → member_names pool m ≡ true
   field_true m p =
-      and_from (has_tag pool m.name 1) _ (tagged m.name 1 p.name) (and_from (has_tag pool m.descriptor 1)
+      and_from (has_tag pool m.name 1) (has_tag pool m.descriptor 1 && list_all (attr_names pool) m.attributes) (tagged m.name 1 p.name) (and_from (has_tag pool m.descriptor 1)
       (list_all (attr_names pool) m.attributes) (tagged m.descriptor 1 p.descriptor)
       (all_true (attr_names pool) (PlainNames pool) plain_true m.attributes p.attributes))
 
   method_all_right : (m : Member) → FileMember pool true m → member_names pool m ≡ true → IsMethod_in pool m
   method_all_right m f e =
-      let p = and_parts (has_tag pool m.name 1) _ e in
+      let p = and_parts (has_tag pool m.name 1) (has_tag pool m.descriptor 1 && list_all (attr_names pool) m.attributes) e in
       let q = and_parts (has_tag pool m.descriptor 1) (list_all (attr_names pool) m.attributes) p.1 in
       record {
         name = found m.name 1 p.0;
@@ -214,35 +214,63 @@ module _ (pool : List Const) where
 
   method_all_true : (m : Member) → IsMethod_in pool m → member_names pool m ≡ true
   method_all_true m p =
-      and_from (has_tag pool m.name 1) _ (tagged m.name 1 p.name) (and_from (has_tag pool m.descriptor 1)
+      and_from (has_tag pool m.name 1) (has_tag pool m.descriptor 1 && list_all (attr_names pool) m.attributes) (tagged m.name 1 p.name) (and_from (has_tag pool m.descriptor 1)
       (list_all (attr_names pool) m.attributes) (tagged m.descriptor 1 p.descriptor)
       (all_true (attr_names pool) (MethodNames pool) method_true m.attributes p.attributes))
 
 -- ---- classes
-pub well_formed : (c : Class) → IsFile c → class_names c ≡ true → IsWellFormed c
-unfolding class_names
-well_formed c f e =
-    let p = and_parts (list_all (const_names c.pool) c.pool) _ e in
-    let q = and_parts (has_tag c.pool c.this_class 7) _ p.1 in
-    let r = and_parts (has_tag c.pool c.super_class 7) _ q.1 in
-    let s = and_parts (list_all (member_names c.pool) c.fields) _ r.1 in
-    let t = and_parts (list_all (member_names c.pool) c.methods) (list_all (attr_names c.pool) c.attributes) s.1 in
-    record {
-      pool = all_right (const_names c.pool) (ConstNames c.pool) (const_right c.pool) c.pool p.0;
-      this_class = found c.pool c.this_class 7 q.0;
-      super_class = found c.pool c.super_class 7 r.0;
-      fields = all_right_of (member_names c.pool) (FileMember c.pool false) (IsField_in c.pool) (field_right c.pool) c.fields f.fields.0 s.0;
-      methods =
-          all_right_of (member_names c.pool) (FileMember c.pool true) (IsMethod_in c.pool) (method_all_right c.pool) c.methods f.methods.0 t.0;
-      attributes =
-          all_right_of (attr_names c.pool) (FileAttr c.pool false) (PlainNames c.pool) (plain_right c.pool) c.attributes f.attributes.0 t.1;
-    }
+module _ (c : Class) where
+  attributes_name : Bool
+  attributes_name = list_all (attr_names c.pool) c.attributes
 
-pub names_all : (c : Class) → IsWellFormed c → class_names c ≡ true
-unfolding class_names
-names_all c w =
-    and_from _ _ (all_true (const_names c.pool) (ConstNames c.pool) (const_true c.pool) c.pool w.pool)
-    (and_from _ _ (tagged c.pool c.this_class 7 w.this_class) (and_from _ _ (tagged c.pool c.super_class 7 w.super_class)
-    (and_from _ _ (all_true (member_names c.pool) (IsField_in c.pool) (field_true c.pool) c.fields w.fields)
-    (and_from _ _ (all_true (member_names c.pool) (IsMethod_in c.pool) (method_all_true c.pool) c.methods w.methods)
-    (all_true (attr_names c.pool) (PlainNames c.pool) (plain_true c.pool) c.attributes w.attributes)))))
+  methods_name : Bool
+  methods_name = list_all (member_names c.pool) c.methods && attributes_name
+
+  fields_name : Bool
+  fields_name = list_all (member_names c.pool) c.fields && methods_name
+
+  super_names : Bool
+  super_names = has_tag c.pool c.super_class 7 && fields_name
+
+  this_names : Bool
+  this_names = has_tag c.pool c.this_class 7 && super_names
+
+  names_are : class_names c ≡ (list_all (const_names c.pool) c.pool && this_names)
+  unfolding class_names attributes_name methods_name fields_name super_names this_names
+  names_are = refl
+
+  pub well_formed : IsFile c → class_names c ≡ true → IsWellFormed c
+  unfolding attributes_name methods_name fields_name super_names this_names
+  well_formed f e =
+      let p = and_parts (list_all (const_names c.pool) c.pool) this_names (sym names_are ∙ e) in
+      let q = and_parts (has_tag c.pool c.this_class 7) super_names p.1 in
+      let r = and_parts (has_tag c.pool c.super_class 7) fields_name q.1 in
+      let s = and_parts (list_all (member_names c.pool) c.fields) methods_name r.1 in
+      let t = and_parts (list_all (member_names c.pool) c.methods) attributes_name s.1 in
+      record {
+        pool = all_right (const_names c.pool) (ConstNames c.pool) (const_right c.pool) c.pool p.0;
+        this_class = found c.pool c.this_class 7 q.0;
+        super_class = found c.pool c.super_class 7 r.0;
+        fields =
+            all_right_of (member_names c.pool) (FileMember c.pool false) (IsField_in c.pool) (field_right c.pool) c.fields f.fields.0 s.0;
+        methods =
+            all_right_of (member_names c.pool) (FileMember c.pool true) (IsMethod_in c.pool) (method_all_right c.pool) c.methods f.methods.0
+            t.0;
+        attributes =
+            all_right_of (attr_names c.pool) (FileAttr c.pool false) (PlainNames c.pool) (plain_right c.pool) c.attributes f.attributes.0 t.1;
+      }
+
+  pub names_all : IsWellFormed c → class_names c ≡ true
+  unfolding attributes_name methods_name fields_name super_names this_names
+  names_all w =
+      let t : attributes_name ≡ true = all_true (attr_names c.pool) (PlainNames c.pool) (plain_true c.pool) c.attributes w.attributes in
+      let s : methods_name ≡ true =
+      and_from (list_all (member_names c.pool) c.methods) attributes_name
+      (all_true (member_names c.pool) (IsMethod_in c.pool) (method_all_true c.pool) c.methods w.methods) t in
+      let r : fields_name ≡ true =
+      and_from (list_all (member_names c.pool) c.fields) methods_name
+      (all_true (member_names c.pool) (IsField_in c.pool) (field_true c.pool) c.fields w.fields) s in
+      let q : super_names ≡ true = and_from (has_tag c.pool c.super_class 7) fields_name (tagged c.pool c.super_class 7 w.super_class) r in
+      let p : this_names ≡ true = and_from (has_tag c.pool c.this_class 7) super_names (tagged c.pool c.this_class 7 w.this_class) q in
+      names_are ∙ and_from (list_all (const_names c.pool) c.pool) this_names
+      (all_true (const_names c.pool) (ConstNames c.pool) (const_true c.pool) c.pool w.pool) p
