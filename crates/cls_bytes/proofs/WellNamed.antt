@@ -18,7 +18,7 @@ use Rattle.cls_tree.specs.WellFormed.{ConstNames, FormNames, OpNames, ArgsName, 
 use Rattle.cls_tree.specs.WellFormed.{NamesCode, IsField_in, IsMethod_in, IsWellFormed}
 use Rattle.cls_bytes.specs.File.{IsFile}
 use Rattle.cls_bytes.specs.Naming.{is_tag, has_tag, const_names, form_names, args_name, instr_names, inner_names, attr_names, member_names}
-use Rattle.cls_bytes.specs.Naming.{class_names}
+use Rattle.cls_bytes.specs.Naming.{heads_name, bodies_name, class_names}
 use Rattle.cls_bytes.proofs.Productions.{code_named, not_code_named}
 
 -- ---- lists
@@ -220,37 +220,24 @@ module _ (pool : List Const) where
 
 -- ---- classes
 module _ (c : Class) where
-  attributes_name : Bool
-  attributes_name = list_all (attr_names c.pool) c.attributes
+  abbrev are_classes : Bool
+  are_classes = has_tag c.pool c.this_class 7 && has_tag c.pool c.super_class 7
 
-  methods_name : Bool
-  methods_name = list_all (member_names c.pool) c.methods && attributes_name
-
-  fields_name : Bool
-  fields_name = list_all (member_names c.pool) c.fields && methods_name
-
-  super_names : Bool
-  super_names = has_tag c.pool c.super_class 7 && fields_name
-
-  this_names : Bool
-  this_names = has_tag c.pool c.this_class 7 && super_names
-
-  names_are : class_names c ≡ (list_all (const_names c.pool) c.pool && this_names)
-  unfolding class_names attributes_name methods_name fields_name super_names this_names
-  names_are = refl
+  abbrev behind_fields : Bool
+  behind_fields = list_all (member_names c.pool) c.methods && list_all (attr_names c.pool) c.attributes
 
   pub well_formed : IsFile c → class_names c ≡ true → IsWellFormed c
-  unfolding attributes_name methods_name fields_name super_names this_names
+  unfolding heads_name bodies_name
   well_formed f e =
-      let p = and_parts (list_all (const_names c.pool) c.pool) this_names (sym names_are ∙ e) in
-      let q = and_parts (has_tag c.pool c.this_class 7) super_names p.1 in
-      let r = and_parts (has_tag c.pool c.super_class 7) fields_name q.1 in
-      let s = and_parts (list_all (member_names c.pool) c.fields) methods_name r.1 in
-      let t = and_parts (list_all (member_names c.pool) c.methods) attributes_name s.1 in
+      let both = and_parts (heads_name c) (bodies_name c) e in
+      let p = and_parts (list_all (const_names c.pool) c.pool) are_classes both.0 in
+      let q = and_parts (has_tag c.pool c.this_class 7) (has_tag c.pool c.super_class 7) p.1 in
+      let s = and_parts (list_all (member_names c.pool) c.fields) behind_fields both.1 in
+      let t = and_parts (list_all (member_names c.pool) c.methods) (list_all (attr_names c.pool) c.attributes) s.1 in
       record {
         pool = all_right (const_names c.pool) (ConstNames c.pool) (const_right c.pool) c.pool p.0;
         this_class = found c.pool c.this_class 7 q.0;
-        super_class = found c.pool c.super_class 7 r.0;
+        super_class = found c.pool c.super_class 7 q.1;
         fields =
             all_right_of (member_names c.pool) (FileMember c.pool false) (IsField_in c.pool) (field_right c.pool) c.fields f.fields.0 s.0;
         methods =
@@ -261,16 +248,19 @@ module _ (c : Class) where
       }
 
   pub names_all : IsWellFormed c → class_names c ≡ true
-  unfolding attributes_name methods_name fields_name super_names this_names
+  unfolding heads_name bodies_name
   names_all w =
-      let t : attributes_name ≡ true = all_true (attr_names c.pool) (PlainNames c.pool) (plain_true c.pool) c.attributes w.attributes in
-      let s : methods_name ≡ true =
-      and_from (list_all (member_names c.pool) c.methods) attributes_name
-      (all_true (member_names c.pool) (IsMethod_in c.pool) (method_all_true c.pool) c.methods w.methods) t in
-      let r : fields_name ≡ true =
-      and_from (list_all (member_names c.pool) c.fields) methods_name
-      (all_true (member_names c.pool) (IsField_in c.pool) (field_true c.pool) c.fields w.fields) s in
-      let q : super_names ≡ true = and_from (has_tag c.pool c.super_class 7) fields_name (tagged c.pool c.super_class 7 w.super_class) r in
-      let p : this_names ≡ true = and_from (has_tag c.pool c.this_class 7) super_names (tagged c.pool c.this_class 7 w.this_class) q in
-      names_are ∙ and_from (list_all (const_names c.pool) c.pool) this_names
-      (all_true (const_names c.pool) (ConstNames c.pool) (const_true c.pool) c.pool w.pool) p
+      let q : are_classes ≡ true =
+      and_from (has_tag c.pool c.this_class 7) (has_tag c.pool c.super_class 7) (tagged c.pool c.this_class 7 w.this_class)
+      (tagged c.pool c.super_class 7 w.super_class) in
+      let p : heads_name c ≡ true =
+      and_from (list_all (const_names c.pool) c.pool) are_classes
+      (all_true (const_names c.pool) (ConstNames c.pool) (const_true c.pool) c.pool w.pool) q in
+      let t : behind_fields ≡ true =
+      and_from (list_all (member_names c.pool) c.methods) (list_all (attr_names c.pool) c.attributes)
+      (all_true (member_names c.pool) (IsMethod_in c.pool) (method_all_true c.pool) c.methods w.methods)
+      (all_true (attr_names c.pool) (PlainNames c.pool) (plain_true c.pool) c.attributes w.attributes) in
+      let s : bodies_name c ≡ true =
+      and_from (list_all (member_names c.pool) c.fields) behind_fields
+      (all_true (member_names c.pool) (IsField_in c.pool) (field_true c.pool) c.fields w.fields) t in
+      and_from (heads_name c) (bodies_name c) p s

@@ -53,9 +53,15 @@ attr_names pool (Other name bytes) = has_tag pool name 1
 abbrev pub member_names : List Const → Member → Bool
 member_names pool m = has_tag pool m.name 1 && (has_tag pool m.descriptor 1 && list_all (attr_names pool) m.attributes)
 
+-- the constants of a class, itself and the class above it
+unfoldable pub heads_name : Class → Bool
+heads_name c = list_all (const_names c.pool) c.pool && (has_tag c.pool c.this_class 7 && has_tag c.pool c.super_class 7)
+
+-- its fields, methods and attributes
+unfoldable pub bodies_name : Class → Bool
+bodies_name c =
+    list_all (member_names c.pool) c.fields && (list_all (member_names c.pool) c.methods && list_all (attr_names c.pool) c.attributes)
+
 -- each number of a class does
-unfoldable pub class_names : Class → Bool
-class_names c =
-    list_all (const_names c.pool) c.pool
-    && (has_tag c.pool c.this_class 7 && (has_tag c.pool c.super_class 7 && (list_all (member_names c.pool) c.fields
-    && (list_all (member_names c.pool) c.methods && list_all (attr_names c.pool) c.attributes))))
+abbrev pub class_names : Class → Bool
+class_names c = heads_name c && bodies_name c

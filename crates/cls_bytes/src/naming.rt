@@ -5,7 +5,7 @@ ghost use Rattle.std.specs.Prelude.{◌≡◌};
 ghost use Rattle.std.specs.List.{list_all};
 ghost use Rattle.cls_tree.specs.Pool.{tag_of};
 ghost use Rattle.cls_tree.specs.View.{instr_of, inner_of, attr_of, member_of, class_of};
-ghost use Rattle.cls_bytes.specs.Naming.{has_tag, const_names, form_names, instr_names, inner_names, attr_names, member_names, class_names};
+ghost use Rattle.cls_bytes.specs.Naming.{has_tag, const_names, form_names, instr_names, inner_names, attr_names, member_names, heads_name, bodies_name, class_names};
 
 use cls_tree::{Args, Attr, Class, Const, Form, Instr, Member, form_of};
 
@@ -146,16 +146,31 @@ fn consts_name(pool: &[Const], constants: &[Const]) -> bool
     constants.iter().all(|constant| const_names(pool, constant))
 }
 
-/// Whether each number of a class names what it needs.
-#[tactic(auto, using(crate::proofs::Mapped::mapped), unfolding(crate::specs::Naming::class_names))]
-pub(crate) fn class_names(class: &Class) -> bool
-    ensures { result ≡ class_names (class_of class.now) }
+/// Whether the constants of a class do, and those of itself and of the class above it are classes.
+#[tactic(auto, unfolding(crate::specs::Naming::heads_name))]
+fn heads_name(class: &Class) -> bool
+    ensures { result ≡ heads_name (class_of class.now) }
 {
     let pool = class.pool.as_slice();
     consts_name(pool, pool)
         && has_tag(pool, class.this_class, 7)
         && has_tag(pool, class.super_class, 7)
-        && members_name(pool, class.fields.as_slice())
+}
+
+/// Whether the fields, methods and attributes of a class do.
+#[tactic(auto, using(crate::proofs::Mapped::mapped), unfolding(crate::specs::Naming::bodies_name))]
+fn bodies_name(class: &Class) -> bool
+    ensures { result ≡ bodies_name (class_of class.now) }
+{
+    let pool = class.pool.as_slice();
+    members_name(pool, class.fields.as_slice())
         && members_name(pool, class.methods.as_slice())
         && attrs_name(pool, class.attributes.as_slice())
+}
+
+/// Whether each number of a class names what it needs.
+pub(crate) fn class_names(class: &Class) -> bool
+    ensures { result ≡ class_names (class_of class.now) }
+{
+    heads_name(class) && bodies_name(class)
 }
