@@ -18,7 +18,7 @@ use Rattle.cls_tree.specs.WellFormed.{ConstNames, FormNames, OpNames, ArgsName, 
 use Rattle.cls_tree.specs.WellFormed.{NamesCode, IsField_in, IsMethod_in, IsWellFormed}
 use Rattle.cls_bytes.specs.File.{IsFile}
 use Rattle.cls_bytes.specs.Naming.{is_tag, has_tag, const_names, form_names, args_name, instr_names, inner_names, attr_names, member_names}
-use Rattle.cls_bytes.specs.Naming.{heads_name, bodies_name, class_names}
+use Rattle.cls_bytes.specs.Naming.{heads_name, methods_name, bodies_name, class_names}
 use Rattle.cls_bytes.proofs.Productions.{code_named, not_code_named}
 
 -- ---- lists
@@ -223,16 +223,13 @@ module _ (c : Class) where
   abbrev are_classes : Bool
   are_classes = has_tag c.pool c.this_class 7 && has_tag c.pool c.super_class 7
 
-  abbrev behind_fields : Bool
-  behind_fields = list_all (member_names c.pool) c.methods && list_all (attr_names c.pool) c.attributes
-
   pub well_formed : IsFile c → class_names c ≡ true → IsWellFormed c
-  unfolding heads_name bodies_name
+  unfolding heads_name bodies_name methods_name
   well_formed f e =
       let both = and_parts (heads_name c) (bodies_name c) e in
       let p = and_parts (list_all (const_names c.pool) c.pool) are_classes both.0 in
       let q = and_parts (has_tag c.pool c.this_class 7) (has_tag c.pool c.super_class 7) p.1 in
-      let s = and_parts (list_all (member_names c.pool) c.fields) behind_fields both.1 in
+      let s = and_parts (list_all (member_names c.pool) c.fields) (methods_name c) both.1 in
       let t = and_parts (list_all (member_names c.pool) c.methods) (list_all (attr_names c.pool) c.attributes) s.1 in
       record {
         pool = all_right (const_names c.pool) (ConstNames c.pool) (const_right c.pool) c.pool p.0;
@@ -248,7 +245,7 @@ module _ (c : Class) where
       }
 
   pub names_all : IsWellFormed c → class_names c ≡ true
-  unfolding heads_name bodies_name
+  unfolding heads_name bodies_name methods_name
   names_all w =
       let q : are_classes ≡ true =
       and_from (has_tag c.pool c.this_class 7) (has_tag c.pool c.super_class 7) (tagged c.pool c.this_class 7 w.this_class)
@@ -256,11 +253,11 @@ module _ (c : Class) where
       let p : heads_name c ≡ true =
       and_from (list_all (const_names c.pool) c.pool) are_classes
       (all_true (const_names c.pool) (ConstNames c.pool) (const_true c.pool) c.pool w.pool) q in
-      let t : behind_fields ≡ true =
+      let t : methods_name c ≡ true =
       and_from (list_all (member_names c.pool) c.methods) (list_all (attr_names c.pool) c.attributes)
       (all_true (member_names c.pool) (IsMethod_in c.pool) (method_all_true c.pool) c.methods w.methods)
       (all_true (attr_names c.pool) (PlainNames c.pool) (plain_true c.pool) c.attributes w.attributes) in
       let s : bodies_name c ≡ true =
-      and_from (list_all (member_names c.pool) c.fields) behind_fields
+      and_from (list_all (member_names c.pool) c.fields) (methods_name c)
       (all_true (member_names c.pool) (IsField_in c.pool) (field_true c.pool) c.fields w.fields) t in
       and_from (heads_name c) (bodies_name c) p s

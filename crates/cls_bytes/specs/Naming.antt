@@ -57,10 +57,13 @@ member_names pool m = has_tag pool m.name 1 && (has_tag pool m.descriptor 1 && l
 unfoldable pub heads_name : Class → Bool
 heads_name c = list_all (const_names c.pool) c.pool && (has_tag c.pool c.this_class 7 && has_tag c.pool c.super_class 7)
 
+-- its methods and attributes
+unfoldable pub methods_name : Class → Bool
+methods_name c = list_all (member_names c.pool) c.methods && list_all (attr_names c.pool) c.attributes
+
 -- its fields, methods and attributes
 unfoldable pub bodies_name : Class → Bool
-bodies_name c =
-    list_all (member_names c.pool) c.fields && (list_all (member_names c.pool) c.methods && list_all (attr_names c.pool) c.attributes)
+bodies_name c = list_all (member_names c.pool) c.fields && methods_name c
 
 -- each number of a class does
 abbrev pub class_names : Class → Bool

@@ -5,7 +5,7 @@ ghost use Rattle.std.specs.Prelude.{◌≡◌};
 ghost use Rattle.std.specs.List.{list_all};
 ghost use Rattle.cls_tree.specs.Pool.{tag_of};
 ghost use Rattle.cls_tree.specs.View.{instr_of, inner_of, attr_of, member_of, class_of};
-ghost use Rattle.cls_bytes.specs.Naming.{has_tag, const_names, form_names, instr_names, inner_names, attr_names, member_names, heads_name, bodies_name, class_names};
+ghost use Rattle.cls_bytes.specs.Naming.{has_tag, const_names, form_names, instr_names, inner_names, attr_names, member_names, heads_name, methods_name, bodies_name, class_names};
 
 use cls_tree::{Args, Attr, Class, Const, Form, Instr, Member, form_of};
 
@@ -157,15 +157,21 @@ fn heads_name(class: &Class) -> bool
         && has_tag(pool, class.super_class, 7)
 }
 
+/// Whether the methods and attributes of a class do.
+#[tactic(auto, using(crate::proofs::Mapped::mapped), unfolding(crate::specs::Naming::methods_name))]
+fn methods_name(class: &Class) -> bool
+    ensures { result ≡ methods_name (class_of class.now) }
+{
+    let pool = class.pool.as_slice();
+    members_name(pool, class.methods.as_slice()) && attrs_name(pool, class.attributes.as_slice())
+}
+
 /// Whether the fields, methods and attributes of a class do.
 #[tactic(auto, using(crate::proofs::Mapped::mapped), unfolding(crate::specs::Naming::bodies_name))]
 fn bodies_name(class: &Class) -> bool
     ensures { result ≡ bodies_name (class_of class.now) }
 {
-    let pool = class.pool.as_slice();
-    members_name(pool, class.fields.as_slice())
-        && members_name(pool, class.methods.as_slice())
-        && attrs_name(pool, class.attributes.as_slice())
+    members_name(class.pool.as_slice(), class.fields.as_slice()) && methods_name(class)
 }
 
 /// Whether each number of a class names what it needs.
