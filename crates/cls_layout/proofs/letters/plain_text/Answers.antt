@@ -8,5 +8,5 @@ ok_where : {T E : Type 0} (r : Result T E) (P : T → Type 0) (Q : E → Type 0)
 ok_where (Ok x) P Q h never = refl
 ok_where (Err e) P Q h never = absurd (never e h)
 
-pub unwrap-requires : goal.unwrap-requires
-unwrap-requires c = ok_where c.from_utf8.result _ _ c.from_utf8.ensures.cases (λ e q. q.0 (plain_utf8 c.args.bytes.now c.requires))
+pub unwrap-text-requires : goal.unwrap-text-requires
+unwrap-text-requires c = ok_where c.from_utf8.result _ _ c.from_utf8.ensures.cases (λ e q. q.0 (plain_utf8 c.args.bytes.now c.requires))
