@@ -181,7 +181,8 @@ module _ (pool : List Const) where
   method_true : (a : Attr) → MethodNames pool a → attr_names pool a ≡ true
   method_true (Coded c) p =
       and_from (list_all (instr_names pool) c.instrs) (list_all (inner_names pool) c.attributes)
-      (all_true (instr_names pool) (InstrNames pool) instr_true c.instrs p.instrs) (all_true (inner_names pool) (InnerNames pool) inner_true c.attributes p.attributes)
+      (all_true (instr_names pool) (InstrNames pool) instr_true c.instrs p.instrs)
+      (all_true (inner_names pool) (InnerNames pool) inner_true c.attributes p.attributes)
   method_true (Other name bytes) p = tagged name 1 p.0
 
   -- ---- members
@@ -197,7 +198,8 @@ module _ (pool : List Const) where
 
   field_true : (m : Member) → IsField_in pool m → member_names pool m ≡ true
   field_true m p =
-      and_from (has_tag pool m.name 1) (has_tag pool m.descriptor 1 && list_all (attr_names pool) m.attributes) (tagged m.name 1 p.name) (and_from (has_tag pool m.descriptor 1)
+      and_from (has_tag pool m.name 1) (has_tag pool m.descriptor 1 && list_all (attr_names pool) m.attributes)
+      (tagged m.name 1 p.name) (and_from (has_tag pool m.descriptor 1)
       (list_all (attr_names pool) m.attributes) (tagged m.descriptor 1 p.descriptor)
       (all_true (attr_names pool) (PlainNames pool) plain_true m.attributes p.attributes))
 
@@ -214,7 +216,8 @@ module _ (pool : List Const) where
 
   method_all_true : (m : Member) → IsMethod_in pool m → member_names pool m ≡ true
   method_all_true m p =
-      and_from (has_tag pool m.name 1) (has_tag pool m.descriptor 1 && list_all (attr_names pool) m.attributes) (tagged m.name 1 p.name) (and_from (has_tag pool m.descriptor 1)
+      and_from (has_tag pool m.name 1) (has_tag pool m.descriptor 1 && list_all (attr_names pool) m.attributes)
+      (tagged m.name 1 p.name) (and_from (has_tag pool m.descriptor 1)
       (list_all (attr_names pool) m.attributes) (tagged m.descriptor 1 p.descriptor)
       (all_true (attr_names pool) (MethodNames pool) method_true m.attributes p.attributes))
 

@@ -107,7 +107,11 @@ fn spelled_class(alloc: Global, bytes: &[u8]) -> Result<Option<Class>, Memory>
 fn if_named(class: Class) -> Option<Class>
     ensures { option_map class_of result ≡ (if class_names (class_of class) then Some (class_of class) else None) }
 {
-    if class_names(&class) { Some(class) } else { None }
+    if class_names(&class) {
+        Some(class)
+    } else {
+        None
+    }
 }
 
 /// Why bytes that spell no class are refused.

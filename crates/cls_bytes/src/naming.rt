@@ -98,7 +98,9 @@ fn inner_names(pool: &[Const], attribute: &Attr) -> bool
 fn inners_name(pool: &[Const], attributes: &[Attr]) -> bool
     ensures { result ≡ list_all (λ a. inner_names pool.now (inner_of a)) attributes.now }
 {
-    attributes.iter().all(|attribute| inner_names(pool, attribute))
+    attributes
+        .iter()
+        .all(|attribute| inner_names(pool, attribute))
 }
 
 /// Whether an attribute names what it needs.
@@ -119,7 +121,9 @@ fn attr_names(pool: &[Const], attribute: &Attr) -> bool
 fn attrs_name(pool: &[Const], attributes: &[Attr]) -> bool
     ensures { result ≡ list_all (λ a. attr_names pool.now (attr_of a)) attributes.now }
 {
-    attributes.iter().all(|attribute| attr_names(pool, attribute))
+    attributes
+        .iter()
+        .all(|attribute| attr_names(pool, attribute))
 }
 
 /// Whether a field or a method names what it needs.
