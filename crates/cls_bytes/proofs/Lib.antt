@@ -2,6 +2,9 @@ pub mod Codes
 pub mod Consts
 pub mod Counted
 pub mod Lists
+pub mod Mapped
+pub mod WellNamed
+pub mod Named
 pub mod Numbers
 pub mod Parts
 pub mod Refusals

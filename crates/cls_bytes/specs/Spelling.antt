@@ -1,5 +1,5 @@
 -- Which bytes spell which class: the class is well formed and can be laid out, its codes are sound, and the bytes are its layout.
-use Rattle.std.specs.Prelude.{◌≡◌, ℕ, List, Result, Ok, Err}
+use Rattle.std.specs.Prelude.{◌≡◌, ℕ, List, Option, Some, None, Result, Ok, Err}
 use Rattle.cls_tree.specs.Tree.{Class}
 use Rattle.cls_tree.specs.Layout.{class_bytes}
 use Rattle.cls_tree.specs.WellFormed.{IsWellFormed}
@@ -13,6 +13,11 @@ pub record ClassSpells (bytes : List ℕ) (class : Class) : Type 0 where
   pub file : IsFile class
   pub well_formed : IsWellFormed class
   pub layout : bytes ≡ class_bytes class
+
+-- the class that the bytes spell, or that they spell none
+abbrev pub IsSpelled : List ℕ → Option Class → Type 0
+IsSpelled bytes (Some class) = ClassSpells bytes class
+IsSpelled bytes None = (class : Class) → ClassSpells bytes class → ⊥
 
 -- a fault that was answered is that of the bytes, unless memory ran out
 abbrev pub IsTheirFault : {A : Type 0} → List ℕ → Result A ClassFault → Type 0

@@ -2,7 +2,7 @@
 //! Bytes spell one class at most, and what was written is read again.
 #![tactic(auto)]
 
-ghost use Rattle.std.specs.Prelude.{◌≡◌, ℕ, List, IfOk};
+ghost use Rattle.std.specs.Prelude.{◌≡◌, ◌<◌, ◌^◌, ℕ, List, Some, None, length, option_map, if◌then◌else◌, IfOk};
 ghost use Rattle.cls_tree.specs.Tree.{Class as Tree};
 ghost use Rattle.cls_tree.specs.View.{class_of};
 ghost use Rattle.cls_tree.specs.Layout.{class_bytes};
@@ -11,13 +11,16 @@ ghost use Rattle.cls_tree.specs.WellFormed.{IsWellFormed};
 ghost use Rattle.cls_bytes.specs.File.{IsFile};
 ghost use Rattle.cls_layout.specs.declared.ClassFault.{ClassFault as Fault};
 ghost use Rattle.cls_layout.specs.Faults.{Fails};
-ghost use Rattle.cls_bytes.specs.Spelling.{ClassSpells, IsTheirFault, IsFaultOrMemory};
+ghost use Rattle.cls_bytes.specs.Naming.{class_names};
+ghost use Rattle.cls_bytes.specs.Spelling.{ClassSpells, IsSpelled, IsTheirFault, IsFaultOrMemory};
 ghost use Rattle.cls_bytes.specs.Answer.{IsClassOrMemory, IsFileOrMemory, IsWritten, writing};
 
+mod naming;
 mod reading;
 mod texts;
 mod writing;
 
+use crate::naming::class_names;
 use crate::reading::whole_class;
 use crate::writing::class_written;
 use cls_code::CodeFault;
@@ -83,14 +86,47 @@ pub fn read_class(alloc: Global, bytes: &[u8]) -> Result<Class, ClassFault>
     if bytes.len() > u32::MAX as usize {
         return Err(ClassFault::Memory);
     }
+    if let Some(class) = spelled_class(alloc, bytes)? {
+        return Ok(class);
+    }
+    refused(alloc, bytes)
+}
+
+/// The class that the bytes spell, where they spell one.
+fn spelled_class(alloc: Global, bytes: &[u8]) -> Result<Option<Class>, Memory>
+    ensures { IfOk result (λ found. IsSpelled bytes.now (option_map class_of found)) }
+{
+    match whole_class(alloc, bytes) {
+        Ok(class) => Ok(if_named(class)),
+        Err(ReadError::Memory) => Err(Memory),
+        Err(ReadError::Syntax) => Ok(None),
+    }
+}
+
+/// The class, where each of its numbers names what it needs.
+fn if_named(class: Class) -> Option<Class>
+    ensures { option_map class_of result ≡ (if class_names (class_of class) then Some (class_of class) else None) }
+{
+    if class_names(&class) {
+        Some(class)
+    } else {
+        None
+    }
+}
+
+/// Why bytes that spell no class are refused.
+fn refused(alloc: Global, bytes: &[u8]) -> Result<Class, ClassFault>
+    requires short { length bytes.now < 2 ^ 32 }
+    requires none { (class : Tree) → ClassSpells bytes.now class → ⊥ }
+    ensures found { IfOk result (λ c. ClassSpells bytes.now (class_of c)) }
+    ensures only { (class : Tree) → ClassSpells bytes.now class → IsClassOrMemory result class }
+    ensures fault { IsTheirFault bytes.now result }
+    ensures exact { (fault : Fault) → Fails bytes.now fault → IsFaultOrMemory result fault }
+{
     if let Some(fault) = first_fault(alloc, bytes)? {
         return Err(fault);
     }
-    match whole_class(alloc, bytes) {
-        Ok(class) => Ok(class),
-        Err(ReadError::Memory) => Err(ClassFault::Memory),
-        Err(ReadError::Syntax) => unreachable!(),
-    }
+    unreachable!()
 }
 
 /// Bytes spell one class at most.

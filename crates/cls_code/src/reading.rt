@@ -164,7 +164,7 @@ fn words_of(alloc: Global, count: usize, bytes: &[u8]) -> Result<List<i32>, Memo
     requires { 4 * count ≤ length bytes.now }
     ensures { IfOk result (λ l. l.items ≡ words count bytes.now) }
 {
-    let mut numbers = List::new(alloc);
+    let mut numbers = with_room(alloc, count)?;
     for index in 0..count {
         numbers.push(s4_of(bytes, 4 * index))?;
     }
@@ -231,16 +231,25 @@ pub struct Placed {
     pub starts: List<usize>,
 }
 
-/// The instructions that stand one behind the other, up to the end.
+/// An empty list with room for so many.
+fn with_room<T: Drop>(alloc: Global, count: usize) -> Result<List<T>, Memory>
+    ensures { IfOk result (λ l. l.items ≡ []) }
+{
+    let mut items = List::new(alloc);
+    items.reserve(count)?;
+    Ok(items)
+}
+
+/// The instructions that stand one behind the other, up to the end. There is room from the start for half as many as bytes.
 pub(crate) fn placed_in(alloc: Global, bytes: &[u8]) -> Result<Placed, CodeFault>
     requires { length bytes.now ≤ 32767 }
     ensures { ArePlacedOr bytes.now result }
 {
-    let mut instrs = List::new(alloc);
-    let mut starts = List::new(alloc);
     if bytes.is_empty() {
         return Err(CodeFault::Short { offset: 0 });
     }
+    let mut instrs = with_room(alloc, bytes.len() / 2 + 1)?;
+    let mut starts = with_room(alloc, bytes.len() / 2 + 1)?;
     let mut place = 0;
     'code: while place < bytes.len() {
         let rest = tail(bytes, place);

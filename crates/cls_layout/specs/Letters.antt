@@ -71,3 +71,7 @@ unfoldable pub letters : List ℕ → Option (List ℕ)
 letters bytes = do
   cs ← all_of some_left char_at bytes
   Some (encode_utf8_all cs.0)
+
+-- whether a byte is a character of its own
+abbrev pub is_plain : ℕ → Bool
+is_plain b = nat_lt 0 b && nat_lt b 128

@@ -2,8 +2,9 @@
 //! Forms that are longer than they must be, the byte 0 and lone surrogates are no text.
 
 ghost use Rattle.std.specs.Prelude.{◌≡◌, ◌≤◌, ◌<◌, true};
+ghost use Rattle.std.specs.List.{list_all};
 ghost use Rattle.mg_read.specs.Reader.{Gives};
-ghost use Rattle.cls_layout.specs.Letters.{is_tail, is_high, is_low, two_at, three_at, unit_at, second_at, char_at, letters};
+ghost use Rattle.cls_layout.specs.Letters.{is_tail, is_high, is_low, two_at, three_at, unit_at, second_at, char_at, letters, is_plain};
 
 use mg_read::ReadError;
 use mg_text::Text;
@@ -121,13 +122,33 @@ fn char_of(bytes: &[u8]) -> Result<(char, &[u8]), ReadError>
     }
 }
 
-/// The text that all of the bytes spell.
-///
-/// # Errors
-///
-/// `Syntax` where they are no text in modified UTF-8, and `Memory` where memory runs out.
+/// Whether a byte is a character of its own.
+fn is_plain(byte: u8) -> bool
+    ensures { result ≡ is_plain byte }
+{
+    0 < byte && byte < 0x80
+}
+
+/// Whether each byte is.
+fn are_plain(bytes: &[u8]) -> bool
+    ensures { result ≡ list_all is_plain bytes.now }
+{
+    bytes.iter().all(|byte| is_plain(*byte))
+}
+
+/// The text of bytes that are characters of their own.
+#[tactic(auto, using(crate::proofs::Plain::plain_letters))]
+fn plain_text(alloc: Global, bytes: &[u8]) -> Result<Text, ReadError>
+    requires { list_all is_plain bytes.now ≡ true }
+    ensures { Gives (λ t. t) result (letters bytes.now) }
+{
+    let text = std::str::from_utf8(bytes).unwrap();
+    Ok(Text::of(alloc, text)?)
+}
+
+/// The text that all of the bytes spell, character by character.
 #[tactic(auto, unfolding(crate::specs::Letters::letters))]
-pub fn text_in(alloc: Global, bytes: &[u8]) -> Result<Text, ReadError>
+fn spelled_text(alloc: Global, bytes: &[u8]) -> Result<Text, ReadError>
     ensures { Gives (λ t. t) result (letters bytes.now) }
 {
     let mut text = String::new(alloc);
@@ -138,4 +159,19 @@ pub fn text_in(alloc: Global, bytes: &[u8]) -> Result<Text, ReadError>
         rest = after;
     }
     Ok(Text::from_string(text))
+}
+
+/// The text that all of the bytes spell.
+///
+/// # Errors
+///
+/// `Syntax` where they are no text in modified UTF-8, and `Memory` where memory runs out.
+pub fn text_in(alloc: Global, bytes: &[u8]) -> Result<Text, ReadError>
+    ensures { Gives (λ t. t) result (letters bytes.now) }
+{
+    if are_plain(bytes) {
+        plain_text(alloc, bytes)
+    } else {
+        spelled_text(alloc, bytes)
+    }
 }

@@ -13,7 +13,8 @@ returns-then-is_empty c =
     empty_short c.args.bytes.now (nil_from_length c.args.bytes.now n)
 
 pub code-init : goal.code-init
-code-init c = read_first c.args.bytes.now c.new-instrs.result.items c.new-starts.result.items c.new-instrs.ensures c.new-starts.ensures
+code-init c =
+    read_first c.args.bytes.now c.in_ok-instrs.instrs.items c.in_ok-starts.starts.items c.in_ok-instrs.ensures c.in_ok-starts.ensures
 
 pub returns-in-Some : goal.returns-in-Some
 returns-in-Some c =

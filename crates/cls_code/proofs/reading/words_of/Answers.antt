@@ -3,4 +3,4 @@ use Rattle.cls_code.proofs.reading.words_of.Goals as goal
 
 pub loop-index-init : goal.loop-index-init
 unfolding words
-loop-index-init c = c.new-numbers.ensures
+loop-index-init c = c.in_ok-numbers.ensures

@@ -1,7 +1,7 @@
 use Rattle.std.proofs.Common.{length}
 use Rattle.std.specs.Prelude.{string_bytes}
 use Rattle.cls_layout.proofs.Modified.{Heard}
-use Rattle.cls_layout.proofs.letters.text_in.Given as goal
+use Rattle.cls_layout.proofs.letters.spelled_text.Given as goal
 
 abbrev pub invariant-letters : goal.invariant-letters
 invariant-letters l = Heard (string_bytes l.text) l.rest l.bytes

@@ -2,7 +2,7 @@ use Rattle.std.proofs.Common.{sym, ◌∙◌, ap, Some}
 use Rattle.std.specs.Prelude.{string_bytes}
 use Rattle.std.proofs.lemmas.Result.{err_from_is_err_and}
 use Rattle.cls_layout.proofs.Modified.{heard_first, heard_more, heard_last, heard_fails, char_shorter}
-use Rattle.cls_layout.proofs.letters.text_in.Goals as goal
+use Rattle.cls_layout.proofs.letters.spelled_text.Goals as goal
 
 pub letters-init : goal.letters-init
 letters-init c = heard_first c.args.bytes.now (string_bytes c.new-text.result) c.new-text.ensures.bytes
