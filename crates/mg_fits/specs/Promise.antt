@@ -16,7 +16,7 @@ use Rattle.fit_play.specs.Play.{NoZero, ZeroIn, HasEndedWell}
 -- these sources, the roles of a global protocol with their local protocols, and the roles that run with their classes
 module _ (j : Sources) (roles : List Name) (g : Global) (locals : Name → LocalTree) (mains : List RoleMain) (program : Program) where
   -- At a moment.
-  pub record NoneIsStuck (w : World) : Type 0 where
+  pub record NoRoleIsStuck (w : World) : Type 0 where
     -- each role goes on, has returned, or has ended by a zero divisor: by no mismatch, no missing peer, no null and no wrong code
     pub well : (r : ℕ) (role : Role) → slice_get w.roles r ≡ Some role → IsWell role.state
     -- where the world rests and none has ended by a zero divisor, all is complete
@@ -28,7 +28,7 @@ module _ (j : Sources) (roles : List Name) (g : Global) (locals : Name → Local
 
   -- After every list of turns; and a run in an order of turns up to a limit ends well, or some role has ended by a zero divisor, or the
   -- limit is reached before the world rests.
-  pub record NoneGetsStuck (first : World) : Type 0 where
-    pub always : (taken : List ℕ) → NoneIsStuck (turns program first taken)
+  pub record NoRoleGetsStuck (first : World) : Type 0 where
+    pub always : (taken : List ℕ) → NoRoleIsStuck (turns program first taken)
     pub runs : (order : List ℕ) (limit : ℕ) (last : World) → IsRun program first order limit last →
         HasEndedWell j roles g locals mains last ⊎ (ZeroIn last ⊎ ((Rests program last → ⊥) × (counted last ≡ limit)))

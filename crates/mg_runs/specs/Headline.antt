@@ -22,7 +22,7 @@ use Rattle.use_meant_law.specs.Laws.{KeepsTo}
 use Rattle.mg_sources.specs.Files.{Source}
 use Rattle.mg_sources.specs.Reading.{Protocol, Reads}
 use Rattle.mg_accepted.specs.Accepted.{AreAccepted}
-use Rattle.mg_fits.specs.Laws.{NoneIsStuckWhereFit}
+use Rattle.mg_fits.specs.Laws.{NoRoleIsStuckWhereFit}
 use Rattle.mg_compile.specs.declared.files.ClassFile.{ClassFile}
 use Rattle.mg_compile.specs.Files.{AreClassFiles}
 use Rattle.vm_model.specs.Program.{Program}
@@ -141,7 +141,7 @@ pub record IsRun (files : List Source) (mains : List RoleMain) (order : List ℕ
   -- where the files and the roles fit a global protocol, whichever it is, no role gets stuck on another: after every list of turns each
   -- goes on, has returned or has ended by a zero divisor; and where the turns come to rest without such an end, all have returned, each
   -- message is taken, and what was said is a complete conversation of the global protocol
-  pub fitting : NoneIsStuckWhereFit files run.core accepted mains run.program run.first
+  pub fitting : NoRoleIsStuckWhereFit files run.core accepted mains run.program run.first
   -- turn orders don't matter: those that come to rest come to the same, and others show a part of it
   pub orders : OrderIsFreeFrom run.program run.first
   -- the typestates of the protocols allow exactly the protocols' traces

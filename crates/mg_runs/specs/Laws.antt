@@ -20,7 +20,7 @@ use Rattle.gen_rules.specs.Linked.{linked_program}
 use Rattle.mg_sources.specs.Files.{Source}
 use Rattle.mg_accepted.specs.Program.{HaveCore}
 use Rattle.mg_accepted.specs.Accepted.{AreAccepted}
-use Rattle.mg_fits.specs.Laws.{NoneIsStuckWhereFit}
+use Rattle.mg_fits.specs.Laws.{NoRoleIsStuckWhereFit}
 use Rattle.mg_compile.specs.declared.files.ClassFile.{ClassFile}
 use Rattle.mg_compile.specs.Files.{AreClassFiles}
 use Rattle.mg_runs.specs.Runs.{AreSpelled, IsLoaded, HaveMains}
@@ -71,7 +71,7 @@ abbrev pub RolesFit : Type 0
 RolesFit = (files : List Source) (core : Core.Program) (accepted : AreAccepted files core) (mains : List RoleMain) → HaveMains core mains →
     (program : Program) (first : World) → IsBegun program mains first →
     ((taken : List ℕ) → AreMeant accepted.have.program mains program (turns program first taken)) →
-    NoneIsStuckWhereFit files core accepted mains program first
+    NoRoleIsStuckWhereFit files core accepted mains program first
 
 -- What is said of protocols holds of those of all files.
 abbrev pub AllProtocolsAgree : Type 0

@@ -8,7 +8,7 @@ use Rattle.mg_sources.specs.Files.{Source, source_of, sources}
 use Rattle.mg_accepted.proofs.OneCore.{one_core}
 use Rattle.mg_fits.specs.Fits.{Fits}
 use Rattle.mg_fits.specs.Parts.{own_local}
-use Rattle.mg_fits.specs.Promise.{NoneGetsStuck}
+use Rattle.mg_fits.specs.Promise.{NoRoleGetsStuck}
 use Rattle.mg_fitted.specs.Fitted.{AreFitted, FirstRefusal}
 use Rattle.mg_delivery.specs.declared.status.Status.TheVariants as statuses
 use Rattle.mg_delivery.specs.declared.delivery.Action.TheVariants.{Print}
@@ -26,7 +26,7 @@ pub no_run_gets_stuck : (global : Source) (files : List Source) (mains : List Ro
 no_run_gets_stuck global files mains f order limit run is =
     let same : f.core ≡ run.core = one_core files f.core run.core f.can_run.accepted.have is.accepted.have in
     let fits : Fits global files mains run.core = subst (Fits global files mains) same f.fits in
-    let none : NoneGetsStuck is.accepted.have.program.files fits.tree.roles (said fits.tree.body) (own_local fits.parts fits.locals) mains
+    let none : NoRoleGetsStuck is.accepted.have.program.files fits.tree.roles (said fits.tree.body) (own_local fits.parts fits.locals) mains
     run.program run.first = is.fitting global fits in
     let ended = ends_free run.program run.last (none.runs order limit run.last is.runs) (λ h. h.complete.returned)
     (λ z. (z.number, z.role, z.there, z.zero)) in

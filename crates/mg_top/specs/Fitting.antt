@@ -6,18 +6,18 @@ use Rattle.vm_world_law.specs.Turns.{stands_in}
 use Rattle.mg_sources.specs.Files.{Source}
 use Rattle.mg_fits.specs.Fits.{Fits}
 use Rattle.mg_fits.specs.Parts.{own_local}
-use Rattle.mg_fits.specs.Promise.{NoneGetsStuck}
+use Rattle.mg_fits.specs.Promise.{NoRoleGetsStuck}
 use Rattle.mg_runs.specs.Headline.{Course, IsRun}
 use Rattle.mg_delivery.specs.declared.status.Status.TheVariants as statuses
 use Rattle.mg_top.specs.Statuses.{status_of}
 
 -- The files fit the global protocol, run by these roles, and none of the roles of this run ever gets stuck. The local protocols are the
 -- files' own.
-pub record NoneIsStuckIn (global : Source) (files : List Source) (mains : List RoleMain) (order : List ℕ) (limit : ℕ) (run : Course)
+pub record NoRoleIsStuckIn (global : Source) (files : List Source) (mains : List RoleMain) (order : List ℕ) (limit : ℕ) (run : Course)
     (is : IsRun files mains order limit run) : Type 0
   where
     pub fits : Fits global files mains run.core
-    pub none : NoneGetsStuck is.accepted.have.program.files fits.tree.roles (said fits.tree.body) (own_local fits.parts fits.locals) mains
+    pub none : NoRoleGetsStuck is.accepted.have.program.files fits.tree.roles (said fits.tree.body) (own_local fits.parts fits.locals) mains
         run.program run.first
     -- the status that the run has isn't that of a message which wasn't the next, or of a role that isn't there
     pub no_mismatch : status_of (stands_in run.program run.last) ≢ statuses.Mismatch
@@ -27,4 +27,4 @@ pub record NoneIsStuckIn (global : Source) (files : List Source) (mains : List R
 -- so it is in every run of these roles, in whatever order they take turns, and up to whatever limit
 abbrev pub NoRunGetsStuck : Source → List Source → List RoleMain → Type 0
 NoRunGetsStuck global files mains = (order : List ℕ) (limit : ℕ) (run : Course) (is : IsRun files mains order limit run) →
-    NoneIsStuckIn global files mains order limit run is
+    NoRoleIsStuckIn global files mains order limit run is
