@@ -64,8 +64,12 @@ offered_all t m (e ∷ es) = offers_one t m e ++ offered_all t m es
 module _ (t : Typestate) (m : Name) where
   turn_of : (q : ℕ) (s : Set) (o : Option Target) → target_at t m q ≡ o →
       offering_from t m q (true ∷ s) ≡ offers_one t m (suc (suc (suc q))) ++ offering_from t m (suc q) s
-  turn_of q s None e = rw e refl
-  turn_of q s (Some k) e = rw e refl
+  turn_of q s None e =
+      let one : offers_one t m (suc (suc (suc q))) ≡ [] = ap (λ o. elim o as (λ _. List ℕ) [ None ↦ [] | Some k ↦ q ∷ [] ]) e in
+      rw e (ap (λ xs. xs ++ offering_from t m (suc q) s) (sym one))
+  turn_of q s (Some k) e =
+      let one : offers_one t m (suc (suc (suc q))) ≡ q ∷ [] = ap (λ o. elim o as (λ _. List ℕ) [ None ↦ [] | Some k ↦ q ∷ [] ]) e in
+      rw e (ap (λ xs. xs ++ offering_from t m (suc q) s) (sym one))
 
   state_turn : (q : ℕ) (s : Set) (rest : List ℕ) (o : Option Target) → target_at t m q ≡ o → offering_from t m (suc q) s ≡ rest →
       offering_from t m q (true ∷ s) ≡ offers_one t m (suc (suc (suc q))) ++ rest
