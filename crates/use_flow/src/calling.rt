@@ -160,11 +160,9 @@ impl<'a> Scene<'a> {
             ++ judged (unless_called (typestate_of (seen self.now).program call.class) (text_at (seen self.now).program call.name.0))
             subject.place subject.variable (title_in names.now subject.title) subject.class set.now) }
     {
-        for element in 0..set.width() {
-            if set.has(element) {
-                let kind = self.called_asked(call, element);
-                blame(alloc, names, failed, subject, element, kind)?;
-            }
+        for element in set.iter() {
+            let kind = self.called_asked(call, element);
+            blame(alloc, names, failed, subject, element, kind)?;
         }
         Ok(())
     }
@@ -181,13 +179,14 @@ impl<'a> Scene<'a> {
             (text_at (seen self.now).program call.name.0) set.now) }
     {
         let mut states = Vec::new(alloc);
-        for element in 3..set.width() {
-            if !set.has(element) {
+        for element in set.iter() {
+            if element < 3 {
                 continue;
             }
-            if self.target_of(call, element - 3).is_some() {
-                states.push(element - 3)?;
-            }
+            let Some(_target) = self.target_of(call, element - 3) else {
+                continue;
+            };
+            states.push(element - 3)?;
         }
         Ok(states)
     }
