@@ -9,8 +9,9 @@ use Rattle.ts_tree.specs.declared.parts.Branch.{Branch}
 use Rattle.ts_tree.specs.declared.parts.To.{To}
 use Rattle.ts_tree.specs.Typestate.{Target, Typestate}
 use Rattle.ts_tree.proofs.Searches.{by_label-drop, by_label-past, offered_in-drop, offered_in-past}
-use Rattle.use_rules.specs.Elements.{Set, marked, element_of, along, leads_by, target_at, unless_called, unless_offered, states_in}
+use Rattle.use_rules.specs.Elements.{Set, marked, element_of, along, leads_by, target_at, states_in}
 use Rattle.use_rules.specs.Elements.{offering_from}
+use Rattle.use_flow.specs.inner.Calling.{offers_one}
 use Rattle.use_elements.proofs.Rests.{append_nil}
 
 -- the branch at i leads to its place, and then those after it
@@ -40,22 +41,9 @@ along_high which t m (suc zero) h = absurd (omega arith)
 along_high which t m (suc (suc zero)) h = absurd (omega arith)
 along_high which t m (suc (suc (suc q))) h = let k : q ≡ suc (suc (suc q)) - 3 = omega arith in ap (λ n. leads_by which (target_at t m n)) k
 
-pub called_high : (t : Typestate) (m : Name) (e : ℕ) → e ≢ 0 → e ≢ 1 → e ≢ 2 → unless_called t m e ≡ unless_offered (target_at t m (e - 3))
-called_high t m zero a b c = absurd (a refl)
-called_high t m (suc zero) a b c = absurd (b refl)
-called_high t m (suc (suc zero)) a b c = absurd (c refl)
-called_high t m (suc (suc (suc q))) a b c = let k : q ≡ suc (suc (suc q)) - 3 = omega arith in ap (λ n. unless_offered (target_at t m n)) k
-
-pub ruleset alongs = (along_low, along_high, called_high)
+pub ruleset alongs = (along_low, along_high)
 
 -- The states that offer a method.
-
--- the state of an element, where it offers the method
-abbrev pub offers_one : Typestate → (method : Name) → ℕ → List ℕ
-offers_one t m zero = []
-offers_one t m (suc zero) = []
-offers_one t m (suc (suc zero)) = []
-offers_one t m (suc (suc (suc q))) = elim (target_at t m q) as (λ _. List ℕ) [ None ↦ [] | Some k ↦ q ∷ [] ]
 
 abbrev pub offered_all : Typestate → (method : Name) → List ℕ → List ℕ
 offered_all t m [] = []
@@ -94,13 +82,13 @@ module _ (t : Typestate) (m : Name) where
       ∙ sym (low_skip a 0 (members_from 1 (b ∷ c ∷ s)) refl ∙ low_skip b 1 (members_from 2 (c ∷ s)) refl
       ∙ low_skip c 2 (members_from 3 s) refl)
 
-low_offers : (t : Typestate) (m : Name) (e : ℕ) → e < 3 → offers_one t m e ≡ []
+pub low_offers : (t : Typestate) (m : Name) (e : ℕ) → e < 3 → offers_one t m e ≡ []
 low_offers t m zero h = refl
 low_offers t m (suc zero) h = refl
 low_offers t m (suc (suc zero)) h = refl
 low_offers t m (suc (suc (suc q))) h = absurd (omega (arith, h))
 
-none_offers : (t : Typestate) (m : Name) (e : ℕ) → 3 ≤ e → target_at t m (e - 3) ≡ None → offers_one t m e ≡ []
+pub none_offers : (t : Typestate) (m : Name) (e : ℕ) → 3 ≤ e → target_at t m (e - 3) ≡ None → offers_one t m e ≡ []
 none_offers t m zero l h = refl
 none_offers t m (suc zero) l h = refl
 none_offers t m (suc (suc zero)) l h = refl
@@ -108,7 +96,7 @@ none_offers t m (suc (suc (suc q))) l h =
     let k : q ≡ suc (suc (suc q)) - 3 = omega arith in
     ap (λ o. elim o as (λ _. List ℕ) [ None ↦ [] | Some t ↦ q ∷ [] ]) (ap (target_at t m) k ∙ h)
 
-some_offers : (t : Typestate) (m : Name) (e : ℕ) (x : Target) → 3 ≤ e → target_at t m (e - 3) ≡ Some x → offers_one t m e ≡ (e - 3) ∷ []
+pub some_offers : (t : Typestate) (m : Name) (e : ℕ) (x : Target) → 3 ≤ e → target_at t m (e - 3) ≡ Some x → offers_one t m e ≡ (e - 3) ∷ []
 some_offers t m zero x l h = absurd (omega (arith, l))
 some_offers t m (suc zero) x l h = absurd (omega (arith, l))
 some_offers t m (suc (suc zero)) x l h = absurd (omega (arith, l))
@@ -120,29 +108,11 @@ pub offering_start : (t : Typestate) (m : Name) (s : Set) (es qs : List ℕ) →
     qs ++ offered_all t m es ≡ offering_from t m 0 (states_in s)
 offering_start t m s es qs e h = ap (λ x. x ++ offered_all t m es) h ∙ ap (offered_all t m) e ∙ sym (all_members t m s)
 
-offering_turn : (t : Typestate) (m : Name) (e : ℕ) (all rest qs qs' total : List ℕ) → all ≡ e ∷ rest → qs' ≡ qs ++ offers_one t m e →
+pub offering_turn : (t : Typestate) (m : Name) (e : ℕ) (all rest qs qs' total : List ℕ) → all ≡ e ∷ rest → qs' ≡ qs ++ offers_one t m e →
     qs ++ offered_all t m all ≡ total → qs' ++ offered_all t m rest ≡ total
 offering_turn t m e all rest qs qs' total a p r =
     ap (λ x. x ++ offered_all t m rest) p ∙ append_assoc qs (offers_one t m e) (offered_all t m rest)
     ∙ ap (λ x. qs ++ offered_all t m x) (sym a) ∙ r
 
-pub offering_low : (t : Typestate) (m : Name) (e : ℕ) (all rest qs total : List ℕ) → all ≡ e ∷ rest → e < 3 →
-    qs ++ offered_all t m all ≡ total → qs ++ offered_all t m rest ≡ total
-offering_low t m e all rest qs total a l r =
-    offering_turn t m e all rest qs qs total a (sym (ap (λ x. qs ++ x) (low_offers t m e l) ∙ append_nil qs)) r
-
-pub offering_none : (t : Typestate) (m : Name) (e : ℕ) (all rest qs total : List ℕ) → all ≡ e ∷ rest → 3 ≤ e →
-    None ≡ target_at t m (e - 3) → qs ++ offered_all t m all ≡ total → qs ++ offered_all t m rest ≡ total
-offering_none t m e all rest qs total a l o r =
-    offering_turn t m e all rest qs qs total a (sym (ap (λ x. qs ++ x) (none_offers t m e l (sym o)) ∙ append_nil qs)) r
-
-pub offering_some : (t : Typestate) (m : Name) (e : ℕ) (all rest qs qs' total : List ℕ) (x : Target) → all ≡ e ∷ rest → 3 ≤ e →
-    Some x ≡ target_at t m (e - 3) → qs' ≡ qs ++ (e - 3) ∷ [] →
-    qs ++ offered_all t m all ≡ total → qs' ++ offered_all t m rest ≡ total
-offering_some t m e all rest qs qs' total x a l o p r =
-    offering_turn t m e all rest qs qs' total a (p ∙ ap (λ v. qs ++ v) (sym (some_offers t m e x l (sym o)))) r
-
 pub offering_end : (t : Typestate) (m : Name) (es qs total : List ℕ) → es ≡ [] → qs ++ offered_all t m es ≡ total → qs ≡ total
 offering_end t m es qs total e r = sym (append_nil qs) ∙ ap (λ x. qs ++ offered_all t m x) (sym e) ∙ r
-
-pub ruleset offers = (offering_start, offering_low, offering_none, offering_some, offering_end)
