@@ -4,6 +4,7 @@ use Rattle.std.proofs.Common.{Some, refl, sym, ap, ◌∙◌, subst, arith, appe
 use Rattle.std.specs.Prelude.{slice_set, ◌||◌}
 use Rattle.std.specs.Bool.{OnTrue}
 use Rattle.std.specs.List.{list_any}
+use Rattle.std.proofs.lemmas.Bool.{lt-ltb, ne_eqb}
 use Rattle.std.proofs.lemmas.List.{length-append}
 use Rattle.mg_text.specs.Call.{Name}
 use Rattle.mg_text.specs.declared.place.Place.{Place}
@@ -48,7 +49,9 @@ module _ (to : ℕ → List ℕ) where
   kept_image : (w but : ℕ) (s : Set) → length s ≡ w → LeadsToItself to but → has s but ≡ false → image w to s ≡ s
   kept_image w but s l i h =
       ap (λ n. image n to s) (sym l)
-      ∙ kept_from 0 [] s refl (λ j q. i.itself j (λ e. false_true (sym h ∙ ap (has s) (sym e) ∙ q)))
+      ∙ kept_from 0 [] s refl (λ j q.
+        let z : j ≡ 0 + j = omega arith in
+        subst (λ x. to x ≡ x ∷ []) z (i.itself j (λ e. false_true (sym h ∙ ap (has s) (sym e) ∙ q))))
 
 pub kept_unless : (to : ℕ → List ℕ) (w but : ℕ) (s : Set) (r : Bool) → length s ≡ w → LeadsToItself to but → r ≡ has s but →
     OnTrue (not r) (image w to s ≡ s)
@@ -82,6 +85,12 @@ object_once true true [] = refl
 object_once true true (x ∷ []) = refl
 object_once true true (x ∷ y ∷ f) = refl
 
+no_zero : (k : ℕ) → nat_eq 0 (suc k) ≡ false
+no_zero k = ne_eqb 0 (suc k) (λ h. let z : ⊥ = omega (arith, h) in z)
+
+two_high : (e : ℕ) → nat_lt 1 (suc (suc e)) ≡ true
+two_high e = let l : 1 < suc (suc e) = omega arith in lt-ltb 1 (suc (suc e)) l
+
 left_all : (es : List ℕ) (f : Set) →
     marked (led_all left_behind es) f ≡ on (list_any (nat_lt 1) es) 1 (on (list_any (nat_eq 0) es) 0 f)
 left_all [] f = refl
@@ -90,10 +99,12 @@ left_all (zero ∷ es) f =
 left_all (suc zero ∷ es) f = left_all es f
 left_all (suc (suc e) ∷ es) f =
     left_all es (slice_set f 1 true) ∙ object_once (list_any (nat_lt 1) es) (list_any (nat_eq 0) es) f
+    ∙ sym (ap (λ b. on (b || list_any (nat_lt 1) es) 1 (on (nat_eq 0 (suc (suc e)) || list_any (nat_eq 0) es) 0 f)) (two_high e)
+    ∙ ap (λ b. slice_set (on (b || list_any (nat_eq 0) es) 0 f) 1 true) (no_zero (suc e)))
 
 no_null : (k : ℕ) (s : Set) → list_any (nat_eq 0) (members_from (suc k) s) ≡ false
 no_null k [] = refl
-no_null k (true ∷ s) = no_null (suc k) s
+no_null k (true ∷ s) = ap (λ b. b || list_any (nat_eq 0) (members_from (suc (suc k)) s)) (no_zero k) ∙ no_null (suc k) s
 no_null k (false ∷ s) = no_null (suc k) s
 
 null_member : (s : Set) → list_any (nat_eq 0) (members s) ≡ has s 0
@@ -119,9 +130,7 @@ low (suc zero) h = refl
 low (suc (suc e)) h = absurd (omega (arith, h))
 
 high : (e : ℕ) → 1 < e → nat_lt 1 e ≡ true
-high zero h = absurd (omega (arith, h))
-high (suc zero) h = absurd (omega (arith, h))
-high (suc (suc e)) h = refl
+high e h = lt-ltb 1 e h
 
 pub object_turn : (e : ℕ) (all rest : List ℕ) (total : Bool) → all ≡ e ∷ rest → e ≤ 1 → list_any (nat_lt 1) all ≡ total →
     list_any (nat_lt 1) rest ≡ total
