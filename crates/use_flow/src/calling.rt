@@ -91,7 +91,7 @@ pub(crate) fn begin_of(typestate: Option<&Typestate>) -> usize
 }
 
 // Which demand an element fails that is no state, whatever method is called on it.
-#[tactic(auto, using(crate::proofs::Met::low))]
+#[tactic(auto, using(crate::proofs::Looking::low))]
 fn low_asked(element: usize) -> DemandKind
     requires { element < 3 }
     ensures { (t : Protocol) (m : Spelling) → Some result ≡ unless_called t m element }
@@ -150,7 +150,7 @@ impl<'a> Scene<'a> {
 
     // Follows a call from an element: a demand that it fails is appended, and where it offers the method its state stands
     // with where the call leads.
-    #[tactic(auto, using(crate::proofs::Met::elements))]
+    #[tactic(auto, using(crate::proofs::Looking::elements))]
     fn meet_element(
         &self,
         alloc: Global,
@@ -188,7 +188,7 @@ impl<'a> Scene<'a> {
 
     // Follows a call from the elements of a set, whatever is answered. The demands that they fail are appended; the set of
     // where they lead has this width.
-    #[tactic(auto, using(crate::proofs::Met::calls))]
+    #[tactic(auto, using(crate::proofs::Looking::calls))]
     pub(crate) fn meet_call(
         &self,
         alloc: Global,
