@@ -3,3 +3,4 @@ pub mod Rests
 pub mod Leading
 pub mod Unions
 pub mod Rows
+pub mod Kept

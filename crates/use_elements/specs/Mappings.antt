@@ -1,5 +1,5 @@
 -- The element maps and demands of the rules, by the names that the code has for them.
-use Rattle.std.specs.Prelude.{ℕ, List, [], ◌∷◌, Option, Some, None, get_or, codes}
+use Rattle.std.specs.Prelude.{◌≡◌, ◌≢◌, ℕ, List, [], ◌∷◌, Option, Some, None, get_or, codes}
 use Rattle.use_elements.specs.declared.elements.Mapping.{Mapping}
 use Rattle.use_elements.specs.declared.elements.Mapping.TheVariants as mappings
 use Rattle.use_elements.specs.declared.elements.Rule.{Rule}
@@ -47,3 +47,7 @@ title_in names titles.Unnamed = []
 abbrev pub blamed : Place → (variable : ℕ) → Name → (class element : ℕ) → Option DemandKind → List Demand
 blamed q y x c e None = []
 blamed q y x c e (Some k) = record { kind = k; place = q; variable = y; slot = x; class = c; element = element_at e } ∷ []
+
+-- each element but one leads to itself alone
+pub record LeadsToItself (to : ℕ → List ℕ) (but : ℕ) : Type 0 where
+  pub itself : (e : ℕ) → e ≢ but → to e ≡ e ∷ []

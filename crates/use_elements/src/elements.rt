@@ -1,11 +1,14 @@
 //! Where the elements of a set lead, and which demands they fail.
 //! Each is a loop over the members of a set.
 
-ghost use Rattle.std.specs.Prelude.{◌≡◌, ◌++◌, slice_set, true, option_map, IfOk, OnOk};
+ghost use Rattle.std.specs.Prelude.{◌≡◌, ◌++◌, slice_set, true, option_map, if◌then◌else◌, nat_lt, IfOk, IfSome, OnOk};
+ghost use Rattle.std.specs.Bool.{OnTrue};
+ghost use Rattle.std.specs.List.{list_any};
+ghost use Rattle.mg_sets.specs.Sets.{has, members};
 ghost use Rattle.ts_tree.specs.Calls.{drops};
-ghost use Rattle.use_rules.specs.Elements.{element_at, if_open, image, marked, none};
+ghost use Rattle.use_rules.specs.Elements.{element_at, if_moved, if_open, image, left_behind, marked, none};
 ghost use Rattle.use_rules.specs.State.{judged};
-ghost use Rattle.use_elements.specs.Mappings.{typestate_or_end, mapping_of, rule_of, listed, blamed, title_in};
+ghost use Rattle.use_elements.specs.Mappings.{typestate_or_end, mapping_of, rule_of, listed, blamed, title_in, LeadsToItself};
 
 use mg_sets::StateSet;
 use mg_text::{List, Memory, Name, Names, Place, Text};
@@ -94,6 +97,78 @@ fn mark_found(set: &mut StateSet, element: Option<usize>)
     }
 }
 
+// The element beside which each leads to itself, if there is one.
+fn left_out(mapping: Mapping) -> Option<usize>
+    ensures { IfSome result (λ k. LeadsToItself (mapping_of mapping) k) }
+{
+    match mapping {
+        Mapping::AsValue => Some(1),
+        Mapping::NotNull => Some(0),
+        Mapping::LeftBehind | Mapping::OnlyNull => None,
+    }
+}
+
+// True only where all elements of a set of this width lead to themselves.
+#[tactic(auto, using(crate::proofs::Kept::kept))]
+fn is_kept(width: usize, mapping: Mapping, set: &StateSet) -> bool
+    ensures { OnTrue result (image width (mapping_of mapping) set.now ≡ set.now) }
+{
+    if set.width() != width {
+        return false;
+    }
+    let Some(element) = left_out(mapping) else {
+        return false;
+    };
+    if element >= width {
+        return false;
+    }
+    !set.has(element)
+}
+
+// Whether a set has null.
+#[tactic(auto, using(crate::proofs::Kept::left))]
+fn has_null(set: &StateSet) -> bool
+    ensures { result ≡ has set.now 0 }
+{
+    if set.width() == 0 {
+        return false;
+    }
+    set.has(0)
+}
+
+// Whether a set has an object: the places of its states and of the end are above 1.
+#[tactic(auto, using(crate::proofs::Kept::objects))]
+fn has_object(set: &StateSet) -> bool
+    ensures { result ≡ list_any (nat_lt 1) (members set.now) }
+{
+    for element in set.iter() {
+        if element > 1 {
+            return true;
+        }
+    }
+    false
+}
+
+// Makes an element a member, where a condition holds.
+fn mark_if(set: &mut StateSet, holds: bool, element: usize)
+    ensures { set.new ≡ (if holds then slice_set set.old element true else set.old) }
+{
+    if holds {
+        mark(set, element);
+    }
+}
+
+// What a read leaves of a set in the variable: null, and moved for each object.
+#[tactic(auto, using(crate::proofs::Kept::left))]
+fn left_behind(alloc: Global, width: usize, set: &StateSet) -> Result<StateSet, Memory>
+    ensures { IfOk result (λ s. s ≡ image width left_behind set.now) }
+{
+    let mut found = empty_set(alloc, width)?;
+    mark_if(&mut found, has_null(set), 0);
+    mark_if(&mut found, has_object(set), 1);
+    Ok(found)
+}
+
 /// Where the elements of a set lead, as a set of this width.
 ///
 /// # Errors
@@ -107,6 +182,12 @@ pub fn image(
 ) -> Result<StateSet, Memory>
     ensures { IfOk result (λ s. s ≡ image width (mapping_of mapping) set.now) }
 {
+    if mapping == Mapping::LeftBehind {
+        return left_behind(alloc, width, set);
+    }
+    if is_kept(width, mapping, set) {
+        return copy_set(set);
+    }
     let mut found = empty_set(alloc, width)?;
     for element in set.iter() {
         mark_found(&mut found, lead(mapping, element));
@@ -248,6 +329,27 @@ pub fn blame(
     Ok(())
 }
 
+// Appends the demand that a set fails which has a moved object.
+#[tactic(auto, using(crate::proofs::Kept::moved))]
+fn judge_moved(
+    alloc: Global,
+    names: &Names,
+    failed: &mut List<Demand>,
+    subject: Subject,
+    set: &StateSet,
+) -> Result<(), Memory>
+    ensures { OnOk result (failed.new.items ≡ failed.old.items
+        ++ judged if_moved subject.place subject.variable (title_in names.now subject.title) subject.class set.now) }
+{
+    if set.width() < 2 {
+        return Ok(());
+    }
+    if set.has(1) {
+        blame(alloc, names, failed, subject, 1, Some(DemandKind::UseMoved))?;
+    }
+    Ok(())
+}
+
 /// Appends the demands that a set fails, element by element. The typestate is that of the class.
 ///
 /// # Errors
@@ -266,6 +368,9 @@ pub fn judge(
         ++ judged (rule_of rule (typestate_or_end (option_map (λ t. t.now) typestate.entry)))
         subject.place subject.variable (title_in names.now subject.title) subject.class set.now) }
 {
+    if rule == Rule::Moved {
+        return judge_moved(alloc, names, failed, subject, set);
+    }
     for element in set.iter() {
         let kind = asked(rule, typestate, element);
         blame(alloc, names, failed, subject, element, kind)?;

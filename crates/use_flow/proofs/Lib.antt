@@ -3,6 +3,7 @@ pub mod Answered
 pub mod Grown
 pub mod Scenes
 pub mod Seeking
+pub mod Looking
 pub mod Turns
 pub mod Taken
 pub mod Entries

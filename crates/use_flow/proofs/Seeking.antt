@@ -1,16 +1,17 @@
 -- What a turn of a loop over methods, branches and elements does.
-use Rattle.std.proofs.Common.{◌≡◌, ◌≢◌, ℕ, zero, suc, ◌+◌, ◌-◌, ◌<◌, ◌≤◌, true, false, List, [], ◌∷◌, ◌++◌, length, get_or, drop, map}
-use Rattle.std.proofs.Common.{Option, Some, None, refl, sym, ap, ◌∙◌, arith, append_assoc}
-use Rattle.std.specs.Prelude.{slice_set}
+use Rattle.std.proofs.Common.{◌≡◌, ℕ, zero, suc, ◌+◌, ◌-◌, ◌<◌, ◌≤◌, Bool, true, false, List, [], ◌∷◌, ◌++◌, length, get_or, drop, map}
+use Rattle.std.proofs.Common.{Option, Some, None, refl, sym, ap, ◌∙◌, subst, arith, append_assoc}
+use Rattle.std.specs.Prelude.{slice_set, if◌then◌else◌}
 use Rattle.std.proofs.lemmas.List.{at_drop_more, at_drop_all}
 use Rattle.mg_text.specs.Call.{Name}
-use Rattle.mg_sets.specs.Sets.{has}
+use Rattle.mg_sets.specs.Sets.{members, members_from}
 use Rattle.ts_tree.specs.declared.parts.Branch.{Branch}
 use Rattle.ts_tree.specs.declared.parts.To.{To}
 use Rattle.ts_tree.specs.Typestate.{Target, Typestate}
 use Rattle.ts_tree.proofs.Searches.{by_label-drop, by_label-past, offered_in-drop, offered_in-past}
-use Rattle.use_rules.specs.Elements.{Set, marked, element_of, along, leads_by, target_at, unless_called, unless_offered, states_in}
+use Rattle.use_rules.specs.Elements.{Set, marked, element_of, along, leads_by, target_at, states_in}
 use Rattle.use_rules.specs.Elements.{offering_from}
+use Rattle.use_flow.specs.inner.Calling.{offers_one}
 use Rattle.use_elements.proofs.Rests.{append_nil}
 
 -- the branch at i leads to its place, and then those after it
@@ -40,66 +41,78 @@ along_high which t m (suc zero) h = absurd (omega arith)
 along_high which t m (suc (suc zero)) h = absurd (omega arith)
 along_high which t m (suc (suc (suc q))) h = let k : q ≡ suc (suc (suc q)) - 3 = omega arith in ap (λ n. leads_by which (target_at t m n)) k
 
-pub called_high : (t : Typestate) (m : Name) (e : ℕ) → e ≢ 0 → e ≢ 1 → e ≢ 2 → unless_called t m e ≡ unless_offered (target_at t m (e - 3))
-called_high t m zero a b c = absurd (a refl)
-called_high t m (suc zero) a b c = absurd (b refl)
-called_high t m (suc (suc zero)) a b c = absurd (c refl)
-called_high t m (suc (suc (suc q))) a b c = let k : q ≡ suc (suc (suc q)) - 3 = omega arith in ap (λ n. unless_offered (target_at t m n)) k
-
-pub ruleset alongs = (along_low, along_high, called_high)
+pub ruleset alongs = (along_low, along_high)
 
 -- The states that offer a method.
 
-states_drop : (s : Set) → states_in s ≡ drop 3 s
-states_drop [] = refl
-states_drop (a ∷ []) = refl
-states_drop (a ∷ b ∷ []) = refl
-states_drop (a ∷ b ∷ c ∷ s) = refl
+abbrev pub offered_all : Typestate → (method : Name) → List ℕ → List ℕ
+offered_all t m [] = []
+offered_all t m (e ∷ es) = offers_one t m e ++ offered_all t m es
 
-pub offering_start : (t : Typestate) (m : Name) (s : Set) → offering_from t m 0 (drop 3 s) ≡ offering_from t m 0 (states_in s)
-offering_start t m s = ap (offering_from t m 0) (sym (states_drop s))
+module _ (t : Typestate) (m : Name) where
+  turn_of : (q : ℕ) (s : Set) (o : Option Target) → target_at t m q ≡ o →
+      offering_from t m q (true ∷ s) ≡ offers_one t m (suc (suc (suc q))) ++ offering_from t m (suc q) s
+  turn_of q s None e =
+      let one : offers_one t m (suc (suc (suc q))) ≡ [] = ap (λ o. elim o as (λ _. List ℕ) [ None ↦ [] | Some k ↦ q ∷ [] ]) e in
+      rw e (ap (λ xs. xs ++ offering_from t m (suc q) s) (sym one))
+  turn_of q s (Some k) e =
+      let one : offers_one t m (suc (suc (suc q))) ≡ q ∷ [] = ap (λ o. elim o as (λ _. List ℕ) [ None ↦ [] | Some k ↦ q ∷ [] ]) e in
+      rw e (ap (λ xs. xs ++ offering_from t m (suc q) s) (sym one))
 
-offering_one : (t : Typestate) (m : Name) (e : ℕ) (s : Set) → 3 ≤ e → e < length s →
-    offering_from t m (e - 3) (drop e s) ≡ offering_from t m (e - 3) (has s e ∷ drop (e + 1) s)
-offering_one t m e s l h = at_drop_more (offering_from t m (e - 3)) s e false h
+  state_turn : (q : ℕ) (s : Set) (rest : List ℕ) (o : Option Target) → target_at t m q ≡ o → offering_from t m (suc q) s ≡ rest →
+      offering_from t m q (true ∷ s) ≡ offers_one t m (suc (suc (suc q))) ++ rest
+  state_turn q s rest o e r = subst (λ xs. offering_from t m q (true ∷ s) ≡ offers_one t m (suc (suc (suc q))) ++ xs) r (turn_of q s o e)
 
-next_state : (e : ℕ) → 3 ≤ e → suc (e - 3) ≡ e + 1 - 3
-next_state e l = omega arith
+  offering_members : (q : ℕ) (s : Set) → offering_from t m q s ≡ offered_all t m (members_from (suc (suc (suc q))) s)
+  offering_members q [] = refl
+  offering_members q (true ∷ s) =
+      state_turn q s (offered_all t m (members_from (suc (suc (suc (suc q)))) s)) (target_at t m q) refl (offering_members (suc q) s)
+  offering_members q (false ∷ s) = offering_members (suc q) s
 
-pub offering_skip : (t : Typestate) (m : Name) (e : ℕ) (s : Set) (qs total : List ℕ) → 3 ≤ e → e < length s → has s e ≡ false →
-    qs ++ offering_from t m (e - 3) (drop e s) ≡ total → qs ++ offering_from t m (e + 1 - 3) (drop (e + 1) s) ≡ total
-offering_skip t m e s qs total l h b r =
-    ap (λ n. qs ++ offering_from t m n (drop (e + 1) s)) (sym (next_state e l))
-    ∙ ap (λ v. qs ++ offering_from t m (e - 3) (v ∷ drop (e + 1) s)) (sym b) ∙ ap (λ x. qs ++ x) (sym (offering_one t m e s l h)) ∙ r
+  low_skip : (b : Bool) (e : ℕ) (es : List ℕ) → offers_one t m e ≡ [] → offered_all t m (if b then e ∷ es else es) ≡ offered_all t m es
+  low_skip true e es h = ap (λ x. x ++ offered_all t m es) h
+  low_skip false e es h = refl
 
-pub offering_none : (t : Typestate) (m : Name) (e : ℕ) (s : Set) (qs total : List ℕ) → 3 ≤ e → e < length s → has s e ≡ true →
-    target_at t m (e - 3) ≡ None →
-    qs ++ offering_from t m (e - 3) (drop e s) ≡ total → qs ++ offering_from t m (e + 1 - 3) (drop (e + 1) s) ≡ total
-offering_none t m e s qs total l h b o r =
-    ap (λ n. qs ++ offering_from t m n (drop (e + 1) s)) (sym (next_state e l))
-    ∙ sym (ap (λ x. qs ++ x) (go (target_at t m (e - 3)) refl o))
-    ∙ ap (λ v. qs ++ offering_from t m (e - 3) (v ∷ drop (e + 1) s)) (sym b) ∙ ap (λ x. qs ++ x) (sym (offering_one t m e s l h)) ∙ r
-  where
-    go : (k : Option Target) → target_at t m (e - 3) ≡ k → k ≡ None → offering_from t m (e - 3) (true ∷ drop (e + 1) s) ≡ offering_from t m
-        (suc (e - 3)) (drop (e + 1) s)
-    go k is none = rw (is, none) refl
+  all_members : (s : Set) → offering_from t m 0 (states_in s) ≡ offered_all t m (members s)
+  all_members [] = refl
+  all_members (a ∷ []) = sym (low_skip a 0 [] refl)
+  all_members (a ∷ b ∷ []) = sym (low_skip a 0 (members_from 1 (b ∷ [])) refl ∙ low_skip b 1 [] refl)
+  all_members (a ∷ b ∷ c ∷ s) =
+      offering_members 0 s
+      ∙ sym (low_skip a 0 (members_from 1 (b ∷ c ∷ s)) refl ∙ low_skip b 1 (members_from 2 (c ∷ s)) refl
+      ∙ low_skip c 2 (members_from 3 s) refl)
 
-pub offering_some : (t : Typestate) (m : Name) (e : ℕ) (s : Set) (qs qs' total : List ℕ) (k : Target) → 3 ≤ e → e < length s →
-    has s e ≡ true →
-    target_at t m (e - 3) ≡ Some k → qs' ≡ qs ++ (e - 3) ∷ [] →
-    qs ++ offering_from t m (e - 3) (drop e s) ≡ total → qs' ++ offering_from t m (e + 1 - 3) (drop (e + 1) s) ≡ total
-offering_some t m e s qs qs' total k l h b o p r =
-    ap (λ n. qs' ++ offering_from t m n (drop (e + 1) s)) (sym (next_state e l))
-    ∙ ap (λ x. x ++ offering_from t m (suc (e - 3)) (drop (e + 1) s)) p
-    ∙ append_assoc qs ((e - 3) ∷ []) (offering_from t m (suc (e - 3)) (drop (e + 1) s))
-    ∙ sym (ap (λ x. qs ++ x) go)
-    ∙ ap (λ v. qs ++ offering_from t m (e - 3) (v ∷ drop (e + 1) s)) (sym b) ∙ ap (λ x. qs ++ x) (sym (offering_one t m e s l h)) ∙ r
-  where
-    go : offering_from t m (e - 3) (true ∷ drop (e + 1) s) ≡ (e - 3) ∷ offering_from t m (suc (e - 3)) (drop (e + 1) s)
-    go = rw o refl
+pub low_offers : (t : Typestate) (m : Name) (e : ℕ) → e < 3 → offers_one t m e ≡ []
+low_offers t m zero h = refl
+low_offers t m (suc zero) h = refl
+low_offers t m (suc (suc zero)) h = refl
+low_offers t m (suc (suc (suc q))) h = absurd (omega (arith, h))
 
-pub offering_end : (t : Typestate) (m : Name) (e : ℕ) (s : Set) (qs total : List ℕ) → length s ≤ e →
-    qs ++ offering_from t m (e - 3) (drop e s) ≡ total → qs ≡ total
-offering_end t m e s qs total h r = sym (ap (λ x. qs ++ x) (at_drop_all (offering_from t m (e - 3)) s e h) ∙ append_nil qs) ∙ r
+pub none_offers : (t : Typestate) (m : Name) (e : ℕ) → 3 ≤ e → target_at t m (e - 3) ≡ None → offers_one t m e ≡ []
+none_offers t m zero l h = refl
+none_offers t m (suc zero) l h = refl
+none_offers t m (suc (suc zero)) l h = refl
+none_offers t m (suc (suc (suc q))) l h =
+    let k : q ≡ suc (suc (suc q)) - 3 = omega arith in
+    ap (λ o. elim o as (λ _. List ℕ) [ None ↦ [] | Some t ↦ q ∷ [] ]) (ap (target_at t m) k ∙ h)
 
-pub ruleset offers = (offering_start, offering_skip, offering_none, offering_some, offering_end)
+pub some_offers : (t : Typestate) (m : Name) (e : ℕ) (x : Target) → 3 ≤ e → target_at t m (e - 3) ≡ Some x → offers_one t m e ≡ (e - 3) ∷ []
+some_offers t m zero x l h = absurd (omega (arith, l))
+some_offers t m (suc zero) x l h = absurd (omega (arith, l))
+some_offers t m (suc (suc zero)) x l h = absurd (omega (arith, l))
+some_offers t m (suc (suc (suc q))) x l h =
+    let k : q ≡ suc (suc (suc q)) - 3 = omega arith in
+    ap (λ o. elim o as (λ _. List ℕ) [ None ↦ [] | Some t ↦ q ∷ [] ]) (ap (target_at t m) k ∙ h) ∙ ap (λ n. n ∷ []) k
+
+pub offering_start : (t : Typestate) (m : Name) (s : Set) (es qs : List ℕ) → es ≡ members s → qs ≡ [] →
+    qs ++ offered_all t m es ≡ offering_from t m 0 (states_in s)
+offering_start t m s es qs e h = ap (λ x. x ++ offered_all t m es) h ∙ ap (offered_all t m) e ∙ sym (all_members t m s)
+
+pub offering_turn : (t : Typestate) (m : Name) (e : ℕ) (all rest qs qs' total : List ℕ) → all ≡ e ∷ rest → qs' ≡ qs ++ offers_one t m e →
+    qs ++ offered_all t m all ≡ total → qs' ++ offered_all t m rest ≡ total
+offering_turn t m e all rest qs qs' total a p r =
+    ap (λ x. x ++ offered_all t m rest) p ∙ append_assoc qs (offers_one t m e) (offered_all t m rest)
+    ∙ ap (λ x. qs ++ offered_all t m x) (sym a) ∙ r
+
+pub offering_end : (t : Typestate) (m : Name) (es qs total : List ℕ) → es ≡ [] → qs ++ offered_all t m es ≡ total → qs ≡ total
+offering_end t m es qs total e r = sym (append_nil qs) ∙ ap (λ x. qs ++ offered_all t m x) (sym e) ∙ r

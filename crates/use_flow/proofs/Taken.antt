@@ -14,6 +14,7 @@ use Rattle.use_rules.specs.declared.key.TableKey.TheVariants as keys
 use Rattle.use_rules.specs.Elements.{Set, union}
 use Rattle.use_rules.specs.Keys.{class_in, number_of}
 use Rattle.use_rules.specs.State.{Out}
+use Rattle.use_flow.specs.View.{tables_of}
 use Rattle.use_flow.specs.inner.Followed.{Followed, param_outs, state_outs, result_in, state_results}
 use Rattle.use_elements.proofs.Rests.{append_nil}
 
@@ -136,7 +137,17 @@ pub states_last : (s : Followed) (n : ℕ) (k : Method) (qs : List ℕ) (i : ℕ
 states_last s n k qs i ss out total le h = sym (ap (λ r. out ++ r) (at_drop_all (λ xs. state_outs s n k xs ss) qs i le) ∙ append_nil out) ∙
     h
 
-pub ruleset states = (state_next, states_last)
+args_none : (s : Followed) (n : ℕ) (k : Method) (qs : List ℕ) → state_outs s n k qs [] ≡ []
+args_none s n k [] = refl
+args_none s n k (q ∷ qs) =
+    ap (λ os. os ++ state_outs s n k qs []) (no_args s (number_of s.contexts (contexts.Protocol k.class q n)) 0 (param_types k)) ∙ args_none s n k qs
+
+pub states_bare : (s : Followed) (n : ℕ) (k : Method) (qs : List ℕ) (ss : List Set) (out : List Out) → length ss ≡ 0 →
+    out ≡ out ++ state_outs s n k qs ss
+states_bare s n k qs [] out h = sym (ap (λ os. out ++ os) (args_none s n k qs) ∙ append_nil out)
+states_bare s n k qs (x ∷ ss) out h = absurd (omega (arith, h))
+
+pub ruleset states = (state_next, states_last, states_bare)
 
 or_assoc : (a b c : Bool) → ((a || b) || c) ≡ (a || (b || c))
 or_assoc true b c = refl
@@ -165,4 +176,12 @@ pub results_last : (s : Followed) (n : ℕ) (k : Method) (qs : List ℕ) (i : �
     union all (state_results s n k (drop i qs)) ≡ total → all ≡ total
 results_last s n k qs i all total le h = sym (ap (union all) (at_drop_all (state_results s n k) qs i le) ∙ union-nil all) ∙ h
 
-pub ruleset results = (result_next, results_last)
+pub results_none : (s : Followed) (n : ℕ) (k : Method) (qs : List ℕ) (all : Set) → class_in k.result ≡ None → all ≡ [] →
+    all ≡ state_results s n k qs
+results_none s n k [] all h e = e
+results_none s n k (q ∷ qs) all h e =
+    let c : ℕ = number_of s.contexts (contexts.Protocol k.class q n) in
+    let one : result_in s c k ≡ [] = ap (λ o. elim o as (λ _. Set) [ None ↦ [] | Some i ↦ tables_of s.held (keys.Result c) ]) h in
+    results_none s n k qs all h e ∙ ap (λ x. union x (state_results s n k qs)) (sym one)
+
+pub ruleset results = (result_next, results_last, results_none)

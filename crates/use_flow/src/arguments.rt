@@ -117,6 +117,9 @@ impl<'a> Scene<'a> {
         ensures { OnOk result (outs_in outs.new.items ≡ outs_in outs.old.items ++ state_outs (seen self.now) method_number
             (method_of method.now) states.now args.now) }
     {
+        if args.len() == 0 {
+            return Ok(());
+        }
         for state in states {
             let context = self.number_in(method_number, method, *state)?;
             self.send_params(alloc, outs, context, params_of(method), args)?;
@@ -136,6 +139,9 @@ impl<'a> Scene<'a> {
         ensures { IfOk result (λ s. s ≡ state_results (seen self.now) method_number (method_of method.now) states.now) }
     {
         let mut all = empty_set(alloc, 0)?;
+        if class_in(method.result).is_none() {
+            return Ok(all);
+        }
         for state in states {
             let context = self.number_in(method_number, method, *state)?;
             let set = self.result_of(alloc, context, method)?;

@@ -1,8 +1,10 @@
 //! Where calls of a method lead from the elements of a set, and which demands they fail.
 //! A method is told by its class and its name.
 
-ghost use Rattle.std.specs.Prelude.{◌≡◌, ◌++◌, map, option_map, slice_set, true, IfOk, OnOk};
+ghost use Rattle.std.specs.Prelude.{◌≡◌, ◌<◌, ◌++◌, map, option_map, slice_set, true, Some, IfOk, OnOk};
+ghost use Rattle.mg_text.specs.Call.{Name as Spelling};
 ghost use Rattle.ts_tree.specs.Calls.{by_label};
+ghost use Rattle.ts_tree.specs.Typestate.{Typestate as Protocol};
 ghost use Rattle.ts_tree.specs.View.{target_of};
 ghost use Rattle.jv_core.specs.Lookup.{text_at};
 ghost use Rattle.use_rules.specs.Elements.{begin, image, along, element_of, marked, targets, unless_called, offering};
@@ -10,9 +12,9 @@ ghost use Rattle.use_rules.specs.Keys.{typestate_of};
 ghost use Rattle.use_rules.specs.Shapes.{elements_in};
 ghost use Rattle.use_rules.specs.State.{judged};
 ghost use Rattle.use_flow.specs.View.{AreFor};
-ghost use Rattle.use_flow.specs.inner.Calling.{which_of};
+ghost use Rattle.use_flow.specs.inner.Calling.{which_of, offers_one};
 ghost use Rattle.use_flow.specs.inner.Followed.{seen};
-ghost use Rattle.use_elements.specs.Mappings.{typestate_or_end, title_in};
+ghost use Rattle.use_elements.specs.Mappings.{typestate_or_end, blamed, title_in};
 
 use crate::scene::{Scene, elements_in};
 use crate::targets::MethodKey;
@@ -88,6 +90,28 @@ pub(crate) fn begin_of(typestate: Option<&Typestate>) -> usize
     }
 }
 
+// Which demand an element fails that is no state, whatever method is called on it.
+#[tactic(auto, using(crate::proofs::Looking::low))]
+fn low_asked(element: usize) -> DemandKind
+    requires { element < 3 }
+    ensures { (t : Protocol) (m : Spelling) → Some result ≡ unless_called t m element }
+{
+    if element == 0 {
+        return DemandKind::MaybeNull;
+    }
+    if element == 1 {
+        return DemandKind::UseMoved;
+    }
+    DemandKind::NotOffered
+}
+
+/// The states that offer a method which is called, and the elements to which the call leads.
+#[derive(Drop)]
+pub(crate) struct Met {
+    pub states: Vec<usize>,
+    pub led: StateSet,
+}
+
 impl<'a> Scene<'a> {
     // Makes the elements to which a call leads from an element members.
     #[tactic(auto, using(crate::proofs::Seeking::alongs))]
@@ -124,72 +148,74 @@ impl<'a> Scene<'a> {
         Ok(found)
     }
 
-    // Which demand an element fails on which a method is called.
-    #[tactic(auto, using(crate::proofs::Seeking::alongs))]
-    fn called_asked(&self, call: MethodKey, element: usize) -> Option<DemandKind>
-        ensures { result ≡ unless_called (typestate_of (seen self.now).program call.class)
-            (text_at (seen self.now).program call.name.0) element }
-    {
-        if element == 0 {
-            return Some(DemandKind::MaybeNull);
-        }
-        if element == 1 {
-            return Some(DemandKind::UseMoved);
-        }
-        if element == 2 {
-            return Some(DemandKind::NotOffered);
-        }
-        match self.target_of(call, element - 3) {
-            Some(_) => None,
-            None => Some(DemandKind::NotOffered),
-        }
-    }
-
-    // Appends the demands that a set fails on which a method is called.
-    #[tactic(auto, using(use_elements::proofs::Rests::rests))]
-    pub(crate) fn judge_call(
+    // Follows a call from an element: a demand that it fails is appended, and where it offers the method its state stands
+    // with where the call leads.
+    #[tactic(auto, using(crate::proofs::Looking::elements))]
+    fn meet_element(
         &self,
         alloc: Global,
         names: &Names,
         failed: &mut List<Demand>,
         subject: Subject,
         call: MethodKey,
-        set: &StateSet,
+        met: &mut Met,
+        element: usize,
     ) -> Result<(), Memory>
-        ensures { OnOk result (failed.new.items ≡ failed.old.items
-            ++ judged (unless_called (typestate_of (seen self.now).program call.class) (text_at (seen self.now).program call.name.0))
-            subject.place subject.variable (title_in names.now subject.title) subject.class set.now) }
+        ensures demands { OnOk result (failed.new.items ≡ failed.old.items ++ blamed subject.place subject.variable
+            (title_in names.now subject.title) subject.class element (unless_called (typestate_of (seen self.now).program call.class)
+            (text_at (seen self.now).program call.name.0) element)) }
+        ensures states { OnOk result (met.new.states.items ≡ met.old.states.items ++ offers_one
+            (typestate_of (seen self.now).program call.class) (text_at (seen self.now).program call.name.0) element) }
+        ensures led { OnOk result (met.new.led ≡ marked (along targets (typestate_of (seen self.now).program call.class)
+            (text_at (seen self.now).program call.name.0) element) met.old.led) }
     {
-        for element in 0..set.width() {
-            if set.has(element) {
-                let kind = self.called_asked(call, element);
-                blame(alloc, names, failed, subject, element, kind)?;
+        if element < 3 {
+            let kind = low_asked(element);
+            return blame(alloc, names, failed, subject, element, Some(kind));
+        }
+        match self.target_of(call, element - 3) {
+            Some(target) => {
+                met.states.push(element - 3)?;
+                mark_target(&mut met.led, target, None);
+                Ok(())
+            }
+            None => {
+                let kind = DemandKind::NotOffered;
+                blame(alloc, names, failed, subject, element, Some(kind))
             }
         }
-        Ok(())
     }
 
-    // The states of a set that offer a method.
-    #[tactic(auto, using(crate::proofs::Seeking::offers))]
-    pub(crate) fn offering(
+    // Follows a call from the elements of a set, whatever is answered. The demands that they fail are appended; the set of
+    // where they lead has this width.
+    #[tactic(auto, using(crate::proofs::Looking::calls))]
+    pub(crate) fn meet_call(
         &self,
         alloc: Global,
+        names: &Names,
+        failed: &mut List<Demand>,
+        subject: Subject,
         call: MethodKey,
+        width: usize,
         set: &StateSet,
-    ) -> Result<Vec<usize>, Memory>
-        ensures { IfOk result (λ v. v.items ≡ offering (typestate_of (seen self.now).program call.class)
+    ) -> Result<Met, Memory>
+        ensures demands { OnOk result (failed.new.items ≡ failed.old.items
+            ++ judged (unless_called (typestate_of (seen self.now).program call.class) (text_at (seen self.now).program call.name.0))
+            subject.place subject.variable (title_in names.now subject.title) subject.class set.now) }
+        ensures states { IfOk result (λ m. m.states.items ≡ offering (typestate_of (seen self.now).program call.class)
             (text_at (seen self.now).program call.name.0) set.now) }
+        ensures led { IfOk result (λ m. m.led ≡ image width (along targets (typestate_of (seen self.now).program call.class)
+            (text_at (seen self.now).program call.name.0)) set.now) }
     {
-        let mut states = Vec::new(alloc);
-        for element in 3..set.width() {
-            if !set.has(element) {
-                continue;
-            }
-            if self.target_of(call, element - 3).is_some() {
-                states.push(element - 3)?;
-            }
+        let led = empty_set(alloc, width)?;
+        let mut met = Met {
+            states: Vec::new(alloc),
+            led,
+        };
+        for element in set.iter() {
+            self.meet_element(alloc, names, failed, subject, call, &mut met, element)?;
         }
-        Ok(states)
+        Ok(met)
     }
 }
 

@@ -10,6 +10,7 @@ ghost use Rattle.use_flow.specs.inner.Calling.{sights_in};
 ghost use Rattle.use_flow.specs.inner.Values.{evaluated_of, protocol_call, static_call, helper_call};
 
 use crate::arguments::params_of;
+use crate::calling::Met;
 use crate::evaluated::{Arguments, Value, Ways};
 use crate::fields::{FieldTable, copy_at};
 use crate::scene::Scene;
@@ -128,8 +129,10 @@ impl<'a> Scene<'a> {
             number,
         };
         let names = self.core.names();
-        self.judge_call(alloc, names, &mut log.failed, subject, call, &set)?;
-        let states = self.offering(alloc, call, &set)?;
+        let width = self.variable_width(receiver.var);
+        let failed = &mut log.failed;
+        let met = self.meet_call(alloc, names, failed, subject, call, width, &set)?;
+        let Met { states, led } = met;
         self.send_states(
             alloc,
             &mut log.outs,
@@ -139,8 +142,6 @@ impl<'a> Scene<'a> {
             args,
         )?;
         let result = self.results_of(alloc, number, method, states.as_slice())?;
-        let width = self.variable_width(receiver.var);
-        let led = self.image_along(alloc, width, call, None, &set)?;
         sets.put(at, led);
         see(&mut log.sights, receiver, number, set)?;
         Ok(Value {

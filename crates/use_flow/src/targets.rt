@@ -1,8 +1,8 @@
 //! Where the methods of a state lead.
-//! The place of a method in a state is kept with its context, so that no state is searched: what is kept is
-//! tried first, and where nothing is kept of a state that calls lead to, it doesn't offer the method.
+//! The place of a method in a state is kept with its context, so that no state of many methods is searched: what
+//! is kept is tried first, and where nothing is kept of a state that calls lead to, it doesn't offer the method.
 
-ghost use Rattle.std.specs.Prelude.{◌≡◌, map, option_map};
+ghost use Rattle.std.specs.Prelude.{◌≡◌, map, option_map, IfSome};
 ghost use Rattle.std.specs.Bool.{OnTrue};
 ghost use Rattle.mg_text.specs.Call.{Name as Spelling};
 ghost use Rattle.ts_tree.specs.Calls.{offered, offered_in};
@@ -21,6 +21,9 @@ use crate::scene::{Scene, typestate_of};
 use jv_core::{MethodKind, name_text};
 use mg_text::Name;
 use ts_tree::{Method, Target, Typestate};
+
+// So many are searched as fast as one is looked up.
+const FEW_METHODS: usize = 3;
 
 /// Which method: its class, its name, and its number.
 #[derive(Clone, Copy)]
@@ -85,6 +88,26 @@ fn target_near<'t>(
     Some(&offered.target)
 }
 
+// Where a method leads, told at once where the state has few methods.
+#[tactic(auto, using(crate::proofs::Scenes::scenes))]
+fn target_of_few<'t>(
+    typestate: Option<&'t Typestate>,
+    method: &str,
+    state: usize,
+) -> Option<Option<&'t Target>>
+    ensures { IfSome result (λ o. option_map (λ t. target_of t.now) o ≡ target_at
+        (typestate_or_end (option_map (λ t. t.now) typestate.entry)) method.now state) }
+{
+    let methods = methods_at(typestate?, state);
+    if methods.len() > FEW_METHODS {
+        return None;
+    }
+    match offered_in(methods, method) {
+        Some(offered) => Some(Some(&offered.target)),
+        None => Some(None),
+    }
+}
+
 impl<'a> Scene<'a> {
     // Whether calls lead to the state, and the protocol method of this number has the class and the name.
     fn is_told(&self, key: MethodKey, state: usize) -> bool
@@ -112,6 +135,9 @@ impl<'a> Scene<'a> {
         let Ok(number) = u32::try_from(state) else {
             return target_near(typestate, name, state, 0);
         };
+        if let Some(told) = target_of_few(typestate, name, state) {
+            return told;
+        }
         let context = Context::Protocol {
             class: key.class,
             state: number,
