@@ -1,16 +1,17 @@
 -- With which letters words begin that Java reserves, and how long they are.
 use Rattle.std.proofs.Common.{◌≡◌, ℕ, ◌-◌, ◌<◌, ◌≤◌, Bool, true, false, IsTrue, ◌↔◌, List, [], ◌∷◌, length, get_or, refl, sym, ap, ◌∙◌, subst, arith}
-use Rattle.std.specs.Prelude.{◌||◌, ◌&&◌, nat_eq, nat_lt}
+use Rattle.std.specs.Prelude.{◌||◌, ◌&&◌, nat_eq}
 use Rattle.std.specs.Bool.{OnFalse}
 use Rattle.std.specs.Int.{bit_at}
 use Rattle.std.specs.List.{Contains, list_any, list_all}
 use Rattle.std.specs.Str.{bytes_eq}
-use Rattle.std.proofs.lemmas.Bool.Decides.{nat_tests}
+use Rattle.std.proofs.lemmas.Bool.{ltb-true}
 use Rattle.std.proofs.lemmas.Cmp.{nat_list_eq_equiv}
 use Rattle.std.proofs.lemmas.List.{get_or_past}
 use Rattle.std.proofs.lemmas.Map.Views.{list_any-from_Contains}
 use Rattle.std.proofs.lemmas.Nat.Bits.{bit_at-zero, shr_and_one}
 use Rattle.std.proofs.lemmas.Slice.Eq.{bytes_eq-Decides}
+use Rattle.std.proofs.Math.Dec.{ltb}
 use Rattle.mg_text.specs.Call.{Name}
 use Rattle.mg_text.specs.JavaWords.{java_words}
 
@@ -26,7 +27,7 @@ abbrev bits : Name → ℕ
 bits w = get_or lengths (first w - 97) 0
 
 abbrev fits : Name → Bool
-fits w = nat_lt 96 (first w) && (nat_lt (length w) 13 && nat_eq (bit_at (bits w) (length w)) 1)
+fits w = ltb 96 (first w) && (ltb (length w) 13 && nat_eq (bit_at (bits w) (length w)) 1)
 
 all_fit : list_all fits java_words ≡ true
 all_fit = refl
@@ -56,27 +57,27 @@ fits_word : (x : Name) → Contains java_words x → fits x ≡ true
 fits_word x h = fits_in x java_words all_fit (list_any-from_Contains nat_list_eq_equiv x java_words h)
 
 module _ (x : Name) (h : Contains java_words x) where
-  low : nat_lt 96 (first x) ≡ true
-  low = and_left (nat_lt 96 (first x)) (nat_lt (length x) 13 && nat_eq (bit_at (bits x) (length x)) 1) (fits_word x h)
+  low : ltb 96 (first x) ≡ true
+  low = and_left (ltb 96 (first x)) (ltb (length x) 13 && nat_eq (bit_at (bits x) (length x)) 1) (fits_word x h)
 
-  others : (nat_lt (length x) 13 && nat_eq (bit_at (bits x) (length x)) 1) ≡ true
-  others = and_right (nat_lt 96 (first x)) (nat_lt (length x) 13 && nat_eq (bit_at (bits x) (length x)) 1) (fits_word x h)
+  others : (ltb (length x) 13 && nat_eq (bit_at (bits x) (length x)) 1) ≡ true
+  others = and_right (ltb 96 (first x)) (ltb (length x) 13 && nat_eq (bit_at (bits x) (length x)) 1) (fits_word x h)
 
-  short : nat_lt (length x) 13 ≡ true
-  short = and_left (nat_lt (length x) 13) (nat_eq (bit_at (bits x) (length x)) 1) others
+  short : ltb (length x) 13 ≡ true
+  short = and_left (ltb (length x) 13) (nat_eq (bit_at (bits x) (length x)) 1) others
 
   bit : nat_eq (bit_at (bits x) (length x)) 1 ≡ true
-  bit = and_right (nat_lt (length x) 13) (nat_eq (bit_at (bits x) (length x)) 1) others
+  bit = and_right (ltb (length x) 13) (nat_eq (bit_at (bits x) (length x)) 1) others
 
 -- what no word is
 pub no_low : (x : Name) → get_or x 0 0 < 97 → Contains java_words x → ⊥
-no_low x lt h = let l : nat_lt 96 (first x) ≡ true = low x h in grind (arith, nat_tests)
+no_low x lt h = let l : 96 < get_or x 0 0 = ltb-true 96 (first x) (low x h) in omega (arith, l, lt)
 
 pub no_empty : (x : Name) → length x ≡ 0 → Contains java_words x → ⊥
 no_empty x e h = let z : get_or x 0 0 ≡ 0 = get_or_past x 0 0 (omega (arith, e)) in no_low x (omega (arith, z)) h
 
 pub no_long : (x : Name) → 12 < length x → Contains java_words x → ⊥
-no_long x lt h = let s : nat_lt (length x) 13 ≡ true = short x h in grind (arith, nat_tests)
+no_long x lt h = let s : length x < 13 = ltb-true (length x) 13 (short x h) in omega (arith, s, lt)
 
 pub no_high : (x : Name) → 26 ≤ get_or x 0 0 - 97 → Contains java_words x → ⊥
 no_high x le h = false_true (sym (ap (λ v. nat_eq v 1) (bit_at-zero (length x)))
