@@ -60,8 +60,8 @@ pub record Promises (words : List Word) (before : Outside) (status : Status) (af
   -- it comes exactly where the command gives it
   pub where_yielded : (actions : List Action) (meant : Status) (m : Files) → before.files ≡ Some m → Carries words before actions meant →
       after.failed_reads ≡ before.failed_reads → IsUnlessStopped meant status
-  -- after Refused one line was put on standard error, or those of all that is wrong, or on standard output that of a call that isn't offered, or the lines of a typestate
-  -- that doesn't stand for another, and nothing else was done
+  -- after Refused one line was put on standard error, or those of all that is wrong, or on standard output that of a call that isn't
+  -- offered, or the lines of a typestate that doesn't stand for another, and nothing else was done
   pub refused_only : status ≡ statuses.Refused → ((line : List ℕ) × AreDone (Say line ∷ []) before after)
       ⊎ ((n : ℕ) × AreDone (Print (not_offered_line n) ∷ []) before after)
       ⊎ ((calls : List Call) × (reason : Reason) × AreDone (Print (no_text calls reason) ∷ []) before after)

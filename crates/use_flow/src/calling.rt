@@ -118,10 +118,8 @@ impl<'a> Scene<'a> {
             (typestate_of (seen self.now).program call.class) (text_at (seen self.now).program call.name.0)) set.now) }
     {
         let mut found = empty_set(alloc, width)?;
-        for element in 0..set.width() {
-            if set.has(element) {
-                self.mark_led(&mut found, call, label, element);
-            }
+        for element in set.iter() {
+            self.mark_led(&mut found, call, label, element);
         }
         Ok(found)
     }

@@ -6,12 +6,12 @@ use Rattle.mg_words.proofs.checks.judge_check.Goals as goal
 
 pub returns-in-Some : goal.returns-in-Some
 returns-in-Some c =
-    let split = c.split_all.result in
-    placed_at (codes "check") c.args.words.now (all_words split.all) split.files.now (Some c.in-Some.word.now) c.split_all.ensures.0
-    (wrong_check split.all split.files.now c.in-Some.word.now c.split_all.ensures.1 c.in-Some.ensures)
+    let split = c.split_all-split.result in
+    placed_at (codes "check") c.args.words.now (all_words split.all) split.files.now (Some c.in-Some.word.now) c.split_all-split.ensures.0
+    (wrong_check split.all split.files.now c.in-Some.word.now c.split_all-split.ensures.1 c.in-Some.ensures)
 
 pub returns-then-is_empty : goal.returns-then-is_empty
 returns-then-is_empty c =
-    let split = c.split_all.result in
-    placed_at (codes "check") c.args.words.now (all_words split.all) split.files.now None c.split_all.ensures.0
+    let split = c.split_all-split.result in
+    placed_at (codes "check") c.args.words.now (all_words split.all) split.files.now None c.split_all-split.ensures.0
     (few_check split.all split.files.now (eqb-true (length split.files.now) 0 (sym c.is_empty.ensures ∙ c.if-is_empty.true)))
