@@ -1,4 +1,4 @@
-use Rattle.std.proofs.Common.{◌≡◌, ℕ, ◌-◌, ◌/◌, ◌^◌, List, length, get_or, nat_eq, bit_and, ap, ◌∙◌, arith}
+use Rattle.std.proofs.Common.{ℕ, ◌-◌, ◌/◌, ◌^◌, List, length, get_or, nat_eq, bit_and, ap, ◌∙◌, arith}
 use Rattle.std.proofs.lemmas.Nat.Bits.{shr_and_one}
 use Rattle.mg_text.proofs.Letters.{lengths, no_empty, no_long, no_low, no_high, no_bit}
 use Rattle.mg_text.proofs.java_words.may_be_word.Goals as goal
