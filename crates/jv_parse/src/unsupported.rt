@@ -8,7 +8,7 @@ ghost use Rattle.jv_tree.specs.Tokens.{is_among, unsupported};
 ghost use Rattle.jv_parse.specs.Unsupported.{unsupported_sign, unsupported_text, IsUnsupported};
 
 use jv_tree::{Sign, Token, TokenKind};
-use mg_text::Place;
+use mg_text::{Place, is_java_word};
 
 const UNSUPPORTED: [&str; 26] = [
     "abstract",
@@ -42,6 +42,9 @@ const UNSUPPORTED: [&str; 26] = [
 fn is_unsupported(word: &str) -> bool
     ensures { result ≡ is_among unsupported word.now }
 {
+    if !is_java_word(word) {
+        return false;
+    }
     UNSUPPORTED.contains(&word)
 }
 

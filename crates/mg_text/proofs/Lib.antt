@@ -1,2 +1,3 @@
 pub mod Among
+pub mod Letters
 pub mod Numbered
