@@ -15,4 +15,6 @@ mod TotalExpressions
 mod TotalStatements
 mod TotalMembers
 mod TotalWhole
+pub mod Elaboration
+pub mod StatementElaboration
 mod Shaped

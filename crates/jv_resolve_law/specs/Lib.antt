@@ -4,4 +4,6 @@ pub mod Statements
 pub mod Members
 pub mod Targets
 pub mod Laws
+pub mod Elaboration
+pub mod StatementElaboration
 pub mod ShapedLaws
