@@ -32,21 +32,20 @@ use Rattle.jv_names.specs.Resolves.{Aligned}
 use Rattle.jv_names.specs.Resolves as is
 use Rattle.jv_names.proofs.Tables.{some_is, none_some}
 use Rattle.jv_resolve_law.specs.Tables.{◌>>=◌, Entry, Tables, Callee, Placed, Numbered, class_names, enum_names, class_called, enum_called}
-use Rattle.jv_resolve_law.specs.Tables.{method_called, field_called, type_meant, tables_of}
+use Rattle.jv_resolve_law.specs.Tables.{method_called, field_called, type_meant}
 use Rattle.jv_resolve_law.specs.Expressions.{Given, OfNull, Of, Resolved, Known, Standing, Found, Receiver, OnThis, OnClass, OnValue, typed}
 use Rattle.jv_resolve_law.specs.Expressions.{known_named, is_text, operator_gives, only, text_form, text_call, session_call, constant}
 use Rattle.jv_resolve_law.specs.Expressions.{static_call, helper_call, object_call, call_class, call_protocol, call_typed, own_found}
 use Rattle.jv_resolve_law.specs.Expressions.{call_own, call_this, call_on, make, found, found_at, variable_at, constant_at, named_receiver}
 use Rattle.jv_resolve_law.specs.Expressions.{receiver, resolved, resolved_all}
-use Rattle.jv_resolve_law.specs.Elaboration.{type_kept, Slotted, IsKept, AreKept, IsMade, own_placed, IsNoVariable, IsValue, Elaborates}
+use Rattle.jv_resolve_law.specs.Elaboration.{HoldClasses, type_kept, Slotted, IsKept, AreKept, IsMade, own_placed, IsNoVariable, IsValue, Elaborates}
 use Rattle.jv_resolve_law.specs.Elaboration.{ElaborateAll, ElaborationRules, ExpressionsAreElaborated}
 use Rattle.jv_resolve_law.proofs.Steps.{bound, mapped, not_named}
 use Rattle.jv_resolve_law.proofs.Steps as steps
-use Rattle.jv_resolve_law.proofs.Tabled.{IsTabled, tabled}
 
 -- Types.
 
-module _ (program : Program) (tables : Tables) (t : IsTabled program tables) where
+module _ (program : Program) (tables : Tables) (t : HoldClasses program tables) where
   class_texts : class_names tables ≡ map (λ c. c.name) (classes_of program.files)
   class_texts = names_same tables.classes ∙ ap (map (λ (c : Source.Class). c.name)) t.classes
     where
@@ -167,6 +166,12 @@ module _ (tables : Tables) where
       | Some f ↦ type_meant tables f.field.ty >>= λ ty. Some (Some (record { var = vars.Field f.place; ty = ty }))
     ]
 
+    abbrev found_in : Name → Option Known → Option (Option Found)
+    found_in x o = elim o [
+      | Some l ↦ Some (Some (record { var = vars.Slot l.it.slot; ty = l.it.ty }))
+      | None ↦ own_found tables at x
+    ]
+
     own_as : (x : Name) → own_found tables at x ≡ found_of (own_placed tables at x)
     own_as x = go at.is_static
       where
@@ -187,7 +192,7 @@ module _ (tables : Tables) where
       missing x n = go (known_named ks x) (subst (λ o. KeptAt o (known_named ks x)) n.0 (kept_named locals ks kept x))
         where
           go : (o : Option Known) → KeptAt None o →
-              elim o [ Some l ↦ Some (Some (record { var = vars.Slot l.it.slot; ty = l.it.ty })) | None ↦ own_found tables at x ] ≡ Some None
+              found_in x o ≡ Some None
           go None w = own_as x ∙ ap found_of n.1
           go (Some k) w = absurd w
 
@@ -195,8 +200,7 @@ module _ (tables : Tables) where
       no_variable x e = go (named locals x) (known_named ks x) refl (kept_named locals ks kept x) e
         where
           go : (p : Option (Named Slotted)) (o : Option Known) → named locals x ≡ p → KeptAt p o →
-              elim o [ Some l ↦ Some (Some (record { var = vars.Slot l.it.slot; ty = l.it.ty })) | None ↦ own_found tables at x ] ≡ Some None
-              → IsNoVariable tables at locals x
+              found_in x o ≡ Some None → IsNoVariable tables at locals x
           go None None h w e = (h, no_own (own_placed tables at x) (sym (own_as x) ∙ e))
           go (Some l) (Some k) h w e = absurd (none_some (sym (some_is e)))
           go None (Some k) h w e = absurd w
@@ -218,7 +222,7 @@ module _ (tables : Tables) where
 
 -- The rules.
 
-module _ (program : Program) (tables : Tables) (t : IsTabled program tables) (at : Standing) (locals : List (Named Slotted)) where
+module _ (program : Program) (tables : Tables) (t : HoldClasses program tables) (at : Standing) (locals : List (Named Slotted)) where
   abbrev E : Source.Expr → Core.Expr → ValueType → Type 0
   E = Elaborates tables at locals
 
@@ -234,7 +238,7 @@ module _ (program : Program) (tables : Tables) (t : IsTabled program tables) (at
       go (known_named ks x) (subst (λ o. KeptAt tables o (known_named ks x)) e (kept_named tables locals ks kept x)) q
     where
       go : (o : Option Known) → KeptAt tables (Some l) o →
-          elim o [ Some l ↦ Some (Some (record { var = vars.Slot l.it.slot; ty = l.it.ty })) | None ↦ own_found tables at x ]
+          found_in tables at x o
           >>= variable_at tables at ks p ≡ Some r → IsMade tables (Core.Variable p (vars.Slot l.it.slot)) l.it.type r
       go None w q = absurd w
       go (Some k) i q = as_given tables (Core.Variable p (vars.Slot l.it.slot)) (Core.Variable p (vars.Slot k.it.slot)) l.it.type
@@ -256,7 +260,7 @@ module _ (program : Program) (tables : Tables) (t : IsTabled program tables) (at
       go (known_named ks x) (subst (λ o. KeptAt tables o (known_named ks x)) none (kept_named tables locals ks kept x)) q
     where
       go : (o : Option Known) → KeptAt tables None o →
-          elim o [ Some l ↦ Some (Some (record { var = vars.Slot l.it.slot; ty = l.it.ty })) | None ↦ own_found tables at x ]
+          found_in tables at x o
           >>= variable_at tables at ks p ≡ Some r → IsMade tables (Core.Variable p (vars.Field f.place)) (meant program f.field.ty) r
       go None w q = field_made ks p x f r h q
       go (Some k) w q = absurd w
@@ -405,12 +409,12 @@ module _ (program : Program) (tables : Tables) (t : IsTabled program tables) (at
   record ClassKept (x : Name) (k : Entry) (g : Given) : Type 0 where
     number : ℕ
     is : Of (types.Object number) ≡ g
-    at : slice_get tables.classes number ≡ Some k
+    there : slice_get tables.classes number ≡ Some k
 
   class_kept : (x : Name) (k : Entry) (g : Given) → class_called tables x ≡ Some k → type_kept tables (ClassType x) ≡ Some g → ClassKept x k g
   class_kept x k g h e =
       let m = mapped (λ n. Of (types.Object n)) (position (bytes_eq x) (class_names tables)) g e in
-      record { number = m.item; is = m.gives; at = sym (ap (λ (o : Option ℕ). o >>= slice_get tables.classes) m.is) ∙ h }
+      record { number = m.item; is = m.gives; there = sym (ap (λ (o : Option ℕ). o >>= slice_get tables.classes) m.is) ∙ h }
 
   object : (p q : Place) (e : Source.Expr) (v : Var) (x f : Name) (k : Entry) (m : Source.Method) (n : ℕ) (args : Source.Exprs)
       (as' : List Core.Expr) → E e (Core.Variable q v) (ClassType x) → IsValue tables at locals e →
@@ -426,7 +430,7 @@ module _ (program : Program) (tables : Tables) (t : IsTabled program tables) (at
       ∙ ap (λ y. call_typed tables p w.0.expr y f d.items) (sym c.is)
       ∙ ap (λ y. call_typed tables p y (Of (types.Object c.number)) f d.items) (sym i.expr)
       ∙ ap (λ (o : Option Entry). o >>= λ e. method_called e f >>= λ y. if y.method.is_static then None
-      else object_call tables p (record { place = q; var = v }) y d.items) c.at
+      else object_call tables p (record { place = q; var = v }) y d.items) c.there
       ∙ ap (λ (o : Option Callee). o >>= λ y. if y.method.is_static then None
       else object_call tables p (record { place = q; var = v }) y d.items) l
       ∙ ap (λ b. if b then None else object_call tables p (record { place = q; var = v }) (record { method = m; number = n }) d.items) s)
@@ -441,7 +445,7 @@ module _ (program : Program) (tables : Tables) (t : IsTabled program tables) (at
           (Of (types.Object k.number))
       class_numbered x k h =
           let b = bound (position (bytes_eq x) (class_names tables)) (slice_get tables.classes) k h in
-          ap (option_map (λ n. Of (types.Object n))) (b.is ∙ ap Some (sym (t.entry b.item k b.gives).number))
+          ap (option_map (λ n. Of (types.Object n))) (b.is ∙ ap Some (sym (t.numbered b.item k b.gives)))
 
   arg : (e : Source.Expr) (e' : Core.Expr) (s : ValueType) (rest : Source.Exprs) (rest' : List Core.Expr) → E e e' s → Es rest rest' →
       Es (Source.Argument e rest) (e' ∷ rest')
@@ -451,8 +455,7 @@ module _ (program : Program) (tables : Tables) (t : IsTabled program tables) (at
       ap (λ x. x ∷ rest') (h ks kept b.item b.is).expr ∙ ap (λ xs. b.item.expr ∷ xs) (g ks kept c.item c.is) ∙ some_is c.gives
 
 pub expressions_are_elaborated : ExpressionsAreElaborated
-expressions_are_elaborated program tables at locals e =
-    let t = tabled program tables e in
+expressions_are_elaborated program tables at locals t =
     record {
       int = λ p z ks kept r q. as_given tables (Core.Int p z) (Core.Int p z) IntType (Of types.Int) r refl refl q;
       truth = λ p b ks kept r q. as_given tables (Core.Truth p b) (Core.Truth p b) BooleanType (Of types.Boolean) r refl refl q;

@@ -17,4 +17,5 @@ mod TotalMembers
 mod TotalWhole
 pub mod Elaboration
 pub mod StatementElaboration
+pub mod MethodElaboration
 mod Shaped

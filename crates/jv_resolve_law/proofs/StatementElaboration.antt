@@ -17,19 +17,18 @@ use Rattle.jv_core.specs.View.{OneGroup, stmts_of, groups_of}
 use Rattle.jv_scope.specs.Named.{Named, under}
 use Rattle.jv_names.specs.Resolves as is
 use Rattle.jv_names.proofs.Tables.{some_is, none_some}
-use Rattle.jv_resolve_law.specs.Tables.{◌>>=◌, Tables, Numbered, Interned, enum_names, enum_called, type_meant, interned, tables_of}
+use Rattle.jv_resolve_law.specs.Tables.{◌>>=◌, Tables, Numbered, Interned, enum_names, enum_called, type_meant, interned}
 use Rattle.jv_resolve_law.specs.Expressions.{Given, Of, Resolved, Known, Standing, variable_in, resolved}
 use Rattle.jv_resolve_law.specs.Statements.{Counted, Around, InLoop, InSwitch, Counting, Item, left_by, gone_on_by, labels_at, item, stmt, stmts}
 use Rattle.jv_resolve_law.specs.Statements.{groups, local, slot_more, loop_more, declared, enum_given}
-use Rattle.jv_resolve_law.specs.Elaboration.{type_kept, Slotted, IsKept, AreKept, Elaborates}
+use Rattle.jv_resolve_law.specs.Elaboration.{HoldClasses, type_kept, Slotted, IsKept, AreKept, Elaborates}
 use Rattle.jv_resolve_law.specs.StatementElaboration.{counting, IsSlotType, slot_added, loop_added, IsOther, ElaboratesStmt, ElaboratesItem}
 use Rattle.jv_resolve_law.specs.StatementElaboration.{ElaborateStmts, ElaborateGroups, StatementRules, StatementsAreElaborated}
 use Rattle.jv_resolve_law.proofs.Steps.{bound, mapped}
-use Rattle.jv_resolve_law.proofs.Tabled.{IsTabled, tabled}
 use Rattle.jv_resolve_law.proofs.Statements.{declares}
 use Rattle.jv_resolve_law.proofs.Elaboration.{meant_kept}
 
-module _ (program : Program) (tables : Tables) (t : IsTabled program tables) (at : Standing) (around : List Around)
+module _ (program : Program) (tables : Tables) (t : HoldClasses program tables) (at : Standing) (around : List Around)
     (locals : List (Named Slotted)) (c : Counted) where
   abbrev E : Source.Expr → Core.Expr → ValueType → Type 0
   E = Elaborates tables at locals
@@ -287,8 +286,7 @@ module _ (program : Program) (tables : Tables) (t : IsTabled program tables) (at
       ∙ ap (λ (g : Counting (List OneGroup)). counting (one end a.item b.item.it ∷ g.it) g.so_far) rest ∙ some_is g.gives
 
 pub statements_are_elaborated : StatementsAreElaborated
-statements_are_elaborated program tables at around locals c e =
-    let t = tabled program tables e in
+statements_are_elaborated program tables at around locals c t =
     record {
       block = block program tables t at around locals c;
       empty = λ p ks kept o q. some_is q;

@@ -1,6 +1,6 @@
 -- What the elaboration of a tree answers, against what the tree is resolved to: an expression of the core, and the type of its values
 -- by name. Nothing is asked where the tree isn't resolved, as it names a type that isn't there.
-use Rattle.std.specs.Prelude.{◌≡◌, ℕ, ℤ, List, [], ◌∷◌, Option, Some, None, option_map, position, Bool, true, false, if◌then◌else◌, codes}
+use Rattle.std.specs.Prelude.{◌≡◌, ℕ, ℤ, List, [], ◌∷◌, map, Option, Some, None, option_map, position, slice_get, Bool, true, false, if◌then◌else◌, codes}
 use Rattle.std.specs.Str.{bytes_eq}
 use Rattle.mg_text.specs.Call.{Name}
 use Rattle.mg_text.specs.declared.place.Place.{Place}
@@ -9,7 +9,7 @@ use Rattle.jv_tree.specs.declared.built_in.TextCall.{TextCall}
 use Rattle.jv_tree.specs.declared.built_in.SessionCall.{SessionCall}
 use Rattle.jv_tree.specs.BuiltIn.{session_named, session_method, text_named, text_method}
 use Rattle.jv_tree.specs.Source
-use Rattle.jv_meaning.specs.Program.{constant_position}
+use Rattle.jv_meaning.specs.Program.{classes_of, constant_position}
 use Rattle.jv_rules.specs.Program.{Program}
 use Rattle.jv_rules.specs.Types.{ValueType, NoValue, IntType, BooleanType, TextType, EnumType, ClassType, NullType, meant}
 use Rattle.jv_rules.specs.Typing.{operator_type, plain_type}
@@ -21,8 +21,12 @@ use Rattle.jv_core.specs.View.{exprs_of}
 use Rattle.jv_scope.specs.Named.{Named, named}
 use Rattle.jv_names.specs.Resolves.{Aligned}
 use Rattle.jv_resolve_law.specs.Tables.{Tables, Entry, Placed, class_names, enum_names, class_called, enum_called, method_called, field_called}
-use Rattle.jv_resolve_law.specs.Tables.{tables_of}
 use Rattle.jv_resolve_law.specs.Expressions.{Given, OfNull, Of, Resolved, Known, Standing, text_form, resolved, resolved_all}
+
+-- the tables hold the classes of a program, each at its number
+pub record HoldClasses (program : Program) (tables : Tables) : Type 0 where
+  pub classes : map (λ e. e.class) tables.classes ≡ classes_of program.files
+  pub numbered : (n : ℕ) (e : Entry) → slice_get tables.classes n ≡ Some e → e.number ≡ n
 
 -- the type of the core that a type by name is; a name of no class and no enum has none
 abbrev pub type_kept : Tables → ValueType → Option Given
@@ -148,4 +152,4 @@ pub record ElaborationRules (program : Program) (tables : Tables) (at : Standing
 -- What is elaborated by the rules is what is resolved.
 abbrev pub ExpressionsAreElaborated : Type 0
 ExpressionsAreElaborated = (program : Program) (tables : Tables) (at : Standing) (locals : List (Named Slotted)) →
-    tables_of program ≡ Some tables → ElaborationRules program tables at locals
+    HoldClasses program tables → ElaborationRules program tables at locals

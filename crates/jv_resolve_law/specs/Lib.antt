@@ -6,4 +6,5 @@ pub mod Targets
 pub mod Laws
 pub mod Elaboration
 pub mod StatementElaboration
+pub mod MethodElaboration
 pub mod ShapedLaws

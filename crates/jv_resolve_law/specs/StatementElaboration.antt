@@ -11,11 +11,11 @@ use Rattle.jv_core.specs.declared.program.CoreType.{CoreType}
 use Rattle.jv_core.specs.Tree as Core
 use Rattle.jv_core.specs.View.{OneGroup, stmts_of, groups_of}
 use Rattle.jv_scope.specs.Named.{Named, under}
-use Rattle.jv_resolve_law.specs.Tables.{Tables, Interned, enum_called, type_meant, interned, tables_of}
+use Rattle.jv_resolve_law.specs.Tables.{Tables, Interned, enum_called, type_meant, interned}
 use Rattle.jv_resolve_law.specs.Expressions.{Known, Standing, variable_in}
 use Rattle.jv_resolve_law.specs.Statements.{Counted, Around, InLoop, InSwitch, Counting, Item, left_by, gone_on_by, labels_at, item, stmt, stmts}
 use Rattle.jv_resolve_law.specs.Statements.{groups}
-use Rattle.jv_resolve_law.specs.Elaboration.{Slotted, AreKept, Elaborates}
+use Rattle.jv_resolve_law.specs.Elaboration.{HoldClasses, Slotted, AreKept, Elaborates}
 
 -- something with what was numbered by then
 abbrev pub counting : {A : Type 0} → A → Counted → Counting A
@@ -127,4 +127,4 @@ pub record StatementRules (program : Program) (tables : Tables) (at : Standing) 
 -- What is elaborated by the rules is what is resolved.
 abbrev pub StatementsAreElaborated : Type 0
 StatementsAreElaborated = (program : Program) (tables : Tables) (at : Standing) (around : List Around) (locals : List (Named Slotted))
-    (c : Counted) → tables_of program ≡ Some tables → StatementRules program tables at around locals c
+    (c : Counted) → HoldClasses program tables → StatementRules program tables at around locals c
