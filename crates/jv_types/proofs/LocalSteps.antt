@@ -13,12 +13,12 @@ use Rattle.jv_types.specs.inner.Locals.{declared_seen, locals_seen}
 -- the one of a name is declared as it is kept
 pub named_seen : (ns : List (Named KeptType)) (name : Name) → declared_named (locals_seen ns) name ≡ option_map declared_seen (named ns name)
 named_seen [] name = refl
-named_seen (n ∷ ns) name = go (bytes_eq n.name name)
+named_seen (n ∷ ns) name = go (bytes_eq n.name name) (named_seen ns name)
   where
-    go : (b : Bool) → cond b (Some (declared_seen n)) (declared_named (locals_seen ns) name) ≡ option_map declared_seen
+    go : (b : Bool) → declared_named (locals_seen ns) name ≡ option_map declared_seen (named ns name) → cond b (Some (declared_seen n)) (declared_named (locals_seen ns) name) ≡ option_map declared_seen
         (cond b (Some n) (named ns name))
-    go true = refl
-    go false = named_seen ns name
+    go true h = refl
+    go false h = h
 
 -- what is made of the local of a name, where there is one
 module _ {A : Type 0} (ns : List (Named KeptType)) (name : Name) (rest : A) (f : ValueType → A) where
