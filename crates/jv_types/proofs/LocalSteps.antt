@@ -15,8 +15,8 @@ pub named_seen : (ns : List (Named KeptType)) (name : Name) → declared_named (
 named_seen [] name = refl
 named_seen (n ∷ ns) name = go (bytes_eq n.name name) (named_seen ns name)
   where
-    go : (b : Bool) → declared_named (locals_seen ns) name ≡ option_map declared_seen (named ns name) → cond b (Some (declared_seen n)) (declared_named (locals_seen ns) name) ≡ option_map declared_seen
-        (cond b (Some n) (named ns name))
+    go : (b : Bool) → declared_named (locals_seen ns) name ≡ option_map declared_seen (named ns name) →
+        cond b (Some (declared_seen n)) (declared_named (locals_seen ns) name) ≡ option_map declared_seen (cond b (Some n) (named ns name))
     go true h = refl
     go false h = h
 
