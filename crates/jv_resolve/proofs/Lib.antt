@@ -10,7 +10,7 @@ pub mod Items
 pub mod MemberSteps
 pub mod MethodSteps
 pub mod OneGroup
-pub mod RowSteps
+pub mod LocalSteps
 pub mod Shapes
 pub mod StmtLoops
 pub mod StmtShapes

@@ -6,6 +6,7 @@ use Rattle.ts_tree.specs.declared.parts.TypeName.{TypeName}
 use Rattle.jv_tree.specs.Source
 use Rattle.jv_core.specs.Tree as Core
 use Rattle.jv_core.specs.declared.program.CoreType.{CoreType}
+use Rattle.jv_scope.specs.Named.{under}
 use Rattle.jv_resolve_law.specs.Tables.{◌>>=◌, Tables, type_meant, interned}
 use Rattle.jv_resolve_law.specs.Expressions.{Known, Standing, Resolved, resolved}
 use Rattle.jv_resolve_law.specs.Statements.{Counted, Counting, slot_more, local}
@@ -21,7 +22,7 @@ pub one_made : {A : Type 0} (o : Option A) (v : A) (make : A → Core.Stmt) (t :
 one_made o v make t s h is = ap (λ q. q >>= λ w. Some (counting (make w) s)) h ∙ ap (λ u. Some (counting u s)) (sym is)
 
 abbrev pub local_known : Name → ℕ → CoreType → Known
-local_known name k t = record { name = name; slot = k; ty = t }
+local_known name k t = under name (record { slot = k; ty = t })
 
 abbrev pub one_slot : ℕ → CoreType → Core.Slot
 one_slot n t = record { name = n; ty = t }
@@ -50,19 +51,19 @@ module _ (tables : Tables) where
     pub declared_made : (locals : List Known) (p : Place) (ty : TypeName) (name : Name) (e : Source.Expr) (s : Counted) (r : Resolved)
         (k : Counting Known) →
         resolved tables at locals e ≡ Some r → slot_more tables ty name s ≡ Some k → local tables at p ty name e locals s ≡ Some
-        (k, Core.Local p k.it.slot r.expr)
+        (k, Core.Local p k.it.it.slot r.expr)
     declared_made locals p ty name e s r k typed slot =
-        ap (λ o. o >>= λ v. slot_more tables ty name s >>= λ j. Some (j, Core.Local p j.it.slot v.expr)) typed
-        ∙ ap (λ o. o >>= λ j. Some (j, Core.Local p j.it.slot r.expr)) slot
+        ap (λ o. o >>= λ v. slot_more tables ty name s >>= λ j. Some (j, Core.Local p j.it.it.slot v.expr)) typed
+        ∙ ap (λ o. o >>= λ j. Some (j, Core.Local p j.it.it.slot r.expr)) slot
 
     pub declared_slot_fails : (locals : List Known) (p : Place) (ty : TypeName) (name : Name) (e : Source.Expr) (s : Counted)
         (err : Unresolved) →
         Fails err (slot_more tables ty name s) → Fails err (local tables at p ty name e locals s)
     declared_slot_fails locals p ty name e s err h =
-        fails_last err (resolved tables at locals e) (slot_more tables ty name s) (λ v j. Some (j, Core.Local p j.it.slot v.expr)) h
+        fails_last err (resolved tables at locals e) (slot_more tables ty name s) (λ v j. Some (j, Core.Local p j.it.it.slot v.expr)) h
 
     pub declared_value_fails : (locals : List Known) (p : Place) (ty : TypeName) (name : Name) (e : Source.Expr) (s : Counted)
         (err : Unresolved) →
         Fails err (resolved tables at locals e) → Fails err (local tables at p ty name e locals s)
     declared_value_fails locals p ty name e s err h =
-        fails_then err (resolved tables at locals e) (λ v. slot_more tables ty name s >>= λ j. Some (j, Core.Local p j.it.slot v.expr)) h
+        fails_then err (resolved tables at locals e) (λ v. slot_more tables ty name s >>= λ j. Some (j, Core.Local p j.it.it.slot v.expr)) h

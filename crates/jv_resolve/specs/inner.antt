@@ -10,7 +10,6 @@ pub mod Named
 pub mod Naming
 pub mod Parts
 pub mod Receivers
-pub mod Row
 pub mod Scoping
 pub mod Seen
 pub mod Signatures

@@ -6,14 +6,15 @@ ghost use Rattle.jv_resolve_law.specs.Statements.{slot_more, loop_more};
 ghost use Rattle.jv_resolve.specs.inner.Counted.{counted_seen, counting};
 ghost use Rattle.jv_resolve.specs.inner.Gives.{Gives};
 ghost use Rattle.jv_resolve.specs.inner.Naming.{unnumbered};
-ghost use Rattle.jv_resolve.specs.inner.Row.{known};
+ghost use Rattle.jv_scope.specs.Named.{under};
 ghost use Rattle.jv_resolve.specs.inner.Seen.{tables_seen};
 
 use crate::given::Unresolved;
-use crate::locals::{Local, Locals};
+use crate::locals::{Locals, slots};
 use crate::lookup::meant;
 use crate::names::{add_name, count};
 use jv_core::{CoreLoop, CoreSlot};
+use jv_scope::Local;
 use jv_types::Table;
 use mg_text::{List, Memory, Names, Place};
 use std::alloc::Global;
@@ -50,7 +51,7 @@ impl<'a> Body<'a> {
         ty: &TypeName,
         name: &str,
     ) -> Result<Local, Unresolved>
-        ensures it { Gives (λ l. counting (known name.now l) (counted_seen self.new)) result
+        ensures it { Gives (λ l. counting (under name.now l) (counted_seen self.new)) result
             (slot_more (tables_seen table.now) ty.now name.now (counted_seen self.old)) }
         ensures locals { self.new.locals ≡ self.old.locals }
     {
@@ -67,7 +68,7 @@ impl<'a> Body<'a> {
         ensures added { OnOk result (counted_seen self.new ≡ loop_more place self.old.locals (counted_seen self.old)) }
         ensures locals { self.new.locals ≡ self.old.locals }
     {
-        let scope = self.locals.slots(alloc)?;
+        let scope = slots(alloc, &self.locals)?;
         let number = count(self.loops.len())?;
         self.loops.push(CoreLoop { place, scope })?;
         Ok(number)

@@ -16,6 +16,7 @@ ghost use Rattle.jv_resolve.specs.inner.SignaturesSeen.{signature_seen};
 
 use crate::body::Body;
 use crate::given::Unresolved;
+use crate::locals::declare;
 use crate::lookup::{meant, protocol_at};
 use crate::names::{add_name, count};
 use crate::scope::{Around, Scope};
@@ -65,7 +66,7 @@ fn resolve_param<'a>(
         (param_at (tables_seen table.now) param.now body.old.locals (counted_seen body.old)) }
 {
     let local = body.add_slot(table, &param.ty, param.name.as_str())?;
-    body.locals.declare(param.name.as_str(), local)?;
+    declare(&mut body.locals, param.name.as_str(), local)?;
     Ok(())
 }
 

@@ -9,6 +9,7 @@ ghost use Rattle.jv_resolve.specs.inner.Scoping.{scope_item};
 
 use crate::body::Body;
 use crate::given::Unresolved;
+use crate::locals::declare;
 use crate::simple::{Declaration, local_stmt};
 use jv_core::CoreStmt;
 
@@ -21,7 +22,7 @@ pub(crate) fn in_scope<'a>(
     ensures { Gives (λ s. itemed (stmt_of s) body.new.locals (counted_seen body.new)) result
         (scope_item (declaration_seen name.now declaration (counted_seen body.old)) body.old.locals) }
 {
-    match body.locals.declare(name, declaration.local) {
+    match declare(&mut body.locals, name, declaration.local) {
         Ok(()) => Ok(local_stmt(declaration)),
         Err(end) => {
             drop(declaration.value);

@@ -15,10 +15,10 @@ ghost use Rattle.jv_resolve.specs.inner.Seen.{tables_seen, standing_seen, around
 use crate::body::Body;
 use crate::exprs::resolve_expr;
 use crate::given::{Unresolved, stmt_at};
-use crate::locals::Local;
 use crate::scope::{Around, Scope, gone_on_by, left_by};
 use crate::targets::target_of;
 use jv_core::{CoreExpr, CoreStmt, CoreStmtKind};
+use jv_scope::Local;
 use jv_tree::Expr;
 use mg_text::{Place, Text};
 use ts_tree::TypeName;

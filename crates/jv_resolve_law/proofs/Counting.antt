@@ -96,12 +96,12 @@ counts_loop p locals s = record {
   more_slots = zero;
   more_loops = suc zero;
   slot_count = same-count (length s.slots);
-  loop_count = longer s.loops (record { place = p; scope = reverse (map (λ l. l.slot) locals) });
+  loop_count = longer s.loops (record { place = p; scope = reverse (map (λ l. l.it.slot) locals) });
   slots_are = refl;
   loops_are = refl;
   names_kept = λ n a e. e;
   slots_kept = λ n a e. e;
-  loops_kept = λ n a e. at_front s.loops (record { place = p; scope = reverse (map (λ l. l.slot) locals) } ∷ []) n a e;
+  loops_kept = λ n a e. at_front s.loops (record { place = p; scope = reverse (map (λ l. l.it.slot) locals) } ∷ []) n a e;
 }
 
 -- What has its number in the end.
@@ -121,12 +121,12 @@ reaches_back c r = record {
 
 -- one more slot
 pub record SlotMore (ty : TypeName) (name : Name) (tables : Tables) (s : Counted) (k : Counting Known) : Type 0 where
-  pub counts : Counts (k.it.slot ∷ []) [] s k.so_far
+  pub counts : Counts (k.it.it.slot ∷ []) [] s k.so_far
   pub called : k.it.name ≡ name
-  pub slot : k.it.slot ≡ length s.slots
+  pub slot : k.it.it.slot ≡ length s.slots
   pub number : ℕ
-  pub meant : type_meant tables ty ≡ Some k.it.ty
-  pub at : slice_get k.so_far.slots k.it.slot ≡ Some (record { name = number; ty = k.it.ty })
+  pub meant : type_meant tables ty ≡ Some k.it.it.ty
+  pub at : slice_get k.so_far.slots k.it.it.slot ≡ Some (record { name = number; ty = k.it.it.ty })
   pub named : slice_get k.so_far.names number ≡ Some name
   pub loops : k.so_far.loops ≡ s.loops
   pub count : length k.so_far.slots ≡ suc (length s.slots)
@@ -165,20 +165,20 @@ slot_more_is tables ty name s k given =
 -- the slot in the method of the core
 pub record InMethod (program : Program) (core : Core.Program) (method : Core.Method) (ty : TypeName) (name : Name) (k : Known) : Type 0
   where
-    pub slot : IsSlot program core method k.slot name ty
-    pub typed : core_lookup.slot_type method k.slot ≡ Some k.ty
+    pub slot : IsSlot program core method k.it.slot name ty
+    pub typed : core_lookup.slot_type method k.it.slot ≡ Some k.it.ty
 
 pub in_method : (program : Program) (core : Core.Program) (method : Core.Method) (tables : Tables) (ty : TypeName) (name : Name)
     (s : Counted) (k : Counting Known) →
     IsTabled program tables → SlotMore ty name tables s k → Reaches core method k.so_far → InMethod program core method ty name k.it
 in_method program core method tables ty name s k t m r = record {
   slot = record {
-    slot = record { name = m.number; ty = k.it.ty };
-    at = r.slots k.it.slot (record { name = m.number; ty = k.it.ty }) m.at;
+    slot = record { name = m.number; ty = k.it.it.ty };
+    at = r.slots k.it.it.slot (record { name = m.number; ty = k.it.it.ty }) m.at;
     named = r.names m.number name m.named;
-    type = type_meant_is program core tables t ty k.it.ty m.meant;
+    type = type_meant_is program core tables t ty k.it.it.ty m.meant;
   };
-  typed = ap (option_map (λ (s : Core.Slot). s.ty)) (r.slots k.it.slot (record { name = m.number; ty = k.it.ty }) m.at);
+  typed = ap (option_map (λ (s : Core.Slot). s.ty)) (r.slots k.it.it.slot (record { name = m.number; ty = k.it.it.ty }) m.at);
 }
 
 -- A statement in front of others.

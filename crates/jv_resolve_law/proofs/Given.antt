@@ -64,8 +64,8 @@ module _ (program : Program) (core : Core.Program) where
       pub name : l.name ≡ d.name
       pub ty : TypeName
       pub type : d.type ≡ meant program ty
-      pub is : IsType program core ty l.ty
-      pub at : core_lookup.slot_type method l.slot ≡ Some l.ty
+      pub is : IsType program core ty l.it.ty
+      pub at : core_lookup.slot_type method l.it.slot ≡ Some l.it.ty
 
     abbrev pub AreKnown : List Declared → List Known → Type 0
     AreKnown ds ls = Aligned IsKnown ds ls
@@ -73,14 +73,14 @@ module _ (program : Program) (core : Core.Program) where
 -- each slot in scope is below this number and those of the locals nearer by
 abbrev pub Falls : ℕ → List Known → Type 0
 Falls n [] = Unit {0}
-Falls n (l ∷ ls) = (l.slot < n) × Falls l.slot ls
+Falls n (l ∷ ls) = (l.it.slot < n) × Falls l.it.slot ls
 
 pub falls_under : (n m : ℕ) (ls : List Known) → n < suc m → Falls n ls → Falls m ls
 falls_under n m [] h f = tt
 falls_under n m (l ∷ ls) h f = (omega (arith, h, f.0), f.1)
 
 abbrev pub slots_in : List Known → List ℕ
-slots_in ls = map (λ l. l.slot) ls
+slots_in ls = map (λ l. l.it.slot) ls
 
 -- a local that was found
 pub record LocalFound (program : Program) (core : Core.Program) (method : Core.Method) (x : Name) (ds : List Declared) (ls : List Known)
@@ -88,8 +88,8 @@ pub record LocalFound (program : Program) (core : Core.Program) (method : Core.M
   pub declared : Declared
   pub found : declared_named ds x ≡ Some declared
   pub is : IsKnown program core method declared l
-  pub low : l.slot < n
-  pub slot : HasSlot x ds (slots_in ls) l.slot
+  pub low : l.it.slot < n
+  pub slot : HasSlot x ds (slots_in ls) l.it.slot
 
 module _ (program : Program) (core : Core.Program) (method : Core.Method) (x : Name) where
   F : List Declared → List Known → ℕ → Known → Type 0
@@ -99,7 +99,7 @@ module _ (program : Program) (core : Core.Program) (method : Core.Method) (x : N
       known_named ls x ≡ Some l → LocalFound program core method x ds ls n l
   local_found _ _ n l is.none f e = absurd (none_some e)
   local_found _ _ n l (is.more {a = d} {b = k} {as' = ds} {bs = ls} i rest) f e =
-      go (bytes_eq k.name x) refl e (λ e. local_found ds ls k.slot l rest f.1 e)
+      go (bytes_eq k.name x) refl e (λ e. local_found ds ls k.it.slot l rest f.1 e)
     where
       here : k.name ≡ x → k ≡ l → LocalFound program core method x (d ∷ ds) (k ∷ ls) n l
       here same this = subst (LocalFound program core method x (d ∷ ds) (k ∷ ls) n) this (record {
@@ -114,7 +114,7 @@ module _ (program : Program) (core : Core.Program) (method : Core.Method) (x : N
       unlike true n h = absurd (n ((bytes_eq-Decides d.name x).0 h))
       unlike false n h = refl
 
-      there : (d.name ≡ x → ⊥) → LocalFound program core method x ds ls k.slot l → LocalFound program core method x (d ∷ ds) (k ∷ ls) n l
+      there : (d.name ≡ x → ⊥) → LocalFound program core method x ds ls k.it.slot l → LocalFound program core method x (d ∷ ds) (k ∷ ls) n l
       there differs w = record {
         declared = w.declared;
         found = ap (λ t. cond t (Some d) (find (λ d. bytes_eq d.name x) ds)) (unlike (bytes_eq d.name x) differs refl) ∙ w.found;
@@ -124,7 +124,7 @@ module _ (program : Program) (core : Core.Program) (method : Core.Method) (x : N
       }
 
       go : (b : Bool) → bytes_eq k.name x ≡ b → cond b (Some k) (find (λ l. bytes_eq l.name x) ls) ≡ Some l →
-          (known_named ls x ≡ Some l → LocalFound program core method x ds ls k.slot l) →
+          (known_named ls x ≡ Some l → LocalFound program core method x ds ls k.it.slot l) →
           LocalFound program core method x (d ∷ ds) (k ∷ ls) n l
       go true t e later = here ((bytes_eq-Decides k.name x).0 t) (some_is e)
       go false t e later = there (λ same. true≢false (sym ((bytes_eq-Decides k.name x).1 (i.name ∙ same)) ∙ t)) (later e)
@@ -253,13 +253,13 @@ module _ (core : Core.Program) (tables : Tables) (method : Core.Method) (scope :
     variable_is name o given = go (known_named locals name) refl given
       where
         of_local : (l : Known) → LocalFound scope.program core method name scope.locals locals n l →
-            VariableFound name (record { var = vars.Slot l.slot; ty = l.ty })
+            VariableFound name (record { var = vars.Slot l.it.slot; ty = l.it.ty })
         of_local l w = record {
           is = λ p. is.a_local w.slot;
           type = w.declared.type;
           typed = by_local name (Some w.declared) w.found;
-          given = subst (λ t. IsGiven scope.program core t (Of l.ty)) (sym w.is.type)
-              (meant_given scope.program core w.is.ty l.ty w.is.is);
+          given = subst (λ t. IsGiven scope.program core t (Of l.it.ty)) (sym w.is.type)
+              (meant_given scope.program core w.is.ty l.it.ty w.is.is);
           in_core = w.is.at;
         }
 
@@ -274,7 +274,7 @@ module _ (core : Core.Program) (tables : Tables) (method : Core.Method) (scope :
         }
 
         go : (q : Option Known) → known_named locals name ≡ q →
-            elim q [ Some l ↦ Some (Some (record { var = vars.Slot l.slot; ty = l.ty })) | None ↦ own_found tables at name ] ≡ Some o →
+            elim q [ Some l ↦ Some (Some (record { var = vars.Slot l.it.slot; ty = l.it.ty })) | None ↦ own_found tables at name ] ≡ Some o →
             VariableIs name o
         go None e given = of_field o (no_local scope.program core method name scope.locals locals known e) (own_is name o given)
         go (Some l) e given =

@@ -211,7 +211,7 @@ module _ (program : Program) (class : Source.Class) (m : Source.Method) (core : 
       (locals : List Known) (c : Counted)
       (k : Counting Known × Core.Stmt) : Type 0 where
     value : Core.Expr
-    stmt_is : k.1 ≡ Core.Local p k.0.it.slot value
+    stmt_is : k.1 ≡ Core.Local p k.0.it.it.slot value
     more : SlotMore ty x tables c k.0
     is : InScope ds around locals c → CleanExpr (scope_at ds around) e → E ds around locals e value
 
@@ -267,15 +267,15 @@ module _ (program : Program) (class : Source.Class) (m : Source.Method) (core : 
             i.known;
         falls = (
           let e = more.counts.slot_count in let f =
-              more.slot in one_slot (length c.slots) (length k.so_far.slots) k.it.slot more.counts.more_slots
-              (some_slot k.it.slot more.counts.more_slots (length c.slots) more.counts.slots_are) e f,
+              more.slot in one_slot (length c.slots) (length k.so_far.slots) k.it.it.slot more.counts.more_slots
+              (some_slot k.it.it.slot more.counts.more_slots (length c.slots) more.counts.slots_are) e f,
           subst (λ n. Falls n locals) (sym more.slot) i.falls,
         );
         loops_fall = after.loops_fall;
       }
     where
-      typed_slot : (k : Known) (slot : Core.Slot) → slice_get method.slots k.slot ≡ Some slot →
-          option_map (λ (s : Core.Slot). s.ty) (slice_get method.slots k.slot) ≡ Some k.ty → slot.ty ≡ k.ty
+      typed_slot : (k : Known) (slot : Core.Slot) → slice_get method.slots k.it.slot ≡ Some slot →
+          option_map (λ (s : Core.Slot). s.ty) (slice_get method.slots k.it.slot) ≡ Some k.it.ty → slot.ty ≡ k.it.ty
       typed_slot k slot e f = some_is (sym (ap (option_map (λ (s : Core.Slot). s.ty)) e) ∙ f)
 
       some_slot : (k n first : ℕ) → k ∷ [] ≡ numbers_from first n → (n ≡ zero → ⊥)

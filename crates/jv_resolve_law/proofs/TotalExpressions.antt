@@ -75,7 +75,7 @@ abbrev as_field : Placed → CoreType → Option (Option Found)
 as_field f ty = Some (Some (record { var = vars.Field f.place; ty = ty }))
 
 abbrev as_slot : Known → Option (Option Found)
-as_slot l = Some (Some (record { var = vars.Slot l.slot; ty = l.ty }))
+as_slot l = Some (Some (record { var = vars.Slot l.it.slot; ty = l.it.ty }))
 
 module _ (core : Core.Program) (tables : Tables) (method : Core.Method) (scope : Scope) (at : Standing)
     (s : Stands core tables method scope at)

@@ -187,12 +187,12 @@ module _ (program : Program) (class : Source.Class) (m : Source.Method) (core : 
         type = i.type;
         is = i.is;
         at =
-            moved (mapped (λ (s : Core.Slot). s.ty) (slice_get c.slots l.slot) l.ty i.at);
+            moved (mapped (λ (s : Core.Slot). s.ty) (slice_get c.slots l.it.slot) l.it.ty i.at);
       })
       (renown c u ds ls k rest)
     where
-      moved : Mapped (λ (s : Core.Slot). s.ty) (slice_get c.slots l.slot) l.ty → core_lookup.slot_type (so_far u) l.slot ≡ Some l.ty
-      moved w = ap (option_map (λ (s : Core.Slot). s.ty)) (k l.slot w.item w.is) ∙ ap Some w.gives
+      moved : Mapped (λ (s : Core.Slot). s.ty) (slice_get c.slots l.it.slot) l.it.ty → core_lookup.slot_type (so_far u) l.it.slot ≡ Some l.it.ty
+      moved w = ap (option_map (λ (s : Core.Slot). s.ty)) (k l.it.slot w.item w.is) ∙ ap Some w.gives
 
   pub move : {xs ys : List ℕ} (ds : List Declared) (around : List Around) (locals : List Known) (c u : Counted) → Counts xs ys c u →
       Ready ds around locals c → Ready ds around locals u
@@ -224,11 +224,11 @@ module _ (program : Program) (class : Source.Class) (m : Source.Method) (core : 
           name = more.called;
           ty = ty;
           type = refl;
-          is = type_meant_is program core tables t ty k.it.ty more.meant;
+          is = type_meant_is program core tables t ty k.it.it.ty more.meant;
           at = ap (option_map (λ (s : Core.Slot). s.ty)) more.at;
         }) w.known;
         falls = (
-          first_slot k.it.slot (length c.slots) (length k.so_far.slots) more.slot more.count,
+          first_slot k.it.it.slot (length c.slots) (length k.so_far.slots) more.slot more.count,
           subst (λ n. Falls n locals)
               (sym more.slot) i.falls,
         );

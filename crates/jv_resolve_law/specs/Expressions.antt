@@ -1,5 +1,5 @@
 -- How expressions are resolved: each gives an expression of the core and its type, or nothing where it names what isn't there.
-use Rattle.std.specs.Prelude.{ℕ, List, [], ◌∷◌, Option, Some, None, option_map, find, slice_get, Bool, true, false, if◌then◌else◌, codes}
+use Rattle.std.specs.Prelude.{ℕ, List, [], ◌∷◌, Option, Some, None, option_map, slice_get, Bool, true, false, if◌then◌else◌, codes}
 use Rattle.std.specs.Str.{bytes_eq}
 use Rattle.mg_text.specs.Call.{Name}
 use Rattle.mg_text.specs.declared.place.Place.{Place}
@@ -19,6 +19,8 @@ use Rattle.jv_core.specs.declared.program.CoreType.TheVariants as types
 use Rattle.jv_core.specs.Tree as Core
 use Rattle.jv_core.specs.Types.{session_result, text_result}
 use Rattle.jv_core.specs.View.{exprs_of}
+use Rattle.jv_scope.specs.declared.locals.Local.{Local}
+use Rattle.jv_scope.specs.Named.{Named, named}
 use Rattle.jv_resolve_law.specs.Tables.{◌>>=◌, Entry, Tables, Callee, class_called, enum_called, method_called, field_called, type_meant}
 
 -- the type of an expression
@@ -37,10 +39,8 @@ abbrev pub typed : Core.Expr → CoreType → Resolved
 typed e ty = record { expr = e; given = Of ty }
 
 -- a parameter or local in scope
-pub record Known : Type 0 where
-  pub name : Name
-  pub slot : ℕ
-  pub ty : CoreType
+abbrev pub Known : Type 0
+Known = Named Local
 
 -- where code stands: its class, and whether its method is static
 pub record Standing : Type 0 where
@@ -53,7 +53,7 @@ pub record Found : Type 0 where
   pub ty : CoreType
 
 abbrev pub known_named : List Known → Name → Option Known
-known_named locals name = find (λ l. bytes_eq l.name name) locals
+known_named locals name = named locals name
 
 -- whether a type is String
 abbrev pub is_text : Given → Bool
@@ -208,7 +208,7 @@ module _ (tables : Tables) where
       -- the variable of a name: a local or a parameter, else an own field
       abbrev pub found : Name → Option (Option Found)
       found name = elim (known_named locals name) [
-        | Some l ↦ Some (Some (record { var = vars.Slot l.slot; ty = l.ty }))
+        | Some l ↦ Some (Some (record { var = vars.Slot l.it.slot; ty = l.it.ty }))
         | None ↦ own_found name
       ]
 

@@ -4,4 +4,7 @@ pub mod Statements
 pub mod Members
 pub mod Targets
 pub mod Laws
+pub mod Elaboration
+pub mod StatementElaboration
+pub mod MethodElaboration
 pub mod ShapedLaws

@@ -10,6 +10,7 @@ use Rattle.jv_meaning.specs.Program.{constant_position}
 use Rattle.jv_core.specs.declared.program.CoreType.TheVariants as types
 use Rattle.jv_core.specs.Tree as Core
 use Rattle.jv_core.specs.View.{OneGroup, stmts_of, groups_of}
+use Rattle.jv_scope.specs.Named.{under}
 use Rattle.jv_resolve_law.specs.Tables.{◌>>=◌, Tables, type_meant, interned}
 use Rattle.jv_resolve_law.specs.Expressions.{Given, Of, Known, Standing, known_named, variable_in, resolved}
 
@@ -76,7 +77,7 @@ labels_at enum (Some label ∷ labels) = do
 
 -- one more loop, with the slots in scope
 abbrev pub loop_more : Place → List Known → Counted → Counted
-loop_more p locals s = record s { loops = s.loops ++ record { place = p; scope = reverse (map (λ l. l.slot) locals) } ∷ [] }
+loop_more p locals s = record s { loops = s.loops ++ record { place = p; scope = reverse (map (λ l. l.it.slot) locals) } ∷ [] }
 
 -- one more in scope, whose name is new
 abbrev pub declared : Known → List Known → Option (List Known)
@@ -95,7 +96,7 @@ module _ (tables : Tables) where
     ty' ← type_meant tables ty
     n ← interned s.names name
     Some (record {
-      it = record { name = name; slot = length s.slots; ty = ty' };
+      it = under name (record { slot = length s.slots; ty = ty' });
       so_far = record s { names = n.names; slots = s.slots ++ record { name = n.number; ty = ty' } ∷ [] };
     })
 
@@ -115,7 +116,7 @@ module _ (tables : Tables) where
     local p ty name e locals s = do
       r ← resolved tables at locals e
       k ← slot_more ty name s
-      Some (k, Core.Local p k.it.slot r.expr)
+      Some (k, Core.Local p k.it.it.slot r.expr)
 
     -- a statement of a block that was resolved to this; a declaration is in scope from then on
     abbrev pub item : Source.Stmt → List Known → Counted → Option (Counting Core.Stmt) → Option Item

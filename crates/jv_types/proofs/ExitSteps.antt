@@ -5,6 +5,7 @@ use Rattle.std.specs.HashMap.{UpdatesBy, get_by_text}
 use Rattle.std.specs.Str.{bytes_eq}
 use Rattle.std.specs.String.{string_eq}
 use Rattle.std.proofs.Math.Bool.{or-false, or_assoc}
+use Rattle.std.proofs.lemmas.Map.Text.{hash_map_updates_text}
 use Rattle.std.proofs.lemmas.Slice.Eq.{bytes_eq-Decides}
 use Rattle.mg_text.specs.Call.{Name}
 use Rattle.jv_rules.specs.Completes.{Exit, Breaks, Continues}
@@ -13,7 +14,6 @@ use Rattle.jv_rules.proofs.Leaving.{same_label-Decides}
 use Rattle.jv_types.specs.declared.exits.Jumps.{Jumps}
 use Rattle.jv_types.specs.declared.exits.Exits.{Exits}
 use Rattle.jv_types.specs.inner.Exits.{Met, jumps, no_jumps, both, jumps_by, some_jumps, met_at, with_jumps, emptied, Adds}
-use Rattle.jv_types.proofs.LocalSteps.{changed_at}
 
 or-same : (b : Bool) → (b || b) ≡ b
 or-same true = refl
@@ -36,7 +36,7 @@ pub set_named : (e new : Exits) (name : Name) (j : Jumps) → new.plain ≡ e.pl
     met_at new l ≡ with_jumps (met_at e) (Some name) j l
 set_named e new name j same u None = same
 set_named e new name j same u (Some q) =
-    ap some_jumps (changed_at e.labelled new.labelled name (Some j) u q) ∙ go (bytes_eq name q)
+    ap some_jumps (hash_map_updates_text name e.labelled new.labelled (Some j) u q) ∙ go (bytes_eq name q)
   where
     go : (b : Bool) → some_jumps (if b then Some j else get_by_text e.labelled q) ≡ (if b then j else some_jumps (get_by_text e.labelled q))
     go true = refl

@@ -1,75 +1,58 @@
--- One more local, and one less.
-use Rattle.std.proofs.Common.{◌≡◌, ℕ, suc, ◌-◌, ◌<◌, List, [], ◌∷◌, ◌++◌, map, reverse, length, drop, Option, Some, None, Bool, true, false}
-use Rattle.std.proofs.Common.{not, ◌&&◌, cond, Decides, String, string_bytes, refl, sym, ap, ◌∙◌, true≢false, arith}
-use Rattle.std.specs.HashMap.{HashMap, get_by_text, UpdatesBy}
+-- Locals by name, and their types.
+use Rattle.std.proofs.Common.{◌≡◌, List, [], ◌∷◌, Option, Some, None, Bool, true, false, cond, refl, sym, ap, ◌∙◌, true≢false}
 use Rattle.std.specs.Option.{option_map, is_some}
 use Rattle.std.specs.Str.{bytes_eq}
-use Rattle.std.specs.String.{string_eq}
-use Rattle.std.proofs.lemmas.List.{map-append, reverse-append}
-use Rattle.std.proofs.lemmas.Map.Text.{hash_map_updates_text}
-use Rattle.std.proofs.lemmas.Slice.Eq.{bytes_eq-Decides}
 use Rattle.mg_text.specs.Call.{Name}
+use Rattle.jv_scope.specs.Named.{Named, named}
+use Rattle.jv_rules.specs.Types.{ValueType}
 use Rattle.jv_rules.specs.Scope.{Declared, declared_named}
 use Rattle.jv_types.specs.declared.value_type.ValueType.{ValueType as KeptType}
-use Rattle.jv_types.specs.declared.locals.Declared.{Declared as KeptDeclared}
 use Rattle.jv_types.specs.inner.View.{type_seen}
-use Rattle.jv_types.specs.inner.Locals.{declared_seen, locals_seen, are_apart, AreLookedUp}
+use Rattle.jv_types.specs.inner.Locals.{declared_seen, locals_seen}
 
-pub seen_push : (stack : List KeptDeclared) (d : KeptDeclared) → locals_seen (stack ++ d ∷ []) ≡ declared_seen d ∷ locals_seen stack
-seen_push stack d = ap reverse (map-append declared_seen stack (d ∷ [])) ∙ reverse-append (map declared_seen stack) (declared_seen d ∷ [])
-
-module _ (locals : List Declared) (d : Declared) (get get' : Name → Option KeptType) where
-  module _ (ty : KeptType) (is : type_seen ty ≡ d.type) (h : AreLookedUp get locals) (new : declared_named locals d.name ≡ None)
-      (u : (q : Name) → get' q ≡ cond (bytes_eq d.name q) (Some ty) (get q)) where
-    one_more : (b : Bool) (q : Name) → option_map type_seen (cond b (Some ty) (get q)) ≡ option_map (λ e. e.type)
-        (cond b (Some d) (declared_named locals q))
-    one_more true q = ap Some is
-    one_more false q = h.each q
-
-    pub looked_up_more : AreLookedUp get' (d ∷ locals)
-    looked_up_more = record {
-      each = λ q. ap (option_map type_seen) (u q) ∙ one_more (bytes_eq d.name q) q;
-      apart = ap (λ o. not (is_some o) && are_apart locals) new ∙ h.apart;
-    }
-
-  module _ (h : AreLookedUp get (d ∷ locals)) (u : (q : Name) → get' q ≡ cond (bytes_eq d.name q) None (get q)) where
-    both_true : (a b : Bool) → (a && b) ≡ true → (a ≡ true) × (b ≡ true)
-    both_true true b e = (refl, e)
-    both_true false b e = absurd (true≢false (sym e))
-
-    none_of : (o : Option Declared) → not (is_some o) ≡ true → o ≡ None
-    none_of None e = refl
-    none_of (Some x) e = absurd (true≢false (sym e))
-
-    apart_both : (not (is_some (declared_named locals d.name)) ≡ true) × (are_apart locals ≡ true)
-    apart_both = both_true (not (is_some (declared_named locals d.name))) (are_apart locals) h.apart
-
-    alone : declared_named locals d.name ≡ None
-    alone = none_of (declared_named locals d.name) apart_both.0
-
-    one_less : (b : Bool) (q : Name) → Decides b (d.name ≡ q) → option_map type_seen (get q) ≡ option_map (λ e. e.type)
-        (cond b (Some d) (declared_named locals q)) →
-        option_map type_seen (cond b None (get q)) ≡ option_map (λ e. e.type) (declared_named locals q)
-    one_less true q dec e = ap (option_map (λ e. e.type)) (sym (sym (ap (declared_named locals) (dec.0 refl)) ∙ alone))
-    one_less false q dec e = e
-
-    pub looked_up_less : AreLookedUp get' locals
-    looked_up_less = record {
-      each = λ q. ap (option_map type_seen) (u q) ∙ one_less (bytes_eq d.name q) q (bytes_eq-Decides d.name q) (h.each q);
-      apart = apart_both.1;
-    }
-
--- what a table answers after a change
-pub changed_at : {A V S : Type 0} (m n : HashMap (String A) V S) (name : Name) (w : Option V) →
-    UpdatesBy string_eq (λ k. bytes_eq name (string_bytes k)) m n w →
-    (q : Name) → get_by_text n q ≡ cond (bytes_eq name q) w (get_by_text m q)
-changed_at m n name w u q = hash_map_updates_text name m n w u q
-
--- one less, towards a length
-pub shorter : (l m : List Declared) (n : ℕ) → n < length l → m ≡ drop 1 l → drop (length m - n) m ≡ drop (length l - n) l
-shorter [] m n within e = let no : ⊥ = omega arith in absurd no
-shorter (d ∷ l) m n within e =
-    ap (λ k. drop (length k - n) k) e ∙ ap (λ k. drop k (d ∷ l)) one
+-- the one of a name is declared as it is kept
+pub named_seen : (ns : List (Named KeptType)) (name : Name) → declared_named (locals_seen ns) name ≡ option_map declared_seen (named ns name)
+named_seen [] name = refl
+named_seen (n ∷ ns) name = go (bytes_eq n.name name) (named_seen ns name)
   where
-    one : suc (length l - n) ≡ length (d ∷ l) - n
-    one = omega arith
+    go : (b : Bool) → declared_named (locals_seen ns) name ≡ option_map declared_seen (named ns name) →
+        cond b (Some (declared_seen n)) (declared_named (locals_seen ns) name) ≡ option_map declared_seen (cond b (Some n) (named ns name))
+    go true h = refl
+    go false h = h
+
+-- what is made of the local of a name, where there is one
+module _ {A : Type 0} (ns : List (Named KeptType)) (name : Name) (rest : A) (f : ValueType → A) where
+  abbrev made : Option Declared → A
+  made o = elim o [ None ↦ rest | Some d ↦ f d.type ]
+
+  pub local_there : (ty : KeptType) → Some ty ≡ option_map (λ n. n.it) (named ns name) →
+      f (type_seen ty) ≡ made (declared_named (locals_seen ns) name)
+  local_there ty e = go (named ns name) e ∙ ap made (sym (named_seen ns name))
+    where
+      go : (p : Option (Named KeptType)) → Some ty ≡ option_map (λ n. n.it) p → f (type_seen ty) ≡ made (option_map declared_seen p)
+      go None e = absurd (true≢false (ap is_some e))
+      go (Some n) e = ap (λ (o : Option KeptType). elim o [ None ↦ rest | Some t ↦ f (type_seen t) ]) e
+
+  pub local_missing : None ≡ option_map (λ (n : Named KeptType). n.it) (named ns name) → rest ≡ made (declared_named (locals_seen ns) name)
+  local_missing e = go (named ns name) e ∙ ap made (sym (named_seen ns name))
+    where
+      go : (p : Option (Named KeptType)) → None ≡ option_map (λ (n : Named KeptType). n.it) p → rest ≡ made (option_map declared_seen p)
+      go None e = refl
+      go (Some n) e = absurd (true≢false (sym (ap is_some e)))
+
+-- a local of a name is kept where one is declared
+pub is_kept : (ns : List (Named KeptType)) (name : Name) → is_some (option_map (λ (n : Named KeptType). n.it) (named ns name)) ≡ is_some
+    (declared_named (locals_seen ns) name)
+is_kept ns name = go (named ns name) ∙ ap is_some (sym (named_seen ns name))
+  where
+    go : (p : Option (Named KeptType)) → is_some (option_map (λ (n : Named KeptType). n.it) p) ≡ is_some (option_map declared_seen p)
+    go None = refl
+    go (Some n) = refl
+
+-- no local of a name is declared, and none is kept
+pub not_named : (ns : List (Named KeptType)) (name : Name) → declared_named (locals_seen ns) name ≡ None → named ns name ≡ None
+not_named ns name e = go (named ns name) (sym (named_seen ns name) ∙ e)
+  where
+    go : (p : Option (Named KeptType)) → option_map declared_seen p ≡ None → p ≡ None
+    go None e = refl
+    go (Some n) e = absurd (true≢false (ap is_some e))

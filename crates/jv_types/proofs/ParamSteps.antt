@@ -10,11 +10,14 @@ use Rattle.jv_rules.specs.declared.condition.Condition.{Condition}
 use Rattle.jv_rules.specs.declared.condition.Condition.TheVariants as conditions
 use Rattle.mg_text.specs.Call.{Name}
 use Rattle.ts_tree.specs.declared.parts.TypeName.{TypeName}
-use Rattle.jv_rules.specs.Types.{ValueType, meant}
+use Rattle.jv_rules.specs.Types.{meant}
 use Rattle.jv_types.specs.declared.scope.Scope.{Scope as KeptScope}
-use Rattle.jv_types.specs.inner.Locals.{declared}
+use Rattle.jv_scope.specs.Named.{Named, under}
+use Rattle.jv_types.specs.declared.value_type.ValueType.{ValueType as KeptType}
+use Rattle.jv_types.specs.inner.View.{type_seen}
+use Rattle.jv_types.specs.inner.Locals.{declared, locals_seen}
 use Rattle.jv_types.specs.inner.Scopes.{program_seen, scope_seen}
-use Rattle.jv_rules.specs.Scope.{Scope, Declared, declare, with_params, local_named}
+use Rattle.jv_rules.specs.Scope.{Scope, declare, with_params, local_named}
 use Rattle.jv_rules.specs.inner.Deciding.{when, told}
 use Rattle.jv_types.specs.inner.Stating.{Extends, params_fault}
 use Rattle.jv_types.proofs.AtIndex.{drop_at}
@@ -49,12 +52,14 @@ module _ (now : Scope) (xs : List Param) (i : ℕ) (past : length xs ≤ i) wher
   params_scope whole scope = sym (scope ∙ ap (λ ys. with_params ys now) (drop_of_length-le xs past))
 
 -- one more local in scope
-pub declared_scope : (s : KeptScope) (old new : List Declared) (name n : Name) (t : ValueType) (ty : TypeName) → new ≡ declared n t ∷ old →
-    n ≡ name → t ≡ meant (program_seen s) ty →
+pub declared_scope : (s : KeptScope) (old new : List (Named KeptType)) (name n : Name) (t : KeptType) (ty : TypeName) →
+    new ≡ under n t ∷ old → n ≡ name → type_seen t ≡ meant (program_seen s) ty →
     scope_seen s new ≡ declare name ty (scope_seen s old)
-declared_scope s old new name n t ty e k h = ap (scope_seen s) (e ∙ ap (λ z. declared z t ∷ old) k ∙ ap (λ z. declared name z ∷ old) h)
+declared_scope s old new name n t ty e k h =
+    ap (scope_seen s) (e ∙ ap (λ z. under z t ∷ old) k)
+    ∙ ap (λ z. record (scope_seen s old) { locals = declared name z ∷ locals_seen old }) h
 
-pub declared_extends : (old new : List Declared) (d : Declared) → new ≡ d ∷ old → Extends old new
+pub declared_extends : {A : Type 0} (old new : List A) (d : A) → new ≡ d ∷ old → Extends old new
 declared_extends old new d e = record { more = d ∷ []; is = e }
 
 -- what follows where a call succeeds

@@ -11,8 +11,10 @@ use Rattle.jv_tree.specs.Source.{Stmt, Stmts, Groups}
 use Rattle.jv_tree.specs.View.{stmt_of, stmts_of, group_of, groups_of, stmt_kind_of}
 use Rattle.jv_tree.proofs.ViewLaws.{stmt_of-is}
 use Rattle.jv_rules.specs.declared.condition.Condition.{Condition}
-use Rattle.jv_rules.specs.Scope.{Scope, Declared, behind}
+use Rattle.jv_rules.specs.Scope.{Scope, behind}
+use Rattle.jv_scope.specs.Named.{Named}
 use Rattle.jv_types.specs.declared.judged.Wrong.{Wrong}
+use Rattle.jv_types.specs.declared.value_type.ValueType.{ValueType as KeptType}
 use Rattle.jv_types.specs.inner.Judging.{Tells}
 use Rattle.jv_types.specs.inner.Stating.{Answers, Extends, stmt_fault, stmts_fault, groups_fault}
 use Rattle.jv_types.proofs.AtIndex.{drop_at}
@@ -21,9 +23,9 @@ use Rattle.jv_types.proofs.Choosing.{group_of-is}
 use Rattle.jv_types.proofs.Composing.{then_told, group_told}
 
 -- what is left tells what all tells, and more may be in scope there
-pub record AreJudged (s now : Scope) (all rest : Stmts) : Type 0 where
+pub record AreJudged (s now : Scope) (before behind : List (Named KeptType)) (all rest : Stmts) : Type 0 where
   pub left : stmts_fault s all ≡ stmts_fault now rest
-  pub locals : Extends s.locals now.locals
+  pub locals : Extends before behind
 
 -- a statement is judged as what it says
 pub stmt_as : (s : Scope) (x : KeptStmt) (k : KeptStmtKind) (y : Stmt) → x.kind ≡ k → stmt_kind_of k x.place ≡ y →
@@ -38,29 +40,29 @@ pub answers_last : (r : Result Unit Wrong) (o q whole : Option (Condition × Cul
     Answers whole r
 answers_last r o q whole e n h = answers_as r q whole (e ∙ ap (λ z. option_or z q) n) h
 
-extends_none : (l : List Declared) → Extends l l
+extends_none : {A : Type 0} (l : List A) → Extends l l
 extends_none l = record { more = []; is = refl }
 
-extends_more : (a b c : List Declared) → Extends a b → Extends b c → Extends a c
+extends_more : {A : Type 0} (a b c : List A) → Extends a b → Extends b c → Extends a c
 extends_more a b c h k = record { more = k.more ++ h.more; is = k.is ∙ ap (λ z. k.more ++ z) h.is ∙ sym (append_assoc k.more h.more a) }
 
 -- as many are dropped as were declared
-dropped : (more l : List Declared) → drop (length (more ++ l) - length l) (more ++ l) ≡ l
+dropped : {A : Type 0} (more l : List A) → drop (length (more ++ l) - length l) (more ++ l) ≡ l
 dropped [] l = let k : length l - length l ≡ zero = omega arith in ap (λ n. drop n l) k
 dropped (d ∷ more) l =
     let k : suc (length (more ++ l)) - length l ≡ suc (length (more ++ l) - length l) = (let n = length-append more l in omega arith) in
     ap (λ n. drop n (d ∷ more ++ l)) k ∙ dropped more l
 
-pub all_dropped : (a b : List Declared) → Extends a b → drop (length b - length a) b ≡ a
+pub all_dropped : {A : Type 0} (a b : List A) → Extends a b → drop (length b - length a) b ≡ a
 all_dropped a b h = ap (λ z. drop (length z - length a) z) h.is ∙ dropped h.more a
 
-module _ (s now : Scope) (all : Stmts) where
-  pub judged_start : AreJudged s s all all
-  judged_start = record { left = refl; locals = extends_none s.locals }
+module _ (s now : Scope) (before behind_it : List (Named KeptType)) (all : Stmts) where
+  pub judged_start : AreJudged s s before before all all
+  judged_start = record { left = refl; locals = extends_none before }
 
   -- at an index
   module _ (xs : List KeptStmt) (i : ℕ) (x : KeptStmt) (within : i < length xs) (is : x ≡ get_or xs i x)
-      (h : AreJudged s now all (stmts_of (map stmt_of (drop i xs)))) where
+      (h : AreJudged s now before behind_it all (stmts_of (map stmt_of (drop i xs)))) where
     abbrev more : Stmts
     more = stmts_of (map stmt_of (drop (i + 1) xs))
 
@@ -72,14 +74,15 @@ module _ (s now : Scope) (all : Stmts) where
     judged_wrong w t = tells_first w (stmt_fault now (stmt_of x)) (stmts_fault (behind (stmt_of x) now) more) (stmts_fault s all) left_told
         t
 
-    pub judged_more : (new : Scope) → stmt_fault now (stmt_of x) ≡ None → new ≡ behind (stmt_of x) now → Extends now.locals new.locals →
-        AreJudged s new all more
-    judged_more new fine e k = record {
+    pub judged_more : (new : Scope) (added : List (Named KeptType)) → stmt_fault now (stmt_of x) ≡ None → new ≡ behind (stmt_of x) now →
+        Extends behind_it added → AreJudged s new before added all more
+    judged_more new added fine e k = record {
       left = left_told ∙ ap (λ z. option_or z (stmts_fault (behind (stmt_of x) now) more)) fine ∙ ap (λ z. stmts_fault z more) (sym e);
-      locals = extends_more s.locals now.locals new.locals h.locals k;
+      locals = extends_more before behind_it added h.locals k;
     }
 
-  pub judged_done : (xs : List KeptStmt) (i : ℕ) → length xs ≤ i → AreJudged s now all (stmts_of (map stmt_of (drop i xs))) →
+  pub judged_done : (xs : List KeptStmt) (i : ℕ) → length xs ≤ i → AreJudged s now before behind_it all
+      (stmts_of (map stmt_of (drop i xs))) →
       stmts_fault s all ≡ None
   judged_done xs i past h = h.left ∙ ap (λ (ys : List KeptStmt). stmts_fault now (stmts_of (map stmt_of ys))) (drop_of_length-le xs past)
 

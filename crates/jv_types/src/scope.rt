@@ -30,12 +30,13 @@ pub(crate) struct Scope<'s, 'a> {
 }
 
 impl<'s, 'a> Scope<'s, 'a> {
-    ghost use Rattle.jv_rules.specs.Scope.{Declared};
+    ghost use Rattle.jv_scope.specs.Named.{Named};
+    ghost use Rattle.jv_types.specs.declared.value_type.ValueType.{ValueType as KeptType};
     ghost use Rattle.jv_types.specs.inner.Scopes.{around_seen, scope_seen};
 
     /// The same class and method, within a loop or a switch.
     pub(crate) fn within<'t>(&'t self, around: &'t Around<'t>) -> Scope<'t, 'a>
-        ensures { (locals : List Declared) → scope_seen result locals
+        ensures { (locals : List (Named KeptType)) → scope_seen result locals
             ≡ record (scope_seen self.now locals) { around = around_seen around.now } }
     {
         Scope {

@@ -5,6 +5,7 @@ ghost use Rattle.jv_tree.specs.View.{expr_of, stmt_of};
 ghost use Rattle.jv_tree.specs.Source.{Local, Assign, Return};
 ghost use Rattle.jv_rules.specs.Scope.{declared_named, behind};
 ghost use Rattle.jv_rules.specs.Taking.{result_of};
+ghost use Rattle.jv_types.specs.inner.Locals.{locals_seen};
 ghost use Rattle.jv_types.specs.inner.Scopes.{scope_seen};
 ghost use Rattle.jv_types.specs.inner.Stating.{Answers, Extends, stmt_fault, wanted_seen, returned_wanted, written_in, written_seen};
 
@@ -22,7 +23,7 @@ use ts_tree::TypeName;
 
 /// Whether a local or a parameter of a name is in scope.
 pub(crate) fn is_declared(locals: &Locals<'_>, name: &str) -> bool
-    ensures { result ≡ is_some (declared_named locals.now name.now) }
+    ensures { result ≡ is_some (declared_named (locals_seen locals.now) name.now) }
 {
     locals.find(name).is_some()
 }

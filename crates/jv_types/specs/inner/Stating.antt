@@ -10,7 +10,7 @@ use Rattle.jv_tree.specs.Source.{Expr, Stmt, Stmts, Groups, Local}
 use Rattle.jv_rules.specs.declared.condition.Condition.{Condition}
 use Rattle.jv_rules.specs.declared.condition.Condition.TheVariants as conditions
 use Rattle.jv_rules.specs.Types.{ValueType, NoValue, BooleanType}
-use Rattle.jv_rules.specs.Scope.{Scope, Declared}
+use Rattle.jv_rules.specs.Scope.{Scope}
 use Rattle.mg_read.specs.First.{with_earlier}
 use Rattle.jv_types.specs.inner.Blaming.{is_in}
 use Rattle.jv_rules.specs.Conditions.{LoopAt, CaseAt, cases}
@@ -79,8 +79,8 @@ abbrev pub written_seen : KeptWritten → Written
 written_seen w = written w.ty.now w.name.now
 
 -- some locals, and more that were declared behind them
-pub record Extends (old new : List Declared) : Type 0 where
-  pub more : List Declared
+pub record Extends {A : Type 0} (old new : List A) : Type 0 where
+  pub more : List A
   pub is : new ≡ more ++ old
 
 -- what is told of the cases and defaults of a switch

@@ -4,7 +4,7 @@ use Rattle.jv_tree.specs.View.{expr_of}
 use Rattle.jv_resolve_law.specs.Expressions.{resolved}
 use Rattle.jv_resolve.specs.inner.Seen.{tables_seen, standing_seen, resolved_seen}
 use Rattle.jv_resolve.specs.inner.Counted.{counted_seen, counting}
-use Rattle.jv_resolve.specs.inner.Row.{known}
+use Rattle.jv_scope.specs.Named.{under}
 use Rattle.jv_resolve.proofs.Chains.{fails_as}
 use Rattle.jv_resolve.proofs.StmtSteps.{declared_made, declared_slot_fails, declared_value_fails}
 use Rattle.jv_resolve.proofs.simple.resolve_declaration.Goals as goal
@@ -31,6 +31,6 @@ pub returns-clause-it : goal.returns-clause-it
 returns-clause-it c =
     declared_made (tables_seen c.args.scope.now.table.now) (standing_seen c.args.scope.now) c.args.body.now.locals c.args.place
     c.args.ty.now c.args.name.now (expr_of c.args.value.now) (counted_seen c.args.body.now) (resolved_seen c.in_ok-value.value)
-    (counting (known c.args.name.now c.in_ok-local.local) (counted_seen c.add_slot.new.self))
+    (counting (under c.args.name.now c.in_ok-local.local) (counted_seen c.add_slot.new.self))
     (ap (λ ls. resolved (tables_seen c.args.scope.now.table.now) (standing_seen c.args.scope.now) ls (expr_of c.args.value.now))
     (sym c.in_ok-local.ensures.locals) ∙ c.in_ok-value.ensures) c.in_ok-local.ensures.it

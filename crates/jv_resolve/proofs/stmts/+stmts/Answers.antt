@@ -21,7 +21,7 @@ use Rattle.jv_resolve.proofs.Items.{item_local, item_other, in_same_scope}
 use Rattle.jv_resolve.proofs.StmtShapes as shapes
 use Rattle.jv_tree.specs.declared.tree.StmtKind.TheVariants as kinds
 use Rattle.jv_core.proofs.ViewLaws as laws
-use Rattle.jv_resolve.specs.inner.Row.{known}
+use Rattle.jv_scope.specs.Named.{under}
 use Rattle.jv_resolve.proofs.Composing as steps
 use Rattle.jv_resolve.proofs.StmtLoops as loops
 use Rattle.jv_resolve.proofs.stmts.+stmts.Goals as goal
@@ -71,7 +71,7 @@ resolve_stmt-returns-in_ok-declared-in-Local-clause-it t c =
     c.in-Local.value c.in-Local.is)
     ∙ steps.local_made (tables_seen c.args.scope.now.table.now) (standing_seen c.args.scope.now) (around_seen c.args.around.now)
     c.args.body.now.locals (counted_seen c.args.body.now) c.args.stmt.now.place c.in-Local.ty c.in-Local.name
-    (source.expr_of c.in-Local.value) (counting (known c.as_str.result.now d.local) (counted_seen c.resolve_declaration.new.body))
+    (source.expr_of c.in-Local.value) (counting (under c.as_str.result.now d.local) (counted_seen c.resolve_declaration.new.body))
     (Core.Local d.place d.local.slot (expr_of d.value)) (stmt_of c.local_stmt.result)
     (ap (λ n. local (tables_seen c.args.scope.now.table.now) (standing_seen c.args.scope.now) c.args.stmt.now.place c.in-Local.ty n
     (source.expr_of c.in-Local.value) c.args.body.now.locals (counted_seen c.args.body.now)) (sym c.as_str.ensures) ∙

@@ -113,15 +113,15 @@ check_stmt-returns-in_ok-check_choice-in-Switch-clause-told t c =
 
 pub check_stmts-loop-stmt-init : goal.check_stmts-loop-stmt-init
 check_stmts-loop-stmt-init t c =
-    judged_start (scope_seen c.args.scope.now c.args.locals.now) (scope_seen c.args.scope.now c.args.locals.now)
-    (stmts_of (map stmt_of c.args.stmts.now))
+    judged_start (scope_seen c.args.scope.now c.args.locals.now) (scope_seen c.args.scope.now c.args.locals.now) c.args.locals.now
+    c.args.locals.now (stmts_of (map stmt_of c.args.stmts.now))
 
 pub check_stmts-returns-in_err-check_stmt-clause-told : goal.check_stmts-returns-in_err-check_stmt-clause-told
 check_stmts-returns-in_err-check_stmt-clause-told t c =
     let r = err_from_is_err_and c.from_residual.result c.from_residual.ensures.1 in
     rw (r.1, r.2)
-    (judged_wrong (scope_seen c.args.scope.now c.args.locals.now) (scope_seen c.args.scope.now c.loop-stmt.locals)
-    (stmts_of (map stmt_of c.args.stmts.now)) c.args.stmts.now c.loop-stmt.stmt-index c.stmt-item.result c.loop-stmt-test.true
+    (judged_wrong (scope_seen c.args.scope.now c.args.locals.now) (scope_seen c.args.scope.now c.loop-stmt.locals) c.args.locals.now
+    c.loop-stmt.locals (stmts_of (map stmt_of c.args.stmts.now)) c.args.stmts.now c.loop-stmt.stmt-index c.stmt-item.result c.loop-stmt-test.true
     c.stmt-item.is c.loop-stmt.invariant c.in_err-check_stmt.field-0.0 c.in_err-check_stmt.ensures.told)
 
 pub check_stmts-returns-in_err-declare_local-clause-told : goal.check_stmts-returns-in_err-declare_local-clause-told
@@ -136,17 +136,18 @@ check_stmts-declare_local-requires t c =
 
 pub check_stmts-loop-stmt-preserved : goal.check_stmts-loop-stmt-preserved
 check_stmts-loop-stmt-preserved t c =
-    judged_more (scope_seen c.args.scope.now c.args.locals.now) (scope_seen c.args.scope.now c.loop-stmt.locals)
-    (stmts_of (map stmt_of c.args.stmts.now)) c.args.stmts.now c.loop-stmt.stmt-index c.stmt-item.result c.loop-stmt-test.true
-    c.stmt-item.is c.loop-stmt.invariant (scope_seen c.args.scope.now c.declare_local.new.locals) c.in_ok-check_stmt.ensures.told
+    judged_more (scope_seen c.args.scope.now c.args.locals.now) (scope_seen c.args.scope.now c.loop-stmt.locals) c.args.locals.now
+    c.loop-stmt.locals (stmts_of (map stmt_of c.args.stmts.now)) c.args.stmts.now c.loop-stmt.stmt-index c.stmt-item.result c.loop-stmt-test.true
+    c.stmt-item.is c.loop-stmt.invariant (scope_seen c.args.scope.now c.declare_local.new.locals) c.declare_local.new.locals
+    c.in_ok-check_stmt.ensures.told
     (c.in_ok-declare_local.ensures.scope ∙ ap (λ l. behind (stmt_of c.stmt-item.result) (scope_seen c.args.scope.now l))
     c.in_ok-check_stmt.ensures.kept)
     (subst (λ l. Extends l c.declare_local.new.locals) c.in_ok-check_stmt.ensures.kept c.in_ok-declare_local.ensures.locals)
 
 pub check_stmts-returns-clause-told : goal.check_stmts-returns-clause-told
 check_stmts-returns-clause-told t c =
-    judged_done (scope_seen c.args.scope.now c.args.locals.now) (scope_seen c.args.scope.now c.loop-stmt.locals)
-    (stmts_of (map stmt_of c.args.stmts.now)) c.args.stmts.now c.loop-stmt.stmt-index c.loop-stmt-test.false c.loop-stmt.invariant
+    judged_done (scope_seen c.args.scope.now c.args.locals.now) (scope_seen c.args.scope.now c.loop-stmt.locals) c.args.locals.now
+    c.loop-stmt.locals (stmts_of (map stmt_of c.args.stmts.now)) c.args.stmts.now c.loop-stmt.stmt-index c.loop-stmt-test.false c.loop-stmt.invariant
 
 pub check_stmts-returns-clause-kept : goal.check_stmts-returns-clause-kept
 check_stmts-returns-clause-kept t c =

@@ -21,6 +21,7 @@ decreases-check_inner l = 4 * goal.size-check_inner l + 1
 
 abbrev pub invariant-check_stmts-loop-stmt : goal.invariant-check_stmts-loop-stmt
 invariant-check_stmts-loop-stmt l = AreJudged (scope_seen l.scope l.initial.locals) (scope_seen l.scope l.locals)
+    l.initial.locals l.locals
     (stmts_of (map stmt_of l.stmts)) (stmts_of (map stmt_of (drop l.stmt-index l.stmts)))
 
 abbrev pub invariant-check_groups-loop-group : goal.invariant-check_groups-loop-group

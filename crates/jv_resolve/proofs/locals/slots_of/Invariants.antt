@@ -1,5 +1,0 @@
-use Rattle.std.proofs.Common.{◌≡◌, map, take}
-use Rattle.jv_resolve.proofs.locals.slots_of.Given as goal
-
-abbrev pub invariant-loop-declared : goal.invariant-loop-declared
-invariant-loop-declared l = l.slots.items ≡ map (λ d. d.local.slot) (take l.declared-index l.stack)
