@@ -9,7 +9,7 @@ use Rattle.scr_trace.proofs.walk.Walk.led_at_once.Goals as goal
 pub returns-then-branch : goal.returns-then-branch
 returns-then-branch c = record {
   arrow = c.in-Some-get.arrow.now;
-  among = at_among c.args.exits.now.arrows.items c.as_slice-arrows.result.now c.in-Some.place c.in-Some-get.arrow.now _
+  among = at_among c.args.exits.now.arrows.items c.as_slice-arrows.result.now c.in-Some-noted.place c.in-Some-get.arrow.now _
       c.in-Some-get.ensures.lookup.0 c.in-Some-get.ensures.lookup.1 c.as_slice-arrows.ensures.items;
   called = ap (λ (me : Name). is_called me (work_of c.args.self.now.laid) c.args.exits.now.number (call_said c.args.call.now).method
       (call_said c.args.call.now).answer c.in-Some-get.arrow.now) (sym (c.as_str-me.ensures ∙ c.me.ensures))
