@@ -13,7 +13,7 @@ use mg_calls::{CallLine, CallsFault, read_calls};
 use mg_delivery::{Delivery, Status, lines};
 use mg_refusal::Stop;
 use mg_sources::read_protocol;
-use mg_text::{Memory, Text};
+use mg_text::Memory;
 use scr_trace::{Call, StepFault, Walk};
 use scr_tree::Local;
 use std::alloc::Global;
@@ -48,7 +48,7 @@ fn follow(alloc: Global, local: &Local, calls: &[CallLine<'_>]) -> Result<Delive
 {
     let mut walk = Walk::new(alloc, local)?;
     for line in calls {
-        let call = call_of(alloc, line)?;
+        let call = call_of(line);
         match walk.step(&call) {
             Ok(()) => {}
             Err(StepFault::NotOffered) => {
@@ -66,13 +66,11 @@ fn follow(alloc: Global, local: &Local, calls: &[CallLine<'_>]) -> Result<Delive
 }
 
 // The call of a line.
-fn call_of(alloc: Global, line: &CallLine<'_>) -> Result<Call, Memory>
-    ensures { IfOk result (λ c. call_said c ≡ (call_at line.now).call) }
+fn call_of<'a>(line: &CallLine<'a>) -> Call<'a>
+    ensures { call_said result ≡ (call_at line.now).call }
 {
-    let method = Text::of(alloc, line.method)?;
-    let answer = match line.answer {
-        None => None,
-        Some(label) => Some(Text::of(alloc, label)?),
-    };
-    Ok(Call { method, answer })
+    Call {
+        method: line.method,
+        answer: line.answer,
+    }
 }

@@ -1,5 +1,5 @@
 -- Where a walk stands, and which calls it has taken.
-use Rattle.std.specs.Prelude.{◌≡◌, ◌↔◌, List, [], ◌∷◌, ◌++◌, map, Some, None, Contains}
+use Rattle.std.specs.Prelude.{◌≡◌, ◌↔◌, List, [], ◌∷◌, ◌++◌, map, Some, None, option_map, Contains}
 use Rattle.mg_text.specs.Call.{Name, Call}
 use Rattle.scr_tree.specs.Tree.{LocalTree}
 use Rattle.scr_tree.specs.Local.{tree_of}
@@ -16,7 +16,7 @@ use Rattle.scr_trace.specs.inner.View.{work_of, graph_of_work}
 
 -- the call that a program's value says
 abbrev pub call_said : Kept → Call
-call_said call = record { method = call.method; answer = call.answer }
+call_said call = record { method = call.method.now; answer = option_map (λ a. a.now) call.answer }
 
 -- calls, one after another
 abbrev pub Calls : Type 0

@@ -3,19 +3,10 @@
 use mg_text::{List, Text};
 
 /// A call of a method, and the label that it answers with, where it answers with one.
-pub struct Call {
-    pub method: Text,
-    pub answer: Option<Text>,
-}
-
-// One call lets go of it, wherever a function ends.
-impl Drop for Call {
-    fn drop(self) {
-        let Call {
-            method: _,
-            answer: _,
-        } = self;
-    }
+#[derive(Clone, Copy)]
+pub struct Call<'a> {
+    pub method: &'a str,
+    pub answer: Option<&'a str>,
 }
 
 /// A method that is offered, and the labels with which its call may answer: none but of a label call.

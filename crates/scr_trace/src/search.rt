@@ -2,6 +2,7 @@
 
 ghost use Rattle.std.specs.Prelude.{◌≡◌, ◌&&◌, ℕ, IfOk, option_map, slice_get};
 ghost use Rattle.std.specs.Fmt.{decimal};
+ghost use Rattle.scr_trace.specs.Walking.{call_said};
 ghost use Rattle.scr_trace.specs.inner.Search.{first_led, is_said, is_looked, is_called, led_if};
 ghost use Rattle.scr_trace.specs.inner.View.{cell_of, plain_standing, standing_of, work_of};
 
@@ -101,19 +102,19 @@ impl<'a> Laying<'a> {
         alloc: Global,
         me: &str,
         exits: &Exits<'_>,
-        call: &Call,
+        call: &Call<'_>,
     ) -> Result<Option<Hop>, Memory>
-        ensures { IfOk result (λ hop. hop ≡ led_if me.now (work_of self.now) exits.now.number exits.now.arrows.items call.now.method
-            call.now.answer) }
+        ensures { IfOk result (λ hop. hop ≡ led_if me.now (work_of self.now) exits.now.number exits.now.arrows.items
+            (call_said call.now).method (call_said call.now).answer) }
     {
-        let method = call.method.as_str();
+        let method = call.method;
         let arrows = exits.arrows.as_slice();
-        match (exits.number, &call.answer) {
+        match (exits.number, call.answer) {
             (None, None) => Ok(find_message(method, arrows)),
             (Some(behind), Some(label)) => {
                 let number = self.choice_number(behind);
                 let digits = format!(in alloc; "{number}")?;
-                Ok(find_look(me, digits.as_str(), method, label.as_str(), arrows))
+                Ok(find_look(me, digits.as_str(), method, label, arrows))
             }
             _ => Ok(None),
         }
@@ -126,19 +127,20 @@ impl<'a> Laying<'a> {
         me: &str,
         number: Option<u32>,
         arrow: &Arrow<'_>,
-        call: &Call,
+        call: &Call<'_>,
     ) -> Result<bool, Memory>
-        ensures { IfOk result (λ b. b ≡ is_called me.now (work_of self.now) number call.now.method call.now.answer arrow.now) }
+        ensures { IfOk result (λ b. b ≡ is_called me.now (work_of self.now) number (call_said call.now).method
+            (call_said call.now).answer arrow.now) }
     {
-        let method = call.method.as_str();
+        let method = call.method;
         let message = arrow.message;
-        match (number, &call.answer) {
+        match (number, call.answer) {
             (None, None) => Ok(is_message_call(method, message)),
             (Some(behind), Some(label)) => {
                 let number = self.choice_number(behind);
                 let digits = format!(in alloc; "{number}")?;
                 Ok(
-                    message.label.as_str() == label.as_str()
+                    message.label.as_str() == label
                         && is_label_call(method, me, digits.as_str(), message.peer.as_str()),
                 )
             }

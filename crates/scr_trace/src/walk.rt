@@ -13,7 +13,7 @@ use crate::call::{Call, Offer};
 use crate::laying::Laying;
 use crate::offers::offers_of;
 use crate::standing::Standing;
-use crate::tables::{FEW, noted, table};
+use crate::tables::{FEW, Tables, noted, tables_of};
 use mg_text::{List, Memory};
 use scr_tree::Local;
 use std::alloc::Global;
@@ -24,7 +24,7 @@ pub struct Walk<'a> {
     local: &'a Local,
     laid: Laying<'a>,
     // Where the arrows of calls may stand.
-    slots: Vec<u64>,
+    tables: Tables,
     standing: Standing,
 }
 
@@ -35,7 +35,7 @@ impl Drop for Walk<'_> {
             alloc: _,
             local: _,
             laid: _,
-            slots: _,
+            tables: _,
             standing: _,
         } = self;
     }
@@ -75,13 +75,13 @@ impl<'a> Walk<'a> {
         ensures taken { IfOk result (λ w. HasTaken (tree_of local.now) w []) }
     {
         let laid = Laying::of(alloc, local)?;
-        let slots = table(alloc, &laid)?;
+        let tables = tables_of(alloc, &laid)?;
         let standing = laid.standing(laid.start());
         Ok(Walk {
             alloc,
             local,
             laid,
-            slots,
+            tables,
             standing,
         })
     }
@@ -91,7 +91,7 @@ impl<'a> Walk<'a> {
     /// # Errors
     /// `NotOffered` exactly where no step of the protocol from where the walk stands has the call,
     /// and `Memory` where there is too little of it. The walk is then unchanged.
-    pub fn step(&mut self, call: &Call) -> Result<(), StepFault>
+    pub fn step(&mut self, call: &Call<'_>) -> Result<(), StepFault>
         ensures steps { OnOk result ((tree : LocalTree) (position : Position) → Stands tree self.old position →
             StepsOn tree position (call_said call.now) self.new) }
         ensures not_offered { result ≡ Err faults.NotOffered → (tree : LocalTree) (position : Position) → Stands tree self.old position →
@@ -144,7 +144,7 @@ impl<'a> Walk<'a> {
     }
 
     // Where a call leads, if it is offered.
-    fn led(&self, call: &Call) -> Result<Option<Standing>, Memory>
+    fn led(&self, call: &Call<'_>) -> Result<Option<Standing>, Memory>
         ensures { IfOk result (λ to. Goes self.now (call_said call.now) to) }
     {
         let Standing::State(number) = self.standing else {
@@ -168,7 +168,7 @@ impl<'a> Walk<'a> {
         &self,
         number: u32,
         exits: &Exits<'_>,
-        call: &Call,
+        call: &Call<'_>,
     ) -> Result<Option<Hop>, Memory>
         ensures { IfOk result (λ hop. IfSome hop (λ h. HasArrow (tree_of self.now.local.now).me (work_of self.now.laid)
             exits.now.number exits.now.arrows.items (call_said call.now) h)) }
@@ -177,11 +177,13 @@ impl<'a> Walk<'a> {
         if arrows.len() <= FEW {
             return Ok(None);
         }
-        let text = match &call.answer {
-            None => call.method.as_str(),
-            Some(label) => label.as_str(),
+        let text = match call.answer {
+            None => call.method,
+            Some(label) => label,
         };
-        let place = noted(self.slots.as_slice(), number, text);
+        let Some(place) = noted(&self.tables, number, text) else {
+            return Ok(None);
+        };
         let Some(arrow) = arrows.get(place) else {
             return Ok(None);
         };

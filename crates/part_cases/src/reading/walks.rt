@@ -55,19 +55,13 @@ fn add_walk(alloc: Global, answer: &mut Answer, local: &Local, calls: &str) -> R
     answer.add("begins:");
     add_offers(answer, &walk)?;
     for call in calls.lines() {
-        add_step(alloc, answer, &mut walk, call)?;
+        add_step(answer, &mut walk, call)?;
     }
     Ok(())
 }
 
-fn add_step(
-    alloc: Global,
-    answer: &mut Answer,
-    walk: &mut Walk<'_>,
-    call: &str,
-) -> Result<(), Memory> {
-    let call = call_of(alloc, call)?;
-    let stepped = walk.step(&call);
+fn add_step(answer: &mut Answer, walk: &mut Walk<'_>, call: &str) -> Result<(), Memory> {
+    let stepped = walk.step(&call_of(call));
     answer.add("\n");
     answer.tell(&stepped);
     answer.add(" ");
@@ -77,17 +71,17 @@ fn add_step(
 }
 
 // A method, and behind a blank the label with which it answers.
-fn call_of(alloc: Global, call: &str) -> Result<Call, Memory> {
-    let Some((method, label)) = call.split_once(' ') else {
-        let method = Text::of(alloc, call)?;
-        return Ok(Call {
-            method,
+fn call_of(call: &str) -> Call<'_> {
+    match call.split_once(' ') {
+        None => Call {
+            method: call,
             answer: None,
-        });
-    };
-    let method = Text::of(alloc, method)?;
-    let answer = Some(Text::of(alloc, label)?);
-    Ok(Call { method, answer })
+        },
+        Some((method, label)) => Call {
+            method,
+            answer: Some(label),
+        },
+    }
 }
 
 // What a walk offers: each method, and behind it its labels.

@@ -10,8 +10,8 @@ loop-line-init c = c.in_ok-walk.ensures.taken
 
 pub loop-line-preserved : goal.loop-line-preserved
 loop-line-preserved c =
-    taken_at (tree_of c.args.local.now) _ c.args.calls.now c.loop-line.line-index _ (call_said c.in_ok-call.call) c.loop-line-test.true
-    c.in_ok-call.ensures
+    taken_at (tree_of c.args.local.now) _ c.args.calls.now c.loop-line.line-index _ (call_said c.call_of-call.result) c.loop-line-test.true
+    c.call_of-call.ensures
     (c.in-Ok.ensures.taken _ _ c.loop-line.invariant)
 
 pub returns-in-Err-NotOffered : goal.returns-in-Err-NotOffered
@@ -19,8 +19,8 @@ returns-in-Err-NotOffered c =
     let told = rw c.in-Err-NotOffered.field-0-is at c.in-Err-NotOffered.ensures in
     answered (tree_of c.args.local.now) (map call_of c.args.calls.now) _ c.as_str.result.now _ c.printed.result c.printed.ensures.actions
     c.printed.ensures.status (c.as_str.ensures ∙ c.in_ok-text-in-Err-NotOffered.ensures)
-    (refused_at (tree_of c.args.local.now) _ c.args.calls.now c.loop-line.line-index _ (call_said c.in_ok-call.call) c.loop-line-test.true
-    c.in_ok-call.ensures c.loop-line.invariant
+    (refused_at (tree_of c.args.local.now) _ c.args.calls.now c.loop-line.line-index _ (call_said c.call_of-call.result) c.loop-line-test.true
+    c.call_of-call.ensures c.loop-line.invariant
     (λ more. told.no_trace refl (tree_of c.args.local.now) _ more c.loop-line.invariant))
 
 pub returns-then-done : goal.returns-then-done

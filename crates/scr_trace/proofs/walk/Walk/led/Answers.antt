@@ -20,7 +20,7 @@ returns-in-Some-3 c =
     goes_some c.args.self.now c.in-State.number c.in-Some.exits.now (call_said c.args.call.now) c.in-Some-3.hop
     c.standing-in-Some-3.result c.in-State.is c.in-Some.ensures
     (ap (λ (me : Name). led_if me (work_of c.args.self.now.laid) c.in-Some.exits.now.number c.in-Some.exits.now.arrows.items
-    c.args.call.now.method c.args.call.now.answer) (sym (c.as_str-me.ensures ∙ c.me.ensures))
+    (call_said c.args.call.now).method (call_said c.args.call.now).answer) (sym (c.as_str-me.ensures ∙ c.me.ensures))
     ∙ sym c.in_ok-hop-2.ensures ∙ c.in-Some-3.is)
     c.standing-in-Some-3.ensures
 
@@ -28,5 +28,5 @@ pub returns-in-None : goal.returns-in-None
 returns-in-None c =
     goes_none c.args.self.now c.in-State.number c.in-Some.exits.now (call_said c.args.call.now) c.in-State.is c.in-Some.ensures
     (ap (λ (me : Name). led_if me (work_of c.args.self.now.laid) c.in-Some.exits.now.number c.in-Some.exits.now.arrows.items
-    c.args.call.now.method c.args.call.now.answer) (sym (c.as_str-me.ensures ∙ c.me.ensures))
+    (call_said c.args.call.now).method (call_said c.args.call.now).answer) (sym (c.as_str-me.ensures ∙ c.me.ensures))
     ∙ sym c.in_ok-hop-2.ensures ∙ c.in-None.is)

@@ -29,7 +29,7 @@ returns-clause-taken c =
       alloc = c.args.alloc;
       local = c.args.local;
       laid = c.in_ok-laid.laid;
-      slots = c.in_ok-slots.slots;
+      tables = c.in_ok-tables.tables;
       standing = c.standing-standing.result;
     } in
     starts (tree_of c.args.local.now) walk (returns-clause-stands c)
