@@ -97,8 +97,11 @@ module _ (program : Program) (tables : Tables) (t : HoldClasses program tables) 
 pub methods_are_elaborated : MethodsAreElaborated
 methods_are_elaborated program tables names t =
     record {
-      no_param = λ locals c ks kept o q. (subst (AreKept tables locals) (ap (λ (o : Opened). o.locals) (some_is q)) kept, ap
-          (λ (o : Opened). o.so_far) (some_is q));
+      no_param = λ locals c ks kept o q. (
+        subst (AreKept tables locals) (ap (λ (o : Opened). o.locals) (some_is q)) kept,
+        ap
+            (λ (o : Opened). o.so_far) (some_is q),
+      );
       param = param program tables t;
       method = one_method program tables t names;
       no_method = λ entry o q. some_is q;

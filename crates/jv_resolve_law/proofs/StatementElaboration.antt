@@ -57,10 +57,10 @@ module _ (program : Program) (tables : Tables) (t : HoldClasses program tables) 
   slotted x v n = counting (under x (record { slot = length c.slots; ty = v })) (slot_added n v c)
 
   record Declared (p : Place) (ty : TypeName) (x : Name) (e' : Core.Expr) (u : CoreType) (n : Interned) (j : Counting Known × Core.Stmt) : Type 0
-      where
-    type : CoreType
-    meant_as : type_meant tables ty ≡ Some type
-    is : (counting (under x (record { slot = length c.slots; ty = type })) (slot_added n u c), Core.Local p (length c.slots) e') ≡ j
+    where
+      type : CoreType
+      meant_as : type_meant tables ty ≡ Some type
+      is : (counting (under x (record { slot = length c.slots; ty = type })) (slot_added n u c), Core.Local p (length c.slots) e') ≡ j
 
   local_made : (p : Place) (ty : TypeName) (x : Name) (e : Source.Expr) (e' : Core.Expr) (s : ValueType) (u : CoreType) (n : Interned) →
       E e e' s → IsSlotType tables ty u → interned c.names x ≡ Some n → (ks : List Known) → AreKept tables locals ks →
@@ -99,11 +99,12 @@ module _ (program : Program) (tables : Tables) (t : HoldClasses program tables) 
       let l = ap (λ (k : Counting Known × Core.Stmt). k.0.it) m.is in
       let one = subst (IsKept tables (under x (record { slot = length c.slots; type = meant program ty }))) l
       (kept_one x ty m.type m.meant_as) in
-      let it = some_is b.gives in
-      (ap (λ (k : Counting Known × Core.Stmt). k.1) m.is ∙ ap (λ (o : Item). o.stmt) it,
-      subst (AreKept tables (under x (record { slot = length c.slots; type = meant program ty }) ∷ locals))
-      (sym (declares a.item.0.it ks b.item b.is).are ∙ ap (λ (o : Item). o.locals) it) (is.more one kept),
-      ap (λ (k : Counting Known × Core.Stmt). k.0.so_far) m.is ∙ ap (λ (o : Item). o.so_far) it)
+      let it = some_is b.gives in (
+        ap (λ (k : Counting Known × Core.Stmt). k.1) m.is ∙ ap (λ (o : Item). o.stmt) it,
+        subst (AreKept tables (under x (record { slot = length c.slots; type = meant program ty }) ∷ locals))
+            (sym (declares a.item.0.it ks b.item b.is).are ∙ ap (λ (o : Item). o.locals) it) (is.more one kept),
+        ap (λ (k : Counting Known × Core.Stmt). k.0.so_far) m.is ∙ ap (λ (o : Item). o.so_far) it,
+      )
     where
       kept_one : (x : Name) (ty : TypeName) (v : CoreType) → type_meant tables ty ≡ Some v →
           IsKept tables (under x (record { slot = length c.slots; type = meant program ty })) (under x (record { slot = length c.slots; ty = v }))
@@ -116,10 +117,11 @@ module _ (program : Program) (tables : Tables) (t : HoldClasses program tables) 
   other s s' c' is_other h ks kept o q =
       let m = mapped (λ (a : Counting Core.Stmt). as_item ks a) (stmt tables at s around ks c) o
       (sym (item_other s is_other ks (stmt tables at s around ks c)) ∙ q) in
-      let k = h ks kept m.item m.is in
-      (ap (λ (a : Counting Core.Stmt). a.it) k ∙ ap (λ (o : Item). o.stmt) m.gives,
-      subst (AreKept tables locals) (ap (λ (o : Item). o.locals) m.gives) kept,
-      ap (λ (a : Counting Core.Stmt). a.so_far) k ∙ ap (λ (o : Item). o.so_far) m.gives)
+      let k = h ks kept m.item m.is in (
+        ap (λ (a : Counting Core.Stmt). a.it) k ∙ ap (λ (o : Item). o.stmt) m.gives,
+        subst (AreKept tables locals) (ap (λ (o : Item). o.locals) m.gives) kept,
+        ap (λ (a : Counting Core.Stmt). a.so_far) k ∙ ap (λ (o : Item). o.so_far) m.gives,
+      )
     where
       item_other : (s : Source.Stmt) → IsOther s → (ks : List Known) (r : Option (Counting Core.Stmt)) →
           item tables at s ks c r ≡ option_map (λ a. as_item ks a) r

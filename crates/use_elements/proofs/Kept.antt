@@ -50,8 +50,8 @@ module _ (to : ℕ → List ℕ) where
   kept_image w but s l i h =
       ap (λ n. image n to s) (sym l)
       ∙ kept_from 0 [] s refl (λ j q.
-        let z : j ≡ 0 + j = omega arith in
-        subst (λ x. to x ≡ x ∷ []) z (i.itself j (λ e. false_true (sym h ∙ ap (has s) (sym e) ∙ q))))
+      let z : j ≡ 0 + j = omega arith in
+      subst (λ x. to x ≡ x ∷ []) z (i.itself j (λ e. false_true (sym h ∙ ap (has s) (sym e) ∙ q))))
 
 pub kept_unless : (to : ℕ → List ℕ) (w but : ℕ) (s : Set) (r : Bool) → length s ≡ w → LeadsToItself to but → r ≡ has s but →
     OnTrue (not r) (image w to s ≡ s)

@@ -11,5 +11,5 @@ use Rattle.use_flow.proofs.scene.Scene.image_along.Given as goal
 abbrev pub invariant-loop-element : goal.invariant-loop-element
 invariant-loop-element l =
     let to = along (which_of (option_map (λ l. l.now) l.label)) (typestate_of (seen l.self).program l.call.class)
-        (text_at (seen l.self).program l.call.name.0) in
+    (text_at (seen l.self).program l.call.name.0) in
     marked (led_all to l.element-iterator) l.found ≡ image l.width to l.set
