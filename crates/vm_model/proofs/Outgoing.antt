@@ -49,7 +49,7 @@ module _ {X : Type 0} where
   below_changed (suc n) (suc to) old new list h there others =
       let first = others zero (λ e. omega arith) in
       let more = below_changed n to (λ role. old (suc role)) (λ role. new (suc role)) list (omega arith) there
-          (λ role apart. others (suc role) (λ e. apart (omega arith))) in
+      (λ role apart. others (suc role) (λ e. apart (omega arith))) in
       cc
 
   -- and nothing where there is no such role
@@ -81,6 +81,7 @@ module _ {Q X S : Type 0} (f : Q → List X) where
     where
       at : (b : Bool) → nat_eq to role ≡ b → list_to f new role ≡ list_in f (cond b (Some queue) (get nat_eq old role))
       at b e = ap (list_in f) (h.0 role ∙ ap (λ v. cond v (Some queue) (get nat_eq old role)) e)
+
       go : (b : Bool) → nat_eq to role ≡ b → list_to f new role ≡ list_to f old role
       go true e = at true e ∙ is ∙ ap (list_to f old) (eqb-true to role e)
       go false e = at false e

@@ -20,10 +20,7 @@ pub struct Ports {
 // One call lets go of it, wherever a function ends.
 impl Drop for Ports {
     fn drop(self) {
-        let Ports {
-            roles: _,
-            sent: _,
-        } = self;
+        let Ports { roles: _, sent: _ } = self;
     }
 }
 

@@ -9,7 +9,7 @@ returns-then-to-count-clause-ok c =
     rw (← c.self.view_is)
     (on_ok
     (λ h. lists_changed c.self.inside.count c.args.to (list_to (λ queue. queue.items) c.self.inside.queues)
-        (list_to (λ queue. queue.items) c.append_to.new.queues) (λ l. l ++ c.args.message ∷ []) (search rules) h)
+    (list_to (λ queue. queue.items) c.append_to.new.queues) (λ l. l ++ c.args.message ∷ []) (search rules) h)
     c.append_to.result c.append_to.ensures.ok)
 
 pub returns-then-to-count-clause-err : goal.returns-then-to-count-clause-err
@@ -17,7 +17,7 @@ returns-then-to-count-clause-err c =
     rw (← c.self.view_is)
     (on_err
     (λ h. below_same c.self.inside.count (list_to (λ queue. queue.items) c.self.inside.queues)
-        (list_to (λ queue. queue.items) c.append_to.new.queues) h)
+    (list_to (λ queue. queue.items) c.append_to.new.queues) h)
     c.append_to.result c.append_to.ensures.err)
 
 pub returns-clause-ok : goal.returns-clause-ok
