@@ -113,8 +113,10 @@ impl Outbox {
         if to >= self.count {
             return None;
         }
-        let queue = self.queues.get(&to)?;
-        queue.front()
+        match self.queues.get(&to) {
+            Some(queue) => queue.front(),
+            None => None,
+        }
     }
 
     /// Sends a message to a role, if there is one of that number. After an error nothing has changed.

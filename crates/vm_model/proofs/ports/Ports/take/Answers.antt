@@ -1,4 +1,4 @@
-use Rattle.std.proofs.Common.{arith, rules, ◌∙◌, ap, sym, drop, slice_get, length}
+use Rattle.std.proofs.Common.{arith, rules, ◌∙◌, ◌≤◌, ap, sym, drop, slice_get, length}
 use Rattle.std.proofs.lemmas.Grind.{common_steps}
 use Rattle.std.proofs.lemmas.Option.{slice_get_past}
 use Rattle.vm_model.specs.Messages.{Messages, or_nothing}
@@ -20,7 +20,10 @@ returns-then-from-len-clause-first c =
     (sym (row_at c.self.inside.sent.items c.args.from c.index_mut-outbox.result.now (search rules) c.index_mut-outbox.ensures.value)))
 
 pub returns-else-from-len-clause-first : goal.returns-else-from-len-clause-first
-returns-else-from-len-clause-first c = grind (arith, common_steps)
+returns-else-from-len-clause-first c =
+    let past : length c.self.inside.sent.items ≤ c.args.from = search rules in
+    rw (← c.self.view_is)
+    (sym (ap (λ o. slice_get (or_nothing (slice_get (or_nothing o) c.args.to)) 0) (slice_get_past c.self.inside.sent.items c.args.from past)))
 
 pub returns-else-from-len-clause-list : goal.returns-else-from-len-clause-list
 returns-else-from-len-clause-list c = grind (arith, common_steps)
