@@ -1,8 +1,11 @@
 -- The lists to all roles, of those that a map has.
 use Rattle.std.proofs.Common.{◌≡◌, ◌≢◌, ℕ, zero, suc, ◌+◌, ◌<◌, ◌≤◌, List, [], ◌∷◌, length, replicate, Option, Some, None, slice_get, set}
 use Rattle.std.proofs.Common.{get_or, nat_eq, Bool, true, false, cond, refl, sym, ap, ◌∙◌, arith}
+use Rattle.std.specs.Prelude.{option_map}
+use Rattle.std.specs.Borrow.{Bor}
+use Rattle.std.specs.Slice.{IsItemAt}
 use Rattle.std.proofs.lemmas.Bool.{ne_eqb, eqb-true}
-use Rattle.std.proofs.lemmas.Option.{slice_get_past}
+use Rattle.std.proofs.lemmas.Option.{slice_get_past, slice_get_read}
 use Rattle.std.proofs.lemmas.List.{set_past, set-get_or}
 use Rattle.std.specs.HashMap.{HashMap, get, get_by, Updates}
 use Rattle.vm_model.specs.Messages.{or_nothing}
@@ -104,3 +107,8 @@ row_changed rows i to old row change h e same =
 pub row_kept : {X : Type 0} (rows : List (List (List X))) (i : ℕ) (old row : List (List X)) → old ≡ get_or rows i old → row ≡ old →
     set rows i row ≡ rows
 row_kept rows i old row e same = ap (set rows i) (same ∙ e) ∙ set-get_or rows i old
+
+-- what `front` lends is the first of the queue, where it has one
+pub front_given : {X : Type 0} (xs : List X) (r : Option (Bor X)) → IsItemAt xs 0 r → option_map (λ x. x.now) r ≡ slice_get xs 0
+front_given xs None h = sym (slice_get_past xs 0 h.3)
+front_given xs (Some x) h = sym (slice_get_read xs (length xs) 0 x.now refl h.3.0 h.1)

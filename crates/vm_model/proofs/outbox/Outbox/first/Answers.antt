@@ -1,7 +1,6 @@
-use Rattle.std.proofs.Common.{◌≡◌, ap, sym, ◌∙◌, slice_get, rules}
-use Rattle.std.specs.Prelude.{option_map}
+use Rattle.std.proofs.Common.{ap, sym, ◌∙◌, slice_get, rules}
 use Rattle.vm_model.specs.Outboxes.{list_in, list_to}
-use Rattle.vm_model.proofs.Outgoing.{below_at, below_past}
+use Rattle.vm_model.proofs.Outgoing.{below_at, below_past, front_given}
 use Rattle.vm_model.proofs.outbox.Outbox.first.Goals as goal
 
 pub returns-then-to-self : goal.returns-then-to-self
@@ -18,7 +17,7 @@ returns-in-None c =
 
 pub returns-in-Some : goal.returns-in-Some
 returns-in-Some c =
-    let first : option_map (λ m. m.now) c.front.result ≡ slice_get c.in-Some.queue.now.items 0 = search rules in
     rw (← c.self.view_is)
-    (first ∙ ap (λ l. slice_get l 0) (ap (list_in (λ queue. queue.items)) c.in-Some.ensures.value
+    (front_given c.in-Some.queue.now.items c.front.result c.front.ensures.item
+    ∙ ap (λ l. slice_get l 0) (ap (list_in (λ queue. queue.items)) c.in-Some.ensures.value
     ∙ sym (below_at c.self.inside.count c.args.to (list_to (λ queue. queue.items) c.self.inside.queues) (search rules))))
