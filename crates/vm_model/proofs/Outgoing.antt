@@ -1,5 +1,5 @@
 -- The lists to all roles, of those that a map has.
-use Rattle.std.proofs.Common.{◌≡◌, ◌≢◌, ℕ, zero, suc, ◌+◌, ◌<◌, ◌≤◌, List, [], ◌∷◌, length, replicate, Option, Some, None, slice_get, set}
+use Rattle.std.proofs.Common.{◌≡◌, ◌≢◌, ℕ, zero, suc, ◌<◌, ◌≤◌, List, [], ◌∷◌, length, replicate, Option, Some, None, slice_get, set}
 use Rattle.std.proofs.Common.{get_or, nat_eq, Bool, true, false, cond, refl, sym, ap, ◌∙◌, arith}
 use Rattle.std.specs.Prelude.{option_map}
 use Rattle.std.specs.Borrow.{Bor}
@@ -7,7 +7,7 @@ use Rattle.std.specs.Slice.{IsItemAt}
 use Rattle.std.proofs.lemmas.Bool.{ne_eqb, eqb-true}
 use Rattle.std.proofs.lemmas.Option.{slice_get_past, slice_get_read}
 use Rattle.std.proofs.lemmas.List.{set_past, set-get_or}
-use Rattle.std.specs.HashMap.{HashMap, get, get_by, Updates}
+use Rattle.std.specs.HashMap.{HashMap, get, Updates}
 use Rattle.vm_model.specs.Messages.{or_nothing}
 use Rattle.vm_model.specs.Outboxes.{list_in, list_to, lists_below, ChangesList}
 

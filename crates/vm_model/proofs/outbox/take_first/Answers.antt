@@ -1,4 +1,4 @@
-use Rattle.std.proofs.Common.{ap, sym, ◌∙◌, drop, slice_get, rules}
+use Rattle.std.proofs.Common.{ap, ◌∙◌, drop, slice_get, rules}
 use Rattle.vm_model.specs.Outboxes.{list_in}
 use Rattle.vm_model.proofs.Queues.{first_given}
 use Rattle.vm_model.proofs.Outgoing.{queue_changed}
