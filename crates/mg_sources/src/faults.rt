@@ -21,28 +21,11 @@ pub fn stop_of_protocol(fault: ScrFault) -> Stop
         ScrFault::BadByte { place } => Stop::at("BadByte", place),
         ScrFault::Unsupported { place, name } => Stop::named("Unsupported", place, name),
         ScrFault::Syntax { place } => Stop::at("Syntax", place),
-        ScrFault::DuplicateName { place, name } => Stop::named("DuplicateName", place, name),
-        ScrFault::UnknownRole { place, name } => Stop::named("UnknownRole", place, name),
-        ScrFault::PeerIsSelf { place } => Stop::at("PeerIsSelf", place),
-        ScrFault::UnknownType { place, name } => Stop::named("UnknownType", place, name),
-        ScrFault::PayloadCount { place } => Stop::at("PayloadCount", place),
-        ScrFault::UnknownRec { place, name } => Stop::named("UnknownRec", place, name),
-        ScrFault::DuplicateRec { place, name } => Stop::named("DuplicateRec", place, name),
-        ScrFault::Unguarded { place, name } => Stop::named("Unguarded", place, name),
-        ScrFault::Unreachable { place } => Stop::at("Unreachable", place),
-        ScrFault::BranchStart { place } => Stop::at("BranchStart", place),
-        ScrFault::MixedChoice { place } => Stop::at("MixedChoice", place),
-        ScrFault::SameLabel { place, name } => Stop::named("SameLabel", place, name),
-        ScrFault::ReservedLabel { place, name } => Stop::named("ReservedLabel", place, name),
-        ScrFault::NameClash { place, name } => Stop::named("NameClash", place, name),
-        ScrFault::TooManyStates { place } => Stop::at("TooManyStates", place),
-        ScrFault::UnknownProtocol { place, name } => Stop::named("UnknownProtocol", place, name),
-        ScrFault::DuplicateProtocol { place, name } => {
-            Stop::named("DuplicateProtocol", place, name)
-        }
-        ScrFault::RolesDiffer { place, name } => Stop::named("RolesDiffer", place, name),
-        ScrFault::NotLast { place, name } => Stop::named("NotLast", place, name),
-        ScrFault::StartsWithDo { place, name } => Stop::named("StartsWithDo", place, name),
+        ScrFault::Unmet {
+            condition,
+            place,
+            name,
+        } => Stop::named(condition.word(), place, name),
         ScrFault::Memory => Stop::Memory,
     }
 }

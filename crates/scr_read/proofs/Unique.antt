@@ -11,7 +11,7 @@ use Rattle.scr_read.proofs.Once as once
 use Rattle.scr_read.proofs.Once.{Got, Large, Bad, Word, NoTree, Fault, Tree, Spelled, Comes}
 use Rattle.scr_read.specs.Unsupported.{IsUnsupported, unsupported_word}
 use Rattle.scr_read.specs.Spelling.{Spells}
-use Rattle.scr_read.specs.Outcome.{Answer, Protocol, TooLarge, BadByte, Unsupported, Syntax, Refused, told, Outcome, too_large, bad_byte}
+use Rattle.scr_read.specs.Outcome.{Answer, Protocol, TooLarge, BadByte, Unsupported, Syntax, Refused, Outcome, too_large, bad_byte}
 use Rattle.scr_read.specs.Outcome.{unsupported, syntax, refused, found}
 use Rattle.scr_read.proofs.Sought.{single}
 
@@ -21,7 +21,7 @@ answer_at file bytes Large = TooLarge (start_of file)
 answer_at file bytes (Bad k) = BadByte (place_after (start_of file) (take k bytes))
 answer_at file bytes (Word place word) = Unsupported place word
 answer_at file bytes NoTree = Syntax
-answer_at file bytes (Fault condition place name) = Refused condition place (told condition name)
+answer_at file bytes (Fault condition place name) = Refused condition place name
 answer_at file bytes (Tree w) = Protocol (local_of w)
 
 module _ (file : ℕ) (bytes : List ℕ) where
