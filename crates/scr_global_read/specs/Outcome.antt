@@ -14,7 +14,8 @@ use Rattle.scr_global_tree.specs.Tree.{GlobalTree}
 use Rattle.scr_global_tree.specs.Written.{WrittenTree, global_of}
 use Rattle.scr_global_tree.specs.Faults.{IsFault}
 use Rattle.scr_lex.specs.Pieces.{IsBadAt}
-use Rattle.scr_global_read.specs.Unsupported.{IsUnsupported}
+use Rattle.scr_read.specs.Unsupported.{IsUnsupported}
+use Rattle.scr_read.specs.declared.words.ProtocolKind.TheVariants as kinds
 use Rattle.scr_read.specs.Spelling.{Separates}
 use Rattle.scr_global_read.specs.Spelling.{Spells}
 use Rattle.scr_global_parse.specs.Grammar.{IsSpelled}
@@ -38,9 +39,9 @@ pub data Outcome (file : ℕ) (bytes : List ℕ) : Answer → Type 0 where
   bad_byte : (k : ℕ) → length bytes ≤ 1048576 → IsBadAt k bytes → Outcome file bytes (BadByte (place_after (start_of file) (take k bytes)))
   -- the first token that is a word that isn't supported
   unsupported : {tokens : List Tok} {place : Place} {word : Name} → Separates file bytes tokens
-      → Judged IsUnsupported tokens (Some (culprit place word)) → Outcome file bytes (Unsupported place word)
+      → Judged (IsUnsupported kinds.Global) tokens (Some (culprit place word)) → Outcome file bytes (Unsupported place word)
   -- no tree of depth at most 200 spells the tokens
-  syntax : {tokens : List Tok} → Separates file bytes tokens → Judged IsUnsupported tokens None
+  syntax : {tokens : List Tok} → Separates file bytes tokens → Judged (IsUnsupported kinds.Global) tokens None
       → ((w : WrittenTree) → IsSpelled w tokens → ⊥) → Outcome file bytes Syntax
   -- a condition doesn't hold
   refused : {w : WrittenTree} {condition : Condition} {place : Place} {name : Name} → Spells file bytes w
