@@ -4,7 +4,7 @@ ghost use Rattle.std.specs.Prelude.{◌≡◌, option_map};
 ghost use Rattle.mg_read.specs.Culprit.{culprit};
 ghost use Rattle.mg_read.specs.First.{Judged};
 ghost use Rattle.scr_tree.specs.Tok.{tok, toks};
-ghost use Rattle.scr_read.specs.Unsupported.{unsupported_word, IsUnsupported};
+ghost use Rattle.scr_read.specs.Unsupported.{in_local, in_global, unsupported_word, IsUnsupported};
 ghost use Rattle.scr_read.specs.inner.Finding.{word_in};
 
 use mg_text::Place;
@@ -21,16 +21,36 @@ pub enum ProtocolKind {
 fn unsupported_word(kind: ProtocolKind, mark: Mark) -> Option<&'static str>
     ensures { option_map (λ w. w.now) result ≡ unsupported_word kind mark }
 {
-    match (mark, kind) {
-        (Mark::Par, _) => Some("par"),
-        (Mark::Interruptible, _) => Some("interruptible"),
-        (Mark::Import, _) => Some("import"),
-        (Mark::Sig, _) => Some("sig"),
-        (Mark::Global, ProtocolKind::Local) => Some("global"),
-        (Mark::Do, ProtocolKind::Global) => Some("do"),
-        (Mark::Myself, ProtocolKind::Global) => Some("self"),
-        (Mark::Local, ProtocolKind::Global) => Some("local"),
+    match mark {
+        Mark::Par => Some("par"),
+        Mark::Interruptible => Some("interruptible"),
+        Mark::Import => Some("import"),
+        Mark::Sig => Some("sig"),
+        Mark::Global => in_local(kind, "global"),
+        Mark::Do => in_global(kind, "do"),
+        Mark::Myself => in_global(kind, "self"),
+        Mark::Local => in_global(kind, "local"),
         _ => None,
+    }
+}
+
+// The word, in a local protocol.
+fn in_local(kind: ProtocolKind, word: &'static str) -> Option<&'static str>
+    ensures { option_map (λ w. w.now) result ≡ in_local kind word.now }
+{
+    match kind {
+        ProtocolKind::Local => Some(word),
+        ProtocolKind::Global => None,
+    }
+}
+
+// The word, in a global protocol.
+fn in_global(kind: ProtocolKind, word: &'static str) -> Option<&'static str>
+    ensures { option_map (λ w. w.now) result ≡ in_global kind word.now }
+{
+    match kind {
+        ProtocolKind::Local => None,
+        ProtocolKind::Global => Some(word),
     }
 }
 

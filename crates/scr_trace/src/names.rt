@@ -22,7 +22,8 @@ pub fn label_call_name(
 ) -> Result<Text, Memory>
     ensures { IfOk result (λ t. t ≡ label_call (tree_of local.now).me number peer.now) }
 {
-    label_call(alloc, local.me().as_str(), number, peer)
+    let name = label_call(alloc, local.me().as_str(), number, peer)?;
+    Ok(name)
 }
 
 /// Whether this is the name of the method that sends or receives a message. No name is made.
