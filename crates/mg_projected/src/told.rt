@@ -21,7 +21,7 @@ use crate::fault::ProjectedFault;
 use crate::files::{RoleFile, projected};
 use crate::locals::{Locals, found_in};
 use mg_refusal::Stop;
-use mg_sources::stop_of_protocol;
+use mg_sources::{stop_of_condition, stop_of_protocol};
 use mg_text::{Bytes, List, Memory, Place, Text};
 use scr_global_read::GlobalFault;
 use scr_project::ProjectFault;
@@ -113,7 +113,7 @@ fn stop_of_global(fault: GlobalFault) -> Stop
             condition,
             place,
             name,
-        } => Stop::named(condition.word(), place, name),
+        } => stop_of_condition(condition, place, name),
         GlobalFault::Memory => Stop::Memory,
     }
 }

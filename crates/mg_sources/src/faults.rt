@@ -5,11 +5,15 @@ ghost use Rattle.scr_read.specs.Outcome.{fault_answer as protocol_answer};
 ghost use Rattle.ts_read.specs.Outcome.{answer_of as typestate_answer};
 ghost use Rattle.jv_read.specs.Outcome.{fault_answer as java_answer};
 ghost use Rattle.mg_refusal.specs.Order.{IsStopOf};
+ghost use Rattle.mg_refusal.specs.Refusals.{refusal_at};
+ghost use Rattle.scr_tree.specs.Faults.{condition_word};
 ghost use Rattle.mg_sources.specs.Reading.{IsSaidOfProtocol, IsSaidOfTypestate, IsSaidOfJava};
 
 use jv_read::JavaFault;
 use mg_refusal::Stop;
+use mg_text::{Place, Text};
 use scr_read::ScrFault;
+use scr_tree::Condition;
 use ts_read::TsFault;
 
 /// The refusal of a file of a protocol, at the place of the fault.
@@ -25,9 +29,16 @@ pub fn stop_of_protocol(fault: ScrFault) -> Stop
             condition,
             place,
             name,
-        } => Stop::named(condition.word(), place, name),
+        } => stop_of_condition(condition, place, name),
         ScrFault::Memory => Stop::Memory,
     }
+}
+
+/// The refusal by a condition that isn't met, with what is named; an empty name names nothing.
+pub fn stop_of_condition(condition: Condition, place: Place, name: Text) -> Stop
+    ensures { result ≡ Stop.Refused (refusal_at (condition_word condition) place name) }
+{
+    Stop::named(condition.word(), place, name)
 }
 
 /// The refusal of a file of a typestate.
