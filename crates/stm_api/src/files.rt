@@ -13,12 +13,13 @@ ghost use Rattle.stm_api.specs.inner.Does.{firsts_of};
 ghost use Rattle.stm_api.specs.inner.View.{doing_of, names_of};
 
 use crate::doings::{Doing, doings_of};
-use crate::methods::{call_of, choice_enum, method_of};
+use crate::methods::{call_of, method_of};
 use jv_print::print_file;
 use jv_tree::{Class, Decl, Enum, File, MethodDecl};
 use mg_text::{List, Memory, Names, Place, Text};
 use scr_tree::Local;
 use std::alloc::Global;
+use stm_gen::choice_enum;
 
 /// A file of an API: its name, what it holds, and the text of that. Places are the first of the
 /// protocol's file.

@@ -4,7 +4,7 @@ ghost use Rattle.std.specs.Prelude.{◌≡◌, IfOk, map};
 ghost use Rattle.scr_tree.specs.CallNames.{message_call};
 ghost use Rattle.scr_tree.specs.Local.{tree_of};
 ghost use Rattle.scr_tree.specs.Meaning.{message_of};
-ghost use Rattle.stm_gen.specs.Laid.{carried_type, carried_params, choice_enum};
+ghost use Rattle.stm_gen.specs.Laid.{carried_params};
 ghost use Rattle.jv_tree.specs.View.{method_of as kept_method, stmt_of};
 ghost use Rattle.stm_api.specs.Doings.{call_of};
 ghost use Rattle.stm_api.specs.Api.{method_of, method_with, look_method, send_method, take_method, value_param};
@@ -17,6 +17,7 @@ use mg_text::{List, Memory, Place, Text};
 use scr_trace::label_call_name;
 use scr_tree::{Direction, Local, Message, Payload, call_name};
 use std::alloc::Global;
+use stm_gen::{carried, choice_enum};
 use ts_tree::TypeName;
 
 /// The name of the method that does this.
@@ -124,24 +125,4 @@ fn value_params(alloc: Global, place: Place, payload: Payload) -> Result<List<Pa
     let ty = carried(payload);
     params.push(Param { place, ty, name })?;
     Ok(params)
-}
-
-// The type of what a message carries.
-fn carried(payload: Payload) -> TypeName
-    ensures { result ≡ carried_type payload }
-{
-    match payload {
-        Payload::Nothing => TypeName::Void,
-        Payload::Int => TypeName::Int,
-        Payload::Boolean => TypeName::Boolean,
-        Payload::Text => TypeName::Text,
-    }
-}
-
-/// The name of the enum whose constants are the labels of a choice.
-pub fn choice_enum(alloc: Global, me: &str, number: u32) -> Result<Text, Memory>
-    ensures { IfOk result (λ t. t ≡ choice_enum me.now number) }
-{
-    let name = format!(in alloc; "{me}Choice{number}")?;
-    Ok(Text::from_string(name))
 }
