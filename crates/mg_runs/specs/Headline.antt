@@ -1,6 +1,6 @@
 -- The headline: how several roles run the program that some files are. Each role's run of the class bytes has the events and the ending of
--- the
--- source's meaning on the messages that were sent to it, and keeps to the typestates.
+-- the source's meaning on the messages that were sent to it, or where it is cut off, as at the bound, a prefix of these events; and it
+-- keeps to the typestates.
 use Rattle.std.specs.Prelude.{◌≡◌, ◌≢◌, ℕ, suc, List, map, Some, slice_get, Contains}
 use Rattle.mg_text.specs.Call.{Name}
 use Rattle.mg_text.specs.declared.event.Event.{Event}
@@ -131,9 +131,8 @@ pub record IsRun (files : List Source) (mains : List RoleMain) (order : List ℕ
   -- after every list of turns each role did what is meant, on the messages that were sent to it
   pub meant : (taken : List ℕ) → AreMeant accepted.have.program mains run.program (turns run.program run.first taken)
   pub does : DoAsMeant accepted.have.program mains run.program
-  -- and keeps to the typestates: no null is dereferenced, the calls of each object are a path, and a role that returns leaves each at its
-  -- end
-  -- or at a state marked drop
+  -- and keeps to the typestates: no null is dereferenced, the calls of each object are a path, and a role that returns leaves each at
+  -- its end or at a state marked drop
   pub keep : (taken : List ℕ) → EachKeeps accepted.have.program mains (turns run.program run.first taken)
   pub meanings : MeaningsKeep accepted.have.program mains
   -- and its objects do their part: their acts are steps of the protocols that their classes are generated of
