@@ -9,15 +9,24 @@ use scr_tree::Condition;
 #[derive(Debug, Drop)]
 pub enum GlobalFault {
     /// The file holds over 1,048,576 bytes. The place is the file's start.
-    TooLarge { place: Place },
+    TooLarge {
+        place: Place,
+    },
     /// A byte starts no token or separator, a comment or text isn't closed, a name is over 255
     /// bytes long, or the bytes aren't UTF-8.
-    BadByte { place: Place },
+    BadByte {
+        place: Place,
+    },
     /// A token is a word that isn't supported in a global protocol.
-    Unsupported { place: Place, name: Text },
+    Unsupported {
+        place: Place,
+        name: Text,
+    },
     /// No tree with statements at most 200 deep spells the tokens. The place is the first token
     /// that can't stand there, or just behind the last byte.
-    Syntax { place: Place },
+    Syntax {
+        place: Place,
+    },
     /// The tree doesn't meet a condition. `name` is empty where the condition names nothing.
     Unmet {
         condition: Condition,

@@ -19,7 +19,11 @@ use scr_tree::{Condition, Written, WrittenPart};
 use std::alloc::Global;
 
 /// The first culprit of the protocols of a file, in the order of the text.
-pub fn find_own(alloc: Global, condition: Condition, written: &Written) -> Result<Option<Named>, Memory>
+pub fn find_own(
+    alloc: Global,
+    condition: Condition,
+    written: &Written,
+) -> Result<Option<Named>, Memory>
     ensures { IfOk result (λ n. FirstIn (λ p. OfOwn condition (part_written p)) (all_parts written.now) (named_of n)) }
 {
     match judge_own(alloc, condition, &written.first)? {
@@ -29,7 +33,11 @@ pub fn find_own(alloc: Global, condition: Condition, written: &Written) -> Resul
 }
 
 // The same of protocols behind the first.
-fn find_own_in(alloc: Global, condition: Condition, parts: &[WrittenPart]) -> Result<Option<Named>, Memory>
+fn find_own_in(
+    alloc: Global,
+    condition: Condition,
+    parts: &[WrittenPart],
+) -> Result<Option<Named>, Memory>
     ensures { IfOk result (λ n. FirstIn (λ p. OfOwn condition (part_written p)) parts.now (named_of n)) }
 {
     for part in parts {
@@ -41,7 +49,11 @@ fn find_own_in(alloc: Global, condition: Condition, parts: &[WrittenPart]) -> Re
 }
 
 // The first culprit of one protocol.
-fn judge_own(alloc: Global, condition: Condition, part: &WrittenPart) -> Result<Option<Named>, Memory>
+fn judge_own(
+    alloc: Global,
+    condition: Condition,
+    part: &WrittenPart,
+) -> Result<Option<Named>, Memory>
     ensures { IfOk result (λ n. OfOwn condition (part_written part.now) (named_of n)) }
 {
     let me = &part.me.name;
