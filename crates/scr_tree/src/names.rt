@@ -12,13 +12,20 @@ use std::alloc::Global;
 pub fn call_name(alloc: Global, message: &Message) -> Result<Text, Memory>
     ensures { IfOk result (λ t. t ≡ message_call (message_of message.now)) }
 {
-    let mut name = String::new(alloc);
+    let room = name_room(message.label.as_str().len(), message.peer.as_str().len());
+    let mut name = String::with_capacity(alloc, room)?;
     name.push_str(start_of(message.direction))?;
     name.push_str(message.label.as_str())?;
     name.push_str(payload_part(message.payload))?;
     name.push_str(way_of(message.direction))?;
     name.push_str(message.peer.as_str())?;
     Ok(Text::from_string(name))
+}
+
+// Room for a call's name, so that it is made in one piece: its longest other parts are "receive_", "Boolean" and
+// "From".
+fn name_room(label: usize, peer: usize) -> usize {
+    label.saturating_add(peer).saturating_add(19)
 }
 
 // How a call's name begins.
