@@ -15,7 +15,7 @@ ghost use Rattle.scr_tree.specs.View.{bodies};
 use crate::culprit::Culprit;
 use crate::seen::{add_name, no_names};
 use mg_text::{List, Memory, Text};
-use scr_tree::{Message, Statement, call_string};
+use scr_tree::{Message, Statement, call_name};
 use std::alloc::Global;
 use std::collections::HashSet;
 
@@ -116,7 +116,8 @@ fn key_of(alloc: Global, me: &Text, at: &Text, message: &Message) -> Result<Stri
     ensures { IfOk result (λ k. string_bytes k ≡ key me.now at.now message.now) }
 {
     if *at == *me {
-        call_string(alloc, message)
+        let name = call_name(alloc, message)?;
+        Ok(String::from_str(alloc, name.as_str())?)
     } else {
         Ok(String::from_str(alloc, message.label.as_str())?)
     }

@@ -1,6 +1,6 @@
 //! The names of the calls that stand for messages.
 
-ghost use Rattle.std.specs.Prelude.{◌≡◌, IfOk, string_bytes};
+ghost use Rattle.std.specs.Prelude.{◌≡◌, IfOk};
 ghost use Rattle.scr_tree.specs.CallNames.{message_call, payload_part, start_of, way_of};
 ghost use Rattle.scr_tree.specs.Meaning.{message_of};
 
@@ -12,14 +12,6 @@ use std::alloc::Global;
 pub fn call_name(alloc: Global, message: &Message) -> Result<Text, Memory>
     ensures { IfOk result (λ t. t ≡ message_call (message_of message.now)) }
 {
-    let name = call_string(alloc, message)?;
-    Ok(Text::from_string(name))
-}
-
-/// The same name, as a string.
-pub fn call_string(alloc: Global, message: &Message) -> Result<String, Memory>
-    ensures { IfOk result (λ t. string_bytes t ≡ message_call (message_of message.now)) }
-{
     let room = name_room(message.label.as_str().len(), message.peer.as_str().len());
     let mut name = String::with_capacity(alloc, room)?;
     name.push_str(start_of(message.direction))?;
@@ -27,7 +19,7 @@ pub fn call_string(alloc: Global, message: &Message) -> Result<String, Memory>
     name.push_str(payload_part(message.payload))?;
     name.push_str(way_of(message.direction))?;
     name.push_str(message.peer.as_str())?;
-    Ok(name)
+    Ok(Text::from_string(name))
 }
 
 // Room for a call's name, so that it is made in one piece: its longest other parts are "receive_", "Boolean" and
