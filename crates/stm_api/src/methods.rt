@@ -1,7 +1,7 @@
 //! The methods of an API class: one for each call of the role.
 
 ghost use Rattle.std.specs.Prelude.{◌≡◌, IfOk, map};
-ghost use Rattle.scr_tree.specs.CallNames.{message_call};
+ghost use Rattle.scr_tree.specs.CallNames.{message_call, label_call};
 ghost use Rattle.scr_tree.specs.Local.{tree_of};
 ghost use Rattle.scr_tree.specs.Meaning.{message_of};
 ghost use Rattle.stm_gen.specs.Laid.{carried_params};
@@ -30,44 +30,56 @@ pub fn call_of(alloc: Global, local: &Local, doing: &Doing<'_>) -> Result<Text, 
     }
 }
 
-/// The method that does this.
+/// The method of this name that does this.
 #[tactic(auto, using(crate::proofs::Made::messages))]
 pub fn method_of(
     alloc: Global,
     local: &Local,
     place: Place,
+    name: Text,
     doing: &Doing<'_>,
 ) -> Result<MethodDecl, Memory>
+    requires { name ≡ call_of (tree_of local.now).me (doing_of doing.now) }
     ensures { IfOk result (λ m. kept_method m ≡ method_of place (tree_of local.now).me (doing_of doing.now)) }
 {
     match doing {
         Doing::Passes(message) => match message.direction {
-            Direction::To => send_method(alloc, place, message),
-            Direction::From => take_method(alloc, place, message),
+            Direction::To => send_method(alloc, place, name, message),
+            Direction::From => take_method(alloc, place, name, message),
         },
         Doing::Asks(number, peer, labels) => {
-            look_method(alloc, local, place, *number, peer, labels.as_slice())
+            look_method(alloc, local, place, name, *number, peer, labels.as_slice())
         }
     }
 }
 
 // The method that sends a message.
-fn send_method(alloc: Global, place: Place, message: &Message) -> Result<MethodDecl, Memory>
+fn send_method(
+    alloc: Global,
+    place: Place,
+    name: Text,
+    message: &Message,
+) -> Result<MethodDecl, Memory>
+    requires { name ≡ message_call (message_of message.now) }
     ensures { IfOk result (λ m. kept_method m ≡ send_method place (message_call (message_of message.now)) message.now.peer message.now.label
         message.now.payload) }
 {
-    let name = call_name(alloc, message)?;
     let params = value_params(alloc, place, message.payload)?;
     let body = send_body(alloc, place, message)?;
     Ok(method(place, TypeName::Void, name, params, body))
 }
 
 // The method that takes a message, and answers what it carries.
-fn take_method(alloc: Global, place: Place, message: &Message) -> Result<MethodDecl, Memory>
+fn take_method(
+    alloc: Global,
+    place: Place,
+    name: Text,
+    message: &Message,
+) -> Result<MethodDecl, Memory>
+    requires { name ≡ message_call (message_of message.now) }
     ensures { IfOk result (λ m. kept_method m ≡ take_method place (message_call (message_of message.now)) message.now.peer message.now.label
         message.now.payload) }
 {
-    let name = call_name(alloc, message)?;
     let body = take_body(alloc, place, message)?;
     let result = carried(message.payload);
     Ok(method(place, result, name, List::new(alloc), body))
@@ -78,13 +90,14 @@ fn look_method(
     alloc: Global,
     local: &Local,
     place: Place,
+    name: Text,
     number: u32,
     peer: &Text,
     labels: &[&Text],
 ) -> Result<MethodDecl, Memory>
+    requires { name ≡ label_call (tree_of local.now).me number peer.now }
     ensures { IfOk result (λ m. kept_method m ≡ look_method place (tree_of local.now).me number peer.now (names_of labels.now)) }
 {
-    let name = label_call_name(alloc, local, number, peer.as_str())?;
     let answers = choice_enum(alloc, local.me().as_str(), number)?;
     let body = look_body(alloc, place, answers.as_str(), peer.as_str(), labels)?;
     let result = TypeName::Named(answers);
