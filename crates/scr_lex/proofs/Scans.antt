@@ -54,6 +54,8 @@ spaces_passed file bytes ts place offset rest n is within h =
     let run = span_is is_space rest in
     let long : length (take n rest) ≡ n = length-take-le n rest within in
     let passes : AllPasses is_space (take n rest) = rw is run.passes in
-    let parts : rest ≡ take n rest ++ drop n rest = rw is run.parts in
-    (subst (λ (k : ℕ). Reached file bytes ts (place_after place (take n rest)) (offset + k) (drop n rest)) long
-    (spaces_more file bytes ts place offset rest (take n rest) (drop n rest) passes parts h), long)
+    let parts : rest ≡ take n rest ++ drop n rest = rw is run.parts in (
+      subst (λ (k : ℕ). Reached file bytes ts (place_after place (take n rest)) (offset + k) (drop n rest)) long
+          (spaces_more file bytes ts place offset rest (take n rest) (drop n rest) passes parts h),
+      long,
+    )
