@@ -59,6 +59,6 @@ spaces_passed file bytes ts place offset rest n is within h =
     let passes : AllPasses is_space (take n rest) = rw is run.passes in
     let parts : rest ≡ take n rest ++ drop n rest = rw is run.parts in (
       subst (λ (k : ℕ). Reached file bytes ts (place_after place (take n rest)) (offset + k) (drop n rest)) long
-          (spaces_more file bytes ts place offset rest (take n rest) (drop n rest) passes parts h),
+          (spaces_more file bytes ts place offset (take n rest) (drop n rest) passes (subst (Reached file bytes ts place offset) parts h)),
       long,
     )
