@@ -6,6 +6,7 @@ ghost use Rattle.std.specs.Fmt.{decimal};
 ghost use Rattle.scr_tree.specs.CallNames.{label_call, message_call};
 ghost use Rattle.scr_tree.specs.Local.{tree_of};
 ghost use Rattle.scr_tree.specs.Meaning.{message_of};
+ghost use Rattle.scr_tree.specs.Payloads.{payload_part};
 ghost use Rattle.scr_trace.specs.inner.Joined.{joined};
 
 use mg_text::{Memory, Text};
@@ -31,7 +32,7 @@ pub fn label_call_name(
 pub fn is_message_call(method: &str, message: &Message) -> bool
     ensures { result ≡ bytes_eq method.now (message_call (message_of message.now)) }
 {
-    let payload = message.payload.part();
+    let payload = payload_part(message);
     let label = message.label.as_str();
     let peer = message.peer.as_str();
     match message.direction {
@@ -53,6 +54,13 @@ pub fn is_label_call(method: &str, me: &str, digits: &str, peer: &str) -> bool
         method.as_bytes(),
         &["receive_", me, "Choice", digits, "LabelFrom", peer],
     )
+}
+
+// The part of a call's name that tells what the message carries.
+fn payload_part(message: &Message) -> &str
+    ensures { result.now ≡ payload_part message.now.payload }
+{
+    message.payload.part()
 }
 
 // Whether a text is these pieces, one behind another.
