@@ -6,6 +6,7 @@ ghost use Rattle.std.specs.Fmt.{decimal};
 ghost use Rattle.scr_tree.specs.CallNames.{label_call, message_call};
 ghost use Rattle.scr_tree.specs.Local.{tree_of};
 ghost use Rattle.scr_tree.specs.Meaning.{message_of};
+ghost use Rattle.scr_tree.specs.Payloads.{payload_part};
 ghost use Rattle.scr_trace.specs.inner.Joined.{joined};
 
 use mg_text::{Memory, Text};
@@ -26,12 +27,19 @@ pub fn label_call_name(
     Ok(name)
 }
 
+// The part of a call's name that tells what a message carries.
+fn carried_part(message: &Message) -> &str
+    ensures { result.now ≡ payload_part message.now.payload }
+{
+    message.payload.part()
+}
+
 /// Whether this is the name of the method that sends or receives a message. No name is made.
 #[tactic(auto, using(crate::proofs::Pieces::pieces))]
 pub fn is_message_call(method: &str, message: &Message) -> bool
     ensures { result ≡ bytes_eq method.now (message_call (message_of message.now)) }
 {
-    let payload = message.payload.part();
+    let payload = carried_part(message);
     let label = message.label.as_str();
     let peer = message.peer.as_str();
     match message.direction {
