@@ -27,12 +27,19 @@ pub fn label_call_name(
     Ok(name)
 }
 
+// The part of a call's name that tells what a message carries.
+fn carried_part(message: &Message) -> &str
+    ensures { result.now ≡ payload_part message.now.payload }
+{
+    message.payload.part()
+}
+
 /// Whether this is the name of the method that sends or receives a message. No name is made.
 #[tactic(auto, using(crate::proofs::Pieces::pieces))]
 pub fn is_message_call(method: &str, message: &Message) -> bool
     ensures { result ≡ bytes_eq method.now (message_call (message_of message.now)) }
 {
-    let payload = payload_part(message);
+    let payload = carried_part(message);
     let label = message.label.as_str();
     let peer = message.peer.as_str();
     match message.direction {
