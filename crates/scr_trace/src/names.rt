@@ -63,13 +63,6 @@ pub fn is_label_call(method: &str, me: &str, digits: &str, peer: &str) -> bool
     )
 }
 
-// The part of a call's name that tells what the message carries.
-fn payload_part(message: &Message) -> &str
-    ensures { result.now ≡ payload_part message.now.payload }
-{
-    message.payload.part()
-}
-
 // Whether a text is these pieces, one behind another.
 #[tactic(auto, using(crate::proofs::Pieces::steps))]
 fn is_joined(text: &[u8], pieces: &[&str]) -> bool
