@@ -10,7 +10,8 @@ use Rattle.scr_tree.specs.declared.syntax.Payload.{Payload}
 use Rattle.scr_tree.specs.declared.syntax.Payload.TheVariants as payloads
 use Rattle.scr_tree.specs.Words.{IsName as IsRoleName}
 use Rattle.scr_tree.specs.Protocol.{Message, Send, Take}
-use Rattle.scr_tree.specs.CallNames.{payload_part, message_call, label_call}
+use Rattle.scr_tree.specs.CallNames.{message_call, label_call}
+use Rattle.scr_tree.specs.Payloads.{payload_part}
 use Rattle.ts_tree.specs.declared.parts.TypeName.TheVariants as types
 use Rattle.stm_gen.specs.Laid.{carried_type, carried_params, choice_enum}
 use Rattle.jv_tree.specs.declared.built_in.SessionCall.TheVariants as calls

@@ -106,7 +106,7 @@ impl Answer {
         }
         self.pair(between(whole, "line: ", ","), ":");
         self.pair(between(whole, "column: ", " "), ": ");
-        self.add(front(whole, " "));
+        self.add(kind_of(whole));
         let name = between(whole, "text: \"", "\"");
         if !name.is_empty() {
             self.pair(" ", name);
@@ -128,6 +128,15 @@ pub fn told<T: Debug>(alloc: Global, value: &T) -> Result<String, Memory> {
     let mut answer = Answer::new(alloc);
     answer.tell(value);
     answer.into_text()
+}
+
+// The kind of a fault that is told whole: the condition that isn't met, where it says one.
+fn kind_of(whole: &str) -> &str {
+    let condition = between(whole, "condition: ", ",");
+    if condition.is_empty() {
+        return front(whole, " ");
+    }
+    condition
 }
 
 // What stands in a text between two others.

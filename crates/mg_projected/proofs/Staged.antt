@@ -33,18 +33,7 @@ says_unread (global_faults.TooLarge place) = some_unread _ _ refl tt
 says_unread (global_faults.BadByte place) = some_unread _ _ refl tt
 says_unread (global_faults.Unsupported place name) = some_unread _ _ refl tt
 says_unread (global_faults.Syntax place) = some_unread _ _ refl tt
-says_unread (global_faults.DuplicateName place name) = some_unread _ _ refl tt
-says_unread (global_faults.UnknownRole place name) = some_unread _ _ refl tt
-says_unread (global_faults.PeerIsSelf place) = some_unread _ _ refl tt
-says_unread (global_faults.UnknownType place name) = some_unread _ _ refl tt
-says_unread (global_faults.PayloadCount place) = some_unread _ _ refl tt
-says_unread (global_faults.UnknownRec place name) = some_unread _ _ refl tt
-says_unread (global_faults.DuplicateRec place name) = some_unread _ _ refl tt
-says_unread (global_faults.Unguarded place name) = some_unread _ _ refl tt
-says_unread (global_faults.Unreachable place) = some_unread _ _ refl tt
-says_unread (global_faults.BranchStart place) = some_unread _ _ refl tt
-says_unread (global_faults.MixedChoice place) = some_unread _ _ refl tt
-says_unread (global_faults.SameLabel place name) = some_unread _ _ refl tt
+says_unread (global_faults.Unmet condition place name) = some_unread _ _ refl tt
 says_unread global_faults.Memory = record { right = λ a h. absurd (none_is_not a h); answers = λ h. refl }
 
 module _ (file : ℕ) (bytes : List ℕ) where

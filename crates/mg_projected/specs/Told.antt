@@ -2,35 +2,18 @@
 use Rattle.std.specs.Prelude.{◌≡◌, ℕ, List, [], ◌∷◌, ◌++◌, codes, map}
 use Rattle.mg_text.specs.Call.{Name}
 use Rattle.mg_text.specs.declared.place.Place.{Place}
+use Rattle.scr_tree.specs.Faults.{condition_word}
 use Rattle.scr_tree.specs.Tree.{LocalTree}
 use Rattle.scr_read.specs.Outcome as scr
-use Rattle.scr_global_tree.specs.declared.condition.GlobalCondition.{GlobalCondition}
-use Rattle.scr_global_tree.specs.declared.condition.GlobalCondition.TheVariants as conditions
 use Rattle.scr_global_tree.specs.Tree.{GlobalTree}
 use Rattle.scr_global_read.specs.Outcome as reads
 use Rattle.scr_project.specs.Laws.{AreProjected}
 use Rattle.scr_project.specs.Outcome as projects
-use Rattle.mg_refusal.specs.Refusals.{Refusal, refusal_at, name_or_none}
+use Rattle.mg_refusal.specs.Refusals.{Refusal, refusal_at}
 use Rattle.mg_refusal.specs.Order.{InFile}
 use Rattle.mg_sources.specs.Files.{Source}
-use Rattle.mg_sources.specs.Words.{protocol_word}
 use Rattle.mg_projected.specs.declared.files.RoleFile.{RoleFile}
 use Rattle.mg_projected.specs.Projected.{Answer, Files, Unread, Unprojected, Outcome, IsProjected}
-
--- the word for each condition of a global protocol
-abbrev pub global_word : GlobalCondition → List ℕ
-global_word conditions.DuplicateName = codes "DuplicateName"
-global_word conditions.UnknownRole = codes "UnknownRole"
-global_word conditions.PeerIsSelf = codes "PeerIsSelf"
-global_word conditions.UnknownType = codes "UnknownType"
-global_word conditions.PayloadCount = codes "PayloadCount"
-global_word conditions.UnknownRec = codes "UnknownRec"
-global_word conditions.DuplicateRec = codes "DuplicateRec"
-global_word conditions.Unguarded = codes "Unguarded"
-global_word conditions.Unreachable = codes "Unreachable"
-global_word conditions.BranchStart = codes "BranchStart"
-global_word conditions.MixedChoice = codes "MixedChoice"
-global_word conditions.SameLabel = codes "SameLabel"
 
 -- What is said of an answer that is a refusal; the place of Syntax is left open.
 
@@ -40,14 +23,14 @@ IsSaidOfGlobal (reads.TooLarge place) r = r ≡ refusal_at (codes "TooLarge") pl
 IsSaidOfGlobal (reads.BadByte place) r = r ≡ refusal_at (codes "BadByte") place []
 IsSaidOfGlobal (reads.Unsupported place word) r = r ≡ refusal_at (codes "Unsupported") place word
 IsSaidOfGlobal reads.Syntax r = (place : Place) × (r ≡ refusal_at (codes "Syntax") place [])
-IsSaidOfGlobal (reads.Refused condition place name) r = r ≡ refusal_at (global_word condition) place (name_or_none name)
+IsSaidOfGlobal (reads.Refused condition place name) r = r ≡ refusal_at (condition_word condition) place name
 
 -- behind a role that has no local protocol stands the condition that what it does doesn't meet
 abbrev pub IsSaidOfProjection : projects.Answer → Refusal → Type 0
 IsSaidOfProjection (projects.Protocol local) r = ⊥
 IsSaidOfProjection (projects.NotMergeable place role) r = r ≡ refusal_at (codes "NotMergeable") place role
 IsSaidOfProjection (projects.Unprojected place role (scr.Refused condition at name)) r =
-    r ≡ refusal_at (codes "Unprojected") place (role ++ codes " " ++ protocol_word condition)
+    r ≡ refusal_at (codes "Unprojected") place (role ++ codes " " ++ condition_word condition)
 IsSaidOfProjection (projects.Unprojected place role _) r = ⊥
 
 abbrev pub IsSaid : Answer → Refusal → Type 0

@@ -21,7 +21,7 @@ use crate::fault::ProjectedFault;
 use crate::files::{RoleFile, projected};
 use crate::locals::{Locals, found_in};
 use mg_refusal::Stop;
-use mg_sources::stop_of_protocol;
+use mg_sources::{stop_of_condition, stop_of_protocol};
 use mg_text::{Bytes, List, Memory, Place, Text};
 use scr_global_read::GlobalFault;
 use scr_project::ProjectFault;
@@ -109,18 +109,11 @@ fn stop_of_global(fault: GlobalFault) -> Stop
         GlobalFault::BadByte { place } => Stop::at("BadByte", place),
         GlobalFault::Unsupported { place, name } => Stop::named("Unsupported", place, name),
         GlobalFault::Syntax { place } => Stop::at("Syntax", place),
-        GlobalFault::DuplicateName { place, name } => Stop::named("DuplicateName", place, name),
-        GlobalFault::UnknownRole { place, name } => Stop::named("UnknownRole", place, name),
-        GlobalFault::PeerIsSelf { place } => Stop::at("PeerIsSelf", place),
-        GlobalFault::UnknownType { place, name } => Stop::named("UnknownType", place, name),
-        GlobalFault::PayloadCount { place } => Stop::at("PayloadCount", place),
-        GlobalFault::UnknownRec { place, name } => Stop::named("UnknownRec", place, name),
-        GlobalFault::DuplicateRec { place, name } => Stop::named("DuplicateRec", place, name),
-        GlobalFault::Unguarded { place, name } => Stop::named("Unguarded", place, name),
-        GlobalFault::Unreachable { place } => Stop::at("Unreachable", place),
-        GlobalFault::BranchStart { place } => Stop::at("BranchStart", place),
-        GlobalFault::MixedChoice { place } => Stop::at("MixedChoice", place),
-        GlobalFault::SameLabel { place, name } => Stop::named("SameLabel", place, name),
+        GlobalFault::Unmet {
+            condition,
+            place,
+            name,
+        } => stop_of_condition(condition, place, name),
         GlobalFault::Memory => Stop::Memory,
     }
 }

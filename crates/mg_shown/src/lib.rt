@@ -5,12 +5,12 @@
 ghost use Rattle.mg_shown.specs.Computed.{ExamplesShow};
 ghost use Rattle.mg_shown.specs.Shown.{OneShown};
 
-mod listed;
-mod seen;
+pub mod listed;
+pub mod seen;
 mod shown;
 mod sites;
 
-pub use shown::show;
+pub use shown::{show, variable_text};
 
 /// The lines are computed on worked programs. The function carries a law.
 pub fn examples_show()

@@ -10,7 +10,7 @@ use std::alloc::Global;
 use use_sights::Site;
 
 /// The calls of a program, by file and then by place; calls at one place stand in the order of the text.
-pub(crate) fn listed(alloc: Global, core: &Core) -> Result<Vec<Site>, Memory>
+pub fn listed(alloc: Global, core: &Core) -> Result<Vec<Site>, Memory>
     ensures { IfOk result (λ v. AreListed core.now v.items) }
 {
     let mut sites = all_sites(alloc, core)?;

@@ -16,14 +16,14 @@ use use_flow::Sight;
 
 /// A place as a key.
 #[derive(Clone, Copy, PartialEq, Eq, Hash)]
-pub(crate) struct PlaceKey {
+pub struct PlaceKey {
     file: u32,
     line: u32,
     column: u32,
 }
 
 /// The key of a place.
-pub(crate) fn key_of(place: Place) -> PlaceKey
+pub fn key_of(place: Place) -> PlaceKey
     ensures { result ≡ key_of place }
 {
     PlaceKey {
@@ -58,7 +58,7 @@ fn note(seen: &mut IndexMap<PlaceKey, StateSet>, sight: &Sight) -> Result<(), Me
 }
 
 /// What is seen at each place.
-pub(crate) fn seen_of(
+pub fn seen_of(
     alloc: Global,
     sights: &[Sight],
 ) -> Result<IndexMap<PlaceKey, StateSet>, Memory>

@@ -44,9 +44,9 @@ fn field_text<'a>(core: &'a Core, fields: &[CoreField], field: u32) -> &'a str
     }
 }
 
-// The name of a variable of a method.
+/// The name of the variable that a call is made on, in this method.
 #[tactic(auto, using(use_flow::proofs::Scenes::scenes))]
-fn variable_text<'a>(core: &'a Core, site: Site, within: &CoreMethod) -> &'a str
+pub fn variable_text<'a>(core: &'a Core, site: Site, within: &CoreMethod) -> &'a str
     ensures { result.now ≡ variable_text core.now site (method_of within.now) }
 {
     match site.variable {

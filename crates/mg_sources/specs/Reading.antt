@@ -1,6 +1,7 @@
 -- What the readers make of the bytes of a file.
 use Rattle.std.specs.Prelude.{◌≡◌, List, [], ◌∷◌, codes}
 use Rattle.mg_text.specs.declared.place.Place.{Place}
+use Rattle.scr_tree.specs.Faults.{condition_word}
 use Rattle.scr_tree.specs.Tree.{LocalTree}
 use Rattle.ts_tree.specs.Typestate.{Typestate}
 use Rattle.jv_tree.specs.Source.{File}
@@ -8,10 +9,10 @@ use Rattle.mg_read.specs.Within.{IsWithin}
 use Rattle.scr_read.specs.Outcome as scribble
 use Rattle.ts_read.specs.Outcome as typestates
 use Rattle.jv_read.specs.Outcome as java
-use Rattle.mg_refusal.specs.Refusals.{Refusal, refusal_at, name_or_none}
+use Rattle.mg_refusal.specs.Refusals.{Refusal, refusal_at}
 use Rattle.mg_refusal.specs.Order.{InFile}
 use Rattle.mg_sources.specs.Files.{Source, Scribble, Typestates, Java, IsOf}
-use Rattle.mg_sources.specs.Words.{protocol_word, typestate_word}
+use Rattle.mg_sources.specs.Words.{typestate_word}
 
 -- what a file spells
 pub data Part : Type 0 where
@@ -41,7 +42,7 @@ module _ (IsPlace : Place → Type 0) where
   IsSaidOfProtocol (scribble.BadByte place) r = r ≡ refusal_at (codes "BadByte") place []
   IsSaidOfProtocol (scribble.Unsupported place word) r = r ≡ refusal_at (codes "Unsupported") place word
   IsSaidOfProtocol scribble.Syntax r = (place : Place) × IsPlace place × (r ≡ refusal_at (codes "Syntax") place [])
-  IsSaidOfProtocol (scribble.Refused condition place name) r = r ≡ refusal_at (protocol_word condition) place (name_or_none name)
+  IsSaidOfProtocol (scribble.Refused condition place name) r = r ≡ refusal_at (condition_word condition) place name
 
   abbrev pub IsSaidOfTypestate : typestates.Answer → Refusal → Type 0
   IsSaidOfTypestate (typestates.Read typestate) r = ⊥

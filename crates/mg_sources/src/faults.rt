@@ -5,11 +5,15 @@ ghost use Rattle.scr_read.specs.Outcome.{fault_answer as protocol_answer};
 ghost use Rattle.ts_read.specs.Outcome.{answer_of as typestate_answer};
 ghost use Rattle.jv_read.specs.Outcome.{fault_answer as java_answer};
 ghost use Rattle.mg_refusal.specs.Order.{IsStopOf};
+ghost use Rattle.mg_refusal.specs.Refusals.{refusal_at};
+ghost use Rattle.scr_tree.specs.Faults.{condition_word};
 ghost use Rattle.mg_sources.specs.Reading.{IsSaidOfProtocol, IsSaidOfTypestate, IsSaidOfJava};
 
 use jv_read::JavaFault;
 use mg_refusal::Stop;
+use mg_text::{Place, Text};
 use scr_read::ScrFault;
+use scr_tree::Condition;
 use ts_read::TsFault;
 
 /// The refusal of a file of a protocol, at the place of the fault.
@@ -21,30 +25,20 @@ pub fn stop_of_protocol(fault: ScrFault) -> Stop
         ScrFault::BadByte { place } => Stop::at("BadByte", place),
         ScrFault::Unsupported { place, name } => Stop::named("Unsupported", place, name),
         ScrFault::Syntax { place } => Stop::at("Syntax", place),
-        ScrFault::DuplicateName { place, name } => Stop::named("DuplicateName", place, name),
-        ScrFault::UnknownRole { place, name } => Stop::named("UnknownRole", place, name),
-        ScrFault::PeerIsSelf { place } => Stop::at("PeerIsSelf", place),
-        ScrFault::UnknownType { place, name } => Stop::named("UnknownType", place, name),
-        ScrFault::PayloadCount { place } => Stop::at("PayloadCount", place),
-        ScrFault::UnknownRec { place, name } => Stop::named("UnknownRec", place, name),
-        ScrFault::DuplicateRec { place, name } => Stop::named("DuplicateRec", place, name),
-        ScrFault::Unguarded { place, name } => Stop::named("Unguarded", place, name),
-        ScrFault::Unreachable { place } => Stop::at("Unreachable", place),
-        ScrFault::BranchStart { place } => Stop::at("BranchStart", place),
-        ScrFault::MixedChoice { place } => Stop::at("MixedChoice", place),
-        ScrFault::SameLabel { place, name } => Stop::named("SameLabel", place, name),
-        ScrFault::ReservedLabel { place, name } => Stop::named("ReservedLabel", place, name),
-        ScrFault::NameClash { place, name } => Stop::named("NameClash", place, name),
-        ScrFault::TooManyStates { place } => Stop::at("TooManyStates", place),
-        ScrFault::UnknownProtocol { place, name } => Stop::named("UnknownProtocol", place, name),
-        ScrFault::DuplicateProtocol { place, name } => {
-            Stop::named("DuplicateProtocol", place, name)
-        }
-        ScrFault::RolesDiffer { place, name } => Stop::named("RolesDiffer", place, name),
-        ScrFault::NotLast { place, name } => Stop::named("NotLast", place, name),
-        ScrFault::StartsWithDo { place, name } => Stop::named("StartsWithDo", place, name),
+        ScrFault::Unmet {
+            condition,
+            place,
+            name,
+        } => stop_of_condition(condition, place, name),
         ScrFault::Memory => Stop::Memory,
     }
+}
+
+/// The refusal by a condition that isn't met, with what is named; an empty name names nothing.
+pub fn stop_of_condition(condition: Condition, place: Place, name: Text) -> Stop
+    ensures { result ≡ Stop.Refused (refusal_at (condition_word condition) place name) }
+{
+    Stop::named(condition.word(), place, name)
 }
 
 /// The refusal of a file of a typestate.

@@ -7,7 +7,7 @@ mod part;
 mod parts;
 mod sources;
 
-pub use faults::stop_of_protocol;
+pub use faults::{stop_of_condition, stop_of_protocol};
 pub use part::{Part, read_part, read_protocol};
 pub use parts::{check_roles, read_parts};
 pub use sources::{Sources, read_program};

@@ -17,6 +17,7 @@ use Rattle.scr_parse.specs.Grammar.{direction_mark}
 use Rattle.scr_read.specs.Layout.{direction_word}
 use Rattle.mg_read.specs.Culprit.{Culprit}
 use Rattle.scr_read.specs.Unsupported.{IsUnsupported}
+use Rattle.scr_read.specs.declared.words.ProtocolKind.TheVariants as kinds
 use Rattle.scr_back.proofs.Told.{IsToken, supported}
 
 -- a name
@@ -26,7 +27,7 @@ naming w h = record { starts = h.starts; bytes = h.bytes; short = h.short; token
 -- a word of letters, of this length
 spelled : (w : Name) (tok : Place → Tok) → StartsWith is_name_start w → all_of w ≡ true → nat_lt (length w) 256 ≡ true →
     ((p : Place) → word_tok p w (reserved w) ≡ tok p) →
-    ((p : Place) (c : Culprit) → IsUnsupported (tok p) c → ⊥) → IsToken w tok
+    ((p : Place) (c : Culprit) → IsUnsupported kinds.Local (tok p) c → ⊥) → IsToken w tok
 spelled w tok starts passes short token used = record {
   starts = starts;
   bytes = all_pass w passes;

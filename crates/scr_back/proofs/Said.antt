@@ -17,7 +17,8 @@ use Rattle.scr_tree.specs.Words.{IsName}
 use Rattle.scr_tree.specs.Written.{Carries, Arguments, class_beforehand, kind_of}
 use Rattle.scr_parse.specs.Grammar.{Behind as After, Listed, IsNaming, AreTypes, IsMessage, direction_mark, Note, carries, gives}
 use Rattle.scr_parse.specs.Grammar.{carries_among, arguments_among, carried, given, IsBraced, AreStatements, AreBranches, AreOthers}
-use Rattle.scr_read.specs.Layout.{payload_word, direction_word, message_text, argument_list, do_text, braced, lines, branch_lines}
+use Rattle.scr_tree.specs.Payloads.{payload_word}
+use Rattle.scr_read.specs.Layout.{direction_word, message_text, argument_list, do_text, braced, lines, branch_lines}
 use Rattle.scr_back.specs.Same.{IsSameMessage, AreSame, AreSameBranches}
 use Rattle.scr_back.proofs.Told.{Any, NoName, Told, nothing, convert, blank_then, indented, Behind, sign_then, word_then, Both, both}
 use Rattle.scr_back.proofs.Marks.{naming, choice_word, at_word, or_word, rec_word, continue_word, do_word, int_type, boolean_type}

@@ -17,6 +17,7 @@ use Rattle.scr_tree.specs.Words.{sign_of, reserved}
 use Rattle.mg_read.specs.Culprit.{Culprit}
 use Rattle.mg_read.specs.First.{Clean}
 use Rattle.scr_read.specs.Unsupported.{unsupported_word, IsUnsupported}
+use Rattle.scr_read.specs.declared.words.ProtocolKind.TheVariants as kinds
 use Rattle.scr_lex.specs.Pieces.{scribble, tok_said, word_tok, sign_toks, AreTokens}
 
 -- the tokens of pieces that stand at a place: some that P holds of, and then those of the pieces qs
@@ -25,7 +26,7 @@ pub record Tokens (P : List Tok → Type 0) (qs : List Piece) (p : Place) (ps : 
   pub front : List Tok
   pub parts : tokens_from tok_said p ps ≡ front ++ tokens_from tok_said end qs
   pub holds : P front
-  pub used : Clean IsUnsupported front
+  pub used : Clean (IsUnsupported kinds.Local) front
 
 -- bytes that are pieces, which end in the pieces qs
 pub record Reads (P : List Tok → Type 0) (qs : List Piece) (whole : List ℕ) : Type 0 where
@@ -97,15 +98,15 @@ abbrev pub Behind : (Place → Tok) → (List Tok → Type 0) → List Tok → T
 Behind tok P ts = (a : Place) × (us : List Tok) × (ts ≡ tok a ∷ us) × P us
 
 -- a mark that is no unsupported word
-pub supported : (mark : Mark) → unsupported_word mark ≡ None → (p : Place) (c : Culprit) → IsUnsupported (marked p mark) c → ⊥
+pub supported : (mark : Mark) → unsupported_word kinds.Local mark ≡ None → (p : Place) (c : Culprit) → IsUnsupported kinds.Local (marked p mark) c → ⊥
 supported mark u p c h = let no : Some h.0 ≡ None = sym h.1 ∙ u in cc
 
-clean-append : (xs ys : List Tok) → Clean IsUnsupported xs → Clean IsUnsupported ys → Clean IsUnsupported (xs ++ ys)
+clean-append : (xs ys : List Tok) → Clean (IsUnsupported kinds.Local) xs → Clean (IsUnsupported kinds.Local) ys → Clean (IsUnsupported kinds.Local) (xs ++ ys)
 clean-append [] ys h g = g
 clean-append (x ∷ xs) ys h g = (h.0, clean-append xs ys h.1 g)
 
 pub sign_then : {ok : List ℕ → Type 0} {P : List Tok → Type 0} {text : List ℕ} (c : ℕ) (mark : Mark) → is_sign scribble.signs c ≡ true →
-    sign_of c ≡ Some mark → c < 128 → unsupported_word mark ≡ None →
+    sign_of c ≡ Some mark → c < 128 → unsupported_word kinds.Local mark ≡ None →
     Told ok P text → Told ok (Behind (λ a. marked a mark) P) (c ∷ text)
 sign_then {text = text} c mark e s l u h = record {
   low = more l h.low;
@@ -129,7 +130,7 @@ pub record IsToken (w : Name) (tok : Place → Tok) : Type 0 where
   pub bytes : AllPasses is_name_byte w
   pub short : length w ≤ 255
   pub token : (p : Place) → word_tok p w (reserved w) ≡ tok p
-  pub used : (p : Place) (c : Culprit) → IsUnsupported (tok p) c → ⊥
+  pub used : (p : Place) (c : Culprit) → IsUnsupported kinds.Local (tok p) c → ⊥
 
 pub word_then : {ok : List ℕ → Type 0} {P : List Tok → Type 0} {text : List ℕ} (w : Name) (tok : Place → Tok) → IsToken w tok →
     ((bytes : List ℕ) → ok bytes → NoName (text ++ bytes)) →
@@ -178,7 +179,7 @@ pub record Whole (file : ℕ) (P : List Tok → Type 0) (text : List ℕ) : Type
   pub tokens : List Tok
   pub cut : AreTokens file tokens text
   pub holds : P tokens
-  pub used : Clean IsUnsupported tokens
+  pub used : Clean (IsUnsupported kinds.Local) tokens
 
 pub whole : {P : List Tok → Type 0} {text : List ℕ} (file : ℕ) → Told Any P text → Whole file P text
 whole {text = text} file h =

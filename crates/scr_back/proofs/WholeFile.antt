@@ -18,6 +18,7 @@ use Rattle.scr_tree.specs.Written.{WrittenPart, WrittenTree, roles_in, part_mean
 use Rattle.scr_lex.specs.Pieces.{AreTokens}
 use Rattle.scr_parse.specs.Grammar.{carries_among, arguments_among, IsLocal, IsShallow, IsSpelled}
 use Rattle.scr_read.specs.Unsupported.{IsUnsupported}
+use Rattle.scr_read.specs.declared.words.ProtocolKind.TheVariants as kinds
 use Rattle.scr_read.specs.Spelling.{Spells}
 use Rattle.scr_read.specs.Layout.{layout, block, part_text, part_texts, role_list}
 use Rattle.scr_back.specs.Same.{AreSame, AreSameBranches, AreSameParts, IsSame}
@@ -227,7 +228,7 @@ pub record Printed (file : ℕ) (local : LocalTree) : Type 0 where
   pub types : written.types ≡ []
   pub tokens : List Tok
   pub cut : AreTokens file tokens (layout local)
-  pub supported : Judged IsUnsupported tokens None
+  pub supported : Judged (IsUnsupported kinds.Local) tokens None
   pub spelled : IsSpelled written tokens
   pub first : SamePart local.me local.roles (record { name = local.name; body = local.body }) written.first
   pub others : SameParts local.me local.roles (map other local.others) written.others

@@ -3,6 +3,7 @@ pub mod Alike
 pub mod OutlineSteps
 pub mod RoleSteps
 pub mod RoleWalk
+pub mod Others
 pub mod Over
 pub mod OneFault
 pub mod Faultless

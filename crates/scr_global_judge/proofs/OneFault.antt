@@ -14,8 +14,8 @@ use Rattle.scr_tree.specs.Written.{role_name}
 use Rattle.scr_global_tree.specs.Written.{WrittenTree}
 use Rattle.scr_judge.proofs.OneFault.{two, name_single, type_single}
 use Rattle.scr_global_tree.specs.Faults.{Of, IsFault}
-use Rattle.scr_global_tree.specs.declared.condition.GlobalCondition.{GlobalCondition}
-use Rattle.scr_global_tree.specs.declared.condition.GlobalCondition.TheVariants as conditions
+use Rattle.scr_tree.specs.declared.condition.Condition.{Condition}
+use Rattle.scr_tree.specs.declared.condition.Condition.TheVariants as conditions
 
 role_single : (roles : List Name) → IsSingle (UnknownRole roles)
 role_single roles (spot way Nothing) c d a b = absurd a
@@ -102,7 +102,7 @@ same_single (spot (Enters at earlier ∷ way) (Choice p x bs rest)) c d a b = ab
 same_single (spot (Enters at earlier ∷ way) (Rec p name body rest)) c d a b = absurd a
 same_single (spot (Enters at earlier ∷ way) (Continue p name rest)) c d a b = absurd a
 
-one_of : (w : WrittenTree) (k : GlobalCondition) (r s : Option Culprit) → Of w k r → Of w k s → r ≡ s
+one_of : (w : WrittenTree) (k : Condition) (r s : Option Culprit) → Of w k r → Of w k s → r ≡ s
 one_of w conditions.DuplicateName r s = one_answer name_single
 one_of w conditions.UnknownRole r s = one_answer (role_single (map role_name w.roles))
 one_of w conditions.PeerIsSelf r s = one_answer self_single
@@ -115,6 +115,7 @@ one_of w conditions.Unreachable r s = one_answer reach_single
 one_of w conditions.BranchStart r s = one_answer start_single
 one_of w conditions.MixedChoice r s = one_answer mixed_single
 one_of w conditions.SameLabel r s = one_answer same_single
+one_of w _ r s = λ a b. a ∙ sym b
 
-pub one_fault : (w : WrittenTree) (r s : Option (GlobalCondition × Culprit)) → IsFault w r → IsFault w s → r ≡ s
+pub one_fault : (w : WrittenTree) (r s : Option (Condition × Culprit)) → IsFault w r → IsFault w s → r ≡ s
 one_fault w r s p q = one_first (one_of w) p q

@@ -3,33 +3,24 @@
 ghost use Rattle.std.specs.Prelude.{◌≡◌, None, IfOk, codes};
 ghost use Rattle.mg_read.specs.First.{FirstOf};
 ghost use Rattle.scr_tree.specs.View.{statements as local_statements};
+ghost use Rattle.scr_judge.specs.Fault.{fault_of};
 ghost use Rattle.scr_judge.specs.inner.View.{named_of};
 ghost use Rattle.scr_global_tree.specs.Faults.{IsFault, Of};
 ghost use Rattle.scr_global_tree.specs.View.{statements};
 ghost use Rattle.scr_global_tree.specs.Written.{written_of};
-ghost use Rattle.scr_global_judge.specs.Fault.{fault_of};
 ghost use Rattle.scr_global_judge.specs.inner.Outline.{outlined};
 
 use crate::outline::outline_all;
 use crate::roles::{find_peer_is_self, find_unknown_role};
-use mg_text::{Memory, Place, Text};
-use scr_global_tree::{GlobalCondition, WrittenGlobal};
+use mg_text::{Memory, Text};
+use scr_global_tree::WrittenGlobal;
 use scr_judge::{
-    Named, find_branch_start, find_duplicate_name, find_duplicate_rec, find_mixed_choice,
+    Fault, Named, find_branch_start, find_duplicate_name, find_duplicate_rec, find_mixed_choice,
     find_payload_count, find_same_label, find_unguarded, find_unknown_rec, find_unknown_type,
     find_unreachable, listed_roles, with_name,
 };
-use scr_tree::Statement;
+use scr_tree::{Condition, Statement};
 use std::alloc::Global;
-
-/// The condition that a file doesn't meet, with the place and the name of what is at fault. The
-/// name is empty where nothing is named.
-#[derive(Drop)]
-pub struct Fault {
-    pub condition: GlobalCondition,
-    pub place: Place,
-    pub name: Text,
-}
 
 /// The first fault of a file of this number: of the conditions that don't hold the one of the
 /// lowest number, at its first place in the text. The only error is want of memory.
@@ -43,18 +34,18 @@ pub fn first_fault(
     let outline = outline_all(alloc, None, written.body.as_slice())?;
     let me = Text::of(alloc, "_")?;
     let conditions = [
-        GlobalCondition::DuplicateName,
-        GlobalCondition::UnknownRole,
-        GlobalCondition::PeerIsSelf,
-        GlobalCondition::UnknownType,
-        GlobalCondition::PayloadCount,
-        GlobalCondition::UnknownRec,
-        GlobalCondition::DuplicateRec,
-        GlobalCondition::Unguarded,
-        GlobalCondition::Unreachable,
-        GlobalCondition::BranchStart,
-        GlobalCondition::MixedChoice,
-        GlobalCondition::SameLabel,
+        Condition::DuplicateName,
+        Condition::UnknownRole,
+        Condition::PeerIsSelf,
+        Condition::UnknownType,
+        Condition::PayloadCount,
+        Condition::UnknownRec,
+        Condition::DuplicateRec,
+        Condition::Unguarded,
+        Condition::Unreachable,
+        Condition::BranchStart,
+        Condition::MixedChoice,
+        Condition::SameLabel,
     ];
     let order = conditions.as_slice();
     first_of(alloc, order, file, written, &me, outline.as_slice())
@@ -63,7 +54,7 @@ pub fn first_fault(
 // The first culprit of the first of some conditions that has one.
 fn first_of(
     alloc: Global,
-    conditions: &[GlobalCondition],
+    conditions: &[Condition],
     file: u32,
     written: &WrittenGlobal,
     me: &Text,
@@ -88,7 +79,7 @@ fn first_of(
 // The first culprit of one condition.
 fn judge(
     alloc: Global,
-    condition: GlobalCondition,
+    condition: Condition,
     file: u32,
     written: &WrittenGlobal,
     me: &Text,
@@ -103,29 +94,31 @@ fn judge(
     let carries = written.carries.as_slice();
     let body = written.body.as_slice();
     match condition {
-        GlobalCondition::DuplicateName => {
+        Condition::DuplicateName => {
             let culprit = find_duplicate_name(alloc, types, roles)?;
             with_name(alloc, culprit)
         }
-        GlobalCondition::UnknownRole => {
+        Condition::UnknownRole => {
             let listed = listed_roles(alloc, roles)?;
             with_name(alloc, find_unknown_role(&listed, body))
         }
-        GlobalCondition::PeerIsSelf => with_name(alloc, find_peer_is_self(body)),
-        GlobalCondition::UnknownType => {
+        Condition::PeerIsSelf => with_name(alloc, find_peer_is_self(body)),
+        Condition::UnknownType => {
             let culprit = find_unknown_type(alloc, types, carries)?;
             with_name(alloc, culprit)
         }
-        GlobalCondition::PayloadCount => with_name(alloc, find_payload_count(carries)),
-        GlobalCondition::UnknownRec => with_name(alloc, find_unknown_rec(outline)),
-        GlobalCondition::DuplicateRec => with_name(alloc, find_duplicate_rec(outline)),
-        GlobalCondition::Unguarded => with_name(alloc, find_unguarded(outline)),
-        GlobalCondition::Unreachable => with_name(alloc, find_unreachable(outline)),
-        GlobalCondition::BranchStart => with_name(alloc, find_branch_start(outline)),
-        GlobalCondition::MixedChoice => with_name(alloc, find_mixed_choice(me, outline)),
-        GlobalCondition::SameLabel => {
+        Condition::PayloadCount => with_name(alloc, find_payload_count(carries)),
+        Condition::UnknownRec => with_name(alloc, find_unknown_rec(outline)),
+        Condition::DuplicateRec => with_name(alloc, find_duplicate_rec(outline)),
+        Condition::Unguarded => with_name(alloc, find_unguarded(outline)),
+        Condition::Unreachable => with_name(alloc, find_unreachable(outline)),
+        Condition::BranchStart => with_name(alloc, find_branch_start(outline)),
+        Condition::MixedChoice => with_name(alloc, find_mixed_choice(me, outline)),
+        Condition::SameLabel => {
             let culprit = find_same_label(alloc, me, outline)?;
             with_name(alloc, culprit)
         }
+        // The others are none of a global protocol's.
+        _ => Ok(None),
     }
 }

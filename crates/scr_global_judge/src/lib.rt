@@ -8,5 +8,5 @@ mod laws;
 mod outline;
 mod roles;
 
-pub use fault::{Fault, first_fault};
+pub use fault::first_fault;
 pub use laws::{faultless_is_valid, one_fault};

@@ -1,4 +1,3 @@
-pub mod Unsupported
 pub mod Spelling
 pub mod Outcome
 pub mod inner

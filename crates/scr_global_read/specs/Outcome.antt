@@ -6,8 +6,7 @@ use Rattle.mg_text.specs.declared.place.Place.{Place}
 use Rattle.mg_read.specs.First.{Judged}
 use Rattle.mg_read.specs.Within.{IsWithin}
 use Rattle.mg_read.specs.Culprit.{culprit}
-use Rattle.scr_global_tree.specs.declared.condition.GlobalCondition.{GlobalCondition}
-use Rattle.scr_global_tree.specs.declared.condition.GlobalCondition.TheVariants as conditions
+use Rattle.scr_tree.specs.declared.condition.Condition.{Condition}
 use Rattle.scr_global_tree.specs.declared.global.Global.{Global}
 use Rattle.scr_global_tree.specs.Global.{tree_of}
 use Rattle.scr_tree.specs.Tok.{Tok}
@@ -15,36 +14,22 @@ use Rattle.scr_global_tree.specs.Tree.{GlobalTree}
 use Rattle.scr_global_tree.specs.Written.{WrittenTree, global_of}
 use Rattle.scr_global_tree.specs.Faults.{IsFault}
 use Rattle.scr_lex.specs.Pieces.{IsBadAt}
-use Rattle.scr_global_read.specs.Unsupported.{IsUnsupported}
+use Rattle.scr_read.specs.Unsupported.{IsUnsupported}
+use Rattle.scr_read.specs.declared.words.ProtocolKind.TheVariants as kinds
 use Rattle.scr_read.specs.Spelling.{Separates}
 use Rattle.scr_global_read.specs.Spelling.{Spells}
 use Rattle.scr_global_parse.specs.Grammar.{IsSpelled}
 use Rattle.scr_global_read.specs.declared.fault.GlobalFault.{GlobalFault}
 use Rattle.scr_global_read.specs.declared.fault.GlobalFault.TheVariants as faults
 
--- what is answered, want of memory aside; the place of Syntax is left open here
+-- what is answered, want of memory aside; the place of Syntax is left open here, and a refusal that names nothing has the empty name
 pub data Answer : Type 0 where
   Protocol : GlobalTree → Answer
   TooLarge : Place → Answer
   BadByte : Place → Answer
   Unsupported : Place → (word : Name) → Answer
   Syntax : Answer
-  Refused : GlobalCondition → Place → Option Name → Answer
-
--- what a refusal names, where it names something
-abbrev pub told : GlobalCondition → Name → Option Name
-told conditions.PeerIsSelf name = None
-told conditions.PayloadCount name = None
-told conditions.Unreachable name = None
-told conditions.BranchStart name = None
-told conditions.MixedChoice name = None
-told conditions.DuplicateName name = Some name
-told conditions.UnknownRole name = Some name
-told conditions.UnknownType name = Some name
-told conditions.UnknownRec name = Some name
-told conditions.DuplicateRec name = Some name
-told conditions.Unguarded name = Some name
-told conditions.SameLabel name = Some name
+  Refused : Condition → Place → Name → Answer
 
 -- one row a fault, in the order of their numbers
 pub data Outcome (file : ℕ) (bytes : List ℕ) : Answer → Type 0 where
@@ -54,13 +39,13 @@ pub data Outcome (file : ℕ) (bytes : List ℕ) : Answer → Type 0 where
   bad_byte : (k : ℕ) → length bytes ≤ 1048576 → IsBadAt k bytes → Outcome file bytes (BadByte (place_after (start_of file) (take k bytes)))
   -- the first token that is a word that isn't supported
   unsupported : {tokens : List Tok} {place : Place} {word : Name} → Separates file bytes tokens
-      → Judged IsUnsupported tokens (Some (culprit place word)) → Outcome file bytes (Unsupported place word)
+      → Judged (IsUnsupported kinds.Global) tokens (Some (culprit place word)) → Outcome file bytes (Unsupported place word)
   -- no tree of depth at most 200 spells the tokens
-  syntax : {tokens : List Tok} → Separates file bytes tokens → Judged IsUnsupported tokens None
+  syntax : {tokens : List Tok} → Separates file bytes tokens → Judged (IsUnsupported kinds.Global) tokens None
       → ((w : WrittenTree) → IsSpelled w tokens → ⊥) → Outcome file bytes Syntax
   -- a condition doesn't hold
-  refused : {w : WrittenTree} {condition : GlobalCondition} {place : Place} {name : Name} → Spells file bytes w
-      → IsFault w (Some (condition, culprit place name)) → Outcome file bytes (Refused condition place (told condition name))
+  refused : {w : WrittenTree} {condition : Condition} {place : Place} {name : Name} → Spells file bytes w
+      → IsFault w (Some (condition, culprit place name)) → Outcome file bytes (Refused condition place name)
   -- all of them hold
   found : {w : WrittenTree} → Spells file bytes w → IsFault w None → Outcome file bytes (Protocol (global_of w))
 
@@ -70,18 +55,7 @@ fault_answer (faults.TooLarge place) = Some (TooLarge place)
 fault_answer (faults.BadByte place) = Some (BadByte place)
 fault_answer (faults.Unsupported place name) = Some (Unsupported place name)
 fault_answer (faults.Syntax place) = Some Syntax
-fault_answer (faults.DuplicateName place name) = Some (Refused conditions.DuplicateName place (Some name))
-fault_answer (faults.UnknownRole place name) = Some (Refused conditions.UnknownRole place (Some name))
-fault_answer (faults.PeerIsSelf place) = Some (Refused conditions.PeerIsSelf place None)
-fault_answer (faults.UnknownType place name) = Some (Refused conditions.UnknownType place (Some name))
-fault_answer (faults.PayloadCount place) = Some (Refused conditions.PayloadCount place None)
-fault_answer (faults.UnknownRec place name) = Some (Refused conditions.UnknownRec place (Some name))
-fault_answer (faults.DuplicateRec place name) = Some (Refused conditions.DuplicateRec place (Some name))
-fault_answer (faults.Unguarded place name) = Some (Refused conditions.Unguarded place (Some name))
-fault_answer (faults.Unreachable place) = Some (Refused conditions.Unreachable place None)
-fault_answer (faults.BranchStart place) = Some (Refused conditions.BranchStart place None)
-fault_answer (faults.MixedChoice place) = Some (Refused conditions.MixedChoice place None)
-fault_answer (faults.SameLabel place name) = Some (Refused conditions.SameLabel place (Some name))
+fault_answer (faults.Unmet condition place name) = Some (Refused condition place name)
 fault_answer faults.Memory = None
 
 -- what a call answered

@@ -11,7 +11,6 @@ ghost use Rattle.scr_global_read.specs.inner.Stages.{Stage, IsProtocol};
 mod fault;
 mod text;
 mod verdict;
-mod words;
 
 use crate::text::written_of;
 use crate::verdict::{protocol_of, refusal};

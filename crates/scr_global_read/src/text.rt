@@ -8,11 +8,11 @@ ghost use Rattle.scr_global_read.specs.Spelling.{Spells};
 ghost use Rattle.scr_global_read.specs.inner.Stages.{Stage};
 
 use crate::fault::GlobalFault;
-use crate::words::first_unsupported;
 use mg_text::{List, Place, Text, place_of};
 use scr_global_parse::ParseFault;
 use scr_global_tree::WrittenGlobal;
 use scr_lex::LexFault;
+use scr_read::{ProtocolKind, first_unsupported};
 use scr_tree::Token;
 use std::alloc::Global;
 
@@ -50,7 +50,7 @@ fn parsed_of(
     requires { Separates file bytes.now (toks tokens.now) }
     ensures { Stage file bytes.now (λ w. Spells file bytes.now (written_of file w)) result }
 {
-    if let Some((place, word)) = first_unsupported(tokens) {
+    if let Some((place, word)) = first_unsupported(ProtocolKind::Global, tokens) {
         let name = Text::of(alloc, word)?;
         return Err(GlobalFault::Unsupported { place, name });
     }

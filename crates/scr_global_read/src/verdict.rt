@@ -5,37 +5,28 @@ ghost use Rattle.scr_global_tree.specs.Global.{tree_of};
 ghost use Rattle.scr_global_tree.specs.Valid.{IsValid};
 ghost use Rattle.scr_tree.specs.Written.{role_name};
 ghost use Rattle.scr_global_tree.specs.Written.{written_of, global_of, role_place};
-ghost use Rattle.scr_global_read.specs.Outcome.{Refused, told, fault_answer};
+ghost use Rattle.scr_global_read.specs.Outcome.{Refused, fault_answer};
 
 use crate::fault::GlobalFault;
 use mg_text::{List, Memory, Place, Text};
-use scr_global_judge::Fault;
-use scr_global_tree::{Global, GlobalCondition, WrittenGlobal};
+use scr_global_tree::{Global, WrittenGlobal};
+use scr_judge::Fault;
 use scr_tree::Role;
 use std::alloc::Global as Allocator;
 
 // The fault of a file that doesn't meet a condition.
 pub(crate) fn refusal(fault: Fault) -> GlobalFault
-    ensures { fault_answer result ≡ Some (Refused fault.condition fault.place (told fault.condition fault.name)) }
+    ensures { fault_answer result ≡ Some (Refused fault.condition fault.place fault.name) }
 {
     let Fault {
         condition,
         place,
         name,
     } = fault;
-    match condition {
-        GlobalCondition::DuplicateName => GlobalFault::DuplicateName { place, name },
-        GlobalCondition::UnknownRole => GlobalFault::UnknownRole { place, name },
-        GlobalCondition::PeerIsSelf => GlobalFault::PeerIsSelf { place },
-        GlobalCondition::UnknownType => GlobalFault::UnknownType { place, name },
-        GlobalCondition::PayloadCount => GlobalFault::PayloadCount { place },
-        GlobalCondition::UnknownRec => GlobalFault::UnknownRec { place, name },
-        GlobalCondition::DuplicateRec => GlobalFault::DuplicateRec { place, name },
-        GlobalCondition::Unguarded => GlobalFault::Unguarded { place, name },
-        GlobalCondition::Unreachable => GlobalFault::Unreachable { place },
-        GlobalCondition::BranchStart => GlobalFault::BranchStart { place },
-        GlobalCondition::MixedChoice => GlobalFault::MixedChoice { place },
-        GlobalCondition::SameLabel => GlobalFault::SameLabel { place, name },
+    GlobalFault::Unmet {
+        condition,
+        place,
+        name,
     }
 }
 

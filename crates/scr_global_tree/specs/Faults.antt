@@ -1,10 +1,10 @@
 -- The fault of a file that is a tree: of the conditions that don't hold the one of the lowest number, at its first place in the text.
-use Rattle.std.specs.Prelude.{List, [], ◌∷◌, ◌++◌, map, Option}
+use Rattle.std.specs.Prelude.{◌≡◌, List, [], ◌∷◌, ◌++◌, map, Option, None}
 use Rattle.std.specs.List.{flat_map}
 use Rattle.mg_read.specs.Culprit.{Culprit}
 use Rattle.mg_read.specs.First.{Judged, FirstOf, with_earlier}
-use Rattle.scr_global_tree.specs.declared.condition.GlobalCondition.{GlobalCondition}
-use Rattle.scr_global_tree.specs.declared.condition.GlobalCondition.TheVariants as conditions
+use Rattle.scr_tree.specs.declared.condition.Condition.{Condition}
+use Rattle.scr_tree.specs.declared.condition.Condition.TheVariants as conditions
 use Rattle.scr_tree.specs.Written.{role_name}
 use Rattle.scr_tree.specs.Listing.{Entry, declares, lists, DuplicateName, Typed, declared, carried_by, UnknownType, PayloadCount}
 use Rattle.scr_global.specs.Spots.{spots}
@@ -19,8 +19,8 @@ entries w = map declares w.types ++ map lists w.roles
 abbrev pub typed : WrittenTree → List Typed
 typed w = map declared w.types ++ flat_map carried_by w.carries
 
--- what the first place is at which a condition doesn't hold
-abbrev pub Of : WrittenTree → GlobalCondition → Option Culprit → Type 0
+-- what the first place is at which a condition doesn't hold; those behind `by_number` are none of a global protocol's
+abbrev pub Of : WrittenTree → Condition → Option Culprit → Type 0
 Of w conditions.DuplicateName = Judged DuplicateName (with_earlier (entries w))
 Of w conditions.UnknownRole = Judged (says.UnknownRole (map role_name w.roles)) (spots [] w.body)
 Of w conditions.PeerIsSelf = Judged says.PeerIsSelf (spots [] w.body)
@@ -33,14 +33,15 @@ Of w conditions.Unreachable = Judged says.Unreachable (spots [] w.body)
 Of w conditions.BranchStart = Judged says.BranchStart (spots [] w.body)
 Of w conditions.MixedChoice = Judged says.MixedChoice (spots [] w.body)
 Of w conditions.SameLabel = Judged says.SameLabel (spots [] w.body)
+Of w _ = λ r. r ≡ None
 
 -- the conditions in the order of their numbers
-abbrev pub by_number : List GlobalCondition
+abbrev pub by_number : List Condition
 by_number =
     conditions.DuplicateName ∷ conditions.UnknownRole ∷ conditions.PeerIsSelf ∷ conditions.UnknownType ∷ conditions.PayloadCount
     ∷ conditions.UnknownRec ∷ conditions.DuplicateRec ∷ conditions.Unguarded ∷ conditions.Unreachable ∷ conditions.BranchStart
     ∷ conditions.MixedChoice ∷ conditions.SameLabel ∷ []
 
 -- the fault, or none
-abbrev pub IsFault : WrittenTree → Option (GlobalCondition × Culprit) → Type 0
+abbrev pub IsFault : WrittenTree → Option (Condition × Culprit) → Type 0
 IsFault w = FirstOf (Of w) by_number

@@ -2,12 +2,10 @@
 //! and a valid global protocol, which keeps its conditions by its type.
 #![tactic(auto)]
 
-mod condition;
 mod global;
 mod statement;
 mod written;
 
-pub use condition::GlobalCondition;
 pub use global::Global;
 pub use statement::GStatement;
 pub use written::WrittenGlobal;

@@ -1,5 +1,5 @@
 -- What each protocol of a file answers alone, put together.
-use Rattle.std.proofs.Common.{◌≡◌, ℕ, ◌+◌, ◌<◌, ◌≤◌, List, [], ◌∷◌, length, get_or, drop, map, Option, Some, None, IfOk, Result, sym, ap}
+use Rattle.std.proofs.Common.{◌≡◌, ◌≢◌, refl, ℕ, ◌+◌, ◌<◌, ◌≤◌, List, [], ◌∷◌, length, get_or, drop, map, Option, Some, None, IfOk, Result, sym, ap}
 use Rattle.std.proofs.Common.{subst, ◌∙◌}
 use Rattle.std.specs.Option.{option_or}
 use Rattle.std.proofs.lemmas.List.{at_drop_more, at_drop_all}
@@ -8,19 +8,34 @@ use Rattle.mg_text.specs.declared.memory.Memory.{Memory}
 use Rattle.mg_read.specs.Culprit.{Culprit}
 use Rattle.mg_read.specs.First.{Judged, clean}
 use Rattle.mg_read.proofs.Judging.{judged-append, judged-found, judged-map}
+use Rattle.scr_tree.specs.declared.condition.Condition.{Condition}
+use Rattle.scr_tree.specs.declared.condition.Condition.TheVariants as conditions
 use Rattle.scr_tree.specs.Spots.{each_of, Spot, spots, all_spots}
 use Rattle.scr_tree.specs.Tree.{Statements}
 use Rattle.scr_tree.specs.Written.{WrittenPart}
 use Rattle.scr_judge.specs.declared.culprit.Named.{Named}
-use Rattle.scr_judge.specs.declared.own.Own.{Own}
 use Rattle.scr_judge.specs.inner.Own.{OfOwn, FirstIn, none, here, later}
 use Rattle.scr_judge.specs.inner.Listed.{first_among}
 use Rattle.scr_judge.specs.inner.View.{named_of}
 
 -- an arm: the condition is known, and its culprit is given a name
-pub own_arm : (p : WrittenPart) (k j : Own) (o : Option Culprit) (r : Result (Option Named) Memory) → k ≡ j → OfOwn j p o →
+pub own_arm : (p : WrittenPart) (k j : Condition) (o : Option Culprit) (r : Result (Option Named) Memory) → k ≡ j → OfOwn j p o →
     IfOk r (λ n. named_of n ≡ o) → IfOk r (λ n. OfOwn k p (named_of n))
 own_arm p k j o r e a h = IfOk-weaker r _ _ (λ n same. subst (λ x. OfOwn x p (named_of n)) (sym e) (subst (OfOwn j p) (sym same) a)) h
+
+-- a condition of a whole file finds nothing
+pub no_own : (p : WrittenPart) (k : Condition) → k ≢ conditions.UnknownRole → k ≢ conditions.PeerIsSelf → k ≢ conditions.UnknownRec → k ≢ conditions.DuplicateRec
+    → k ≢ conditions.Unreachable → k ≢ conditions.BranchStart → k ≢ conditions.MixedChoice → k ≢ conditions.SameLabel → k ≢ conditions.ReservedLabel → OfOwn k p None
+no_own p conditions.UnknownRole a b c d e f g h i = absurd (a refl)
+no_own p conditions.PeerIsSelf a b c d e f g h i = absurd (b refl)
+no_own p conditions.UnknownRec a b c d e f g h i = absurd (c refl)
+no_own p conditions.DuplicateRec a b c d e f g h i = absurd (d refl)
+no_own p conditions.Unreachable a b c d e f g h i = absurd (e refl)
+no_own p conditions.BranchStart a b c d e f g h i = absurd (f refl)
+no_own p conditions.MixedChoice a b c d e f g h i = absurd (g refl)
+no_own p conditions.SameLabel a b c d e f g h i = absurd (h refl)
+no_own p conditions.ReservedLabel a b c d e f g h i = absurd (i refl)
+no_own p _ a b c d e f g h i = refl
 
 -- ---- a loop over protocols
 

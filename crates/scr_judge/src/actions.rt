@@ -1,8 +1,6 @@
 //! What a role does, action by action in the order of the text.
 
 ghost use Rattle.std.specs.Prelude.{◌≡◌, ◌++◌, ◌↔◌, ℕ, IfOk, OnOk, IsTrue, map, option_map};
-ghost use Rattle.std.specs.List.{flat_map};
-ghost use Rattle.scr_tree.specs.CallNames.{label_call};
 ghost use Rattle.scr_tree.specs.Meaning.{message_of};
 ghost use Rattle.scr_tree.specs.View.{front, statements};
 ghost use Rattle.scr_tree.specs.Tree.{Nothing};
@@ -13,7 +11,7 @@ ghost use Rattle.scr_tree.specs.View.{bodies};
 
 use crate::labels::first_message;
 use mg_text::{List, Memory, Place, Text};
-use scr_tree::{Message, Statement, WrittenPart, call_name};
+use scr_tree::{Message, Statement, WrittenPart, call_name, label_call};
 use std::alloc::Global;
 
 /// What a call does: a message, or a look at which branch of a numbered choice was taken.
@@ -101,7 +99,7 @@ fn collect_at<'a>(
                 collect_in(alloc, me, out, number, branches)
             } else {
                 if let Some(peer) = first_peer(branches) {
-                    let call = label_call(alloc, me, number, peer)?;
+                    let call = label_call(alloc, me.as_str(), number, peer.as_str())?;
                     out.push(Action {
                         place: *place,
                         call,
@@ -152,25 +150,4 @@ fn first_peer(branches: &[List<Statement>]) -> Option<&Text>
             Some(message) => Some(&message.peer),
         },
     }
-}
-
-// The name of the method that answers which label of a numbered choice a peer has sent.
-fn label_call(alloc: Global, me: &Text, number: u32, peer: &Text) -> Result<Text, Memory>
-    ensures { IfOk result (λ t. t ≡ label_call me.now number peer.now) }
-{
-    let digits = format!(in alloc; "{number}")?;
-    let me = me.as_str();
-    let peer = peer.as_str();
-    let name = text_of(
-        alloc,
-        &["receive_", me, "Choice", digits.as_str(), "LabelFrom", peer],
-    )?;
-    Ok(name)
-}
-
-// Pieces of a text, one behind another.
-fn text_of(alloc: Global, pieces: &[&str]) -> Result<Text, Memory>
-    ensures { IfOk result (λ t. t ≡ flat_map (λ p. p.now) pieces.now) }
-{
-    Ok(Text::from_string(pieces.concat(alloc)?))
 }

@@ -12,7 +12,7 @@ ghost use Rattle.scr_judge.specs.inner.View.{culprit_of, told};
 use crate::culprit::Culprit;
 use crate::roles::find_listed_twice;
 use mg_text::Memory;
-use scr_tree::{Declaration, Role, Written, WrittenPart};
+use scr_tree::{Declaration, Payload, Role, Written, WrittenPart};
 use std::alloc::Global;
 use std::collections::HashMap;
 
@@ -106,14 +106,8 @@ fn is_otherwise(declaration: &Declaration) -> bool
 pub fn class_beforehand(alias: &str) -> Option<&'static str>
     ensures { option_map (λ c. c.now) result ≡ class_beforehand alias.now }
 {
-    if alias == "int" {
-        return Some("java.lang.Integer");
+    match Payload::of_word(alias) {
+        Some(kind) => Some(kind.class()),
+        None => None,
     }
-    if alias == "boolean" {
-        return Some("java.lang.Boolean");
-    }
-    if alias == "String" {
-        return Some("java.lang.String");
-    }
-    None
 }

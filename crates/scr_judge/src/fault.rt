@@ -14,7 +14,7 @@ use crate::declared::find_duplicate_in_file;
 use crate::going::{find_duplicate_protocol, find_unknown_do};
 use crate::last::find_not_last_in;
 use crate::opening::find_starts_with_do;
-use crate::own::{Own, find_own};
+use crate::own::find_own;
 use crate::roles_told::find_roles_differ;
 use crate::states::find_too_many_states;
 use crate::typed::{find_payload_in_file, find_unknown_in_file};
@@ -96,24 +96,24 @@ fn judge(
             let culprit = find_duplicate_in_file(alloc, written)?;
             with_name(alloc, culprit)
         }
-        Condition::UnknownRole => find_own(alloc, Own::UnknownRole, written),
-        Condition::PeerIsSelf => find_own(alloc, Own::PeerIsSelf, written),
+        Condition::UnknownRole => find_own(alloc, Condition::UnknownRole, written),
+        Condition::PeerIsSelf => find_own(alloc, Condition::PeerIsSelf, written),
         Condition::UnknownType => {
             let culprit = find_unknown_in_file(alloc, written)?;
             with_name(alloc, culprit)
         }
         Condition::PayloadCount => with_name(alloc, find_payload_in_file(written)),
-        Condition::UnknownRec => find_own(alloc, Own::UnknownRec, written),
-        Condition::DuplicateRec => find_own(alloc, Own::DuplicateRec, written),
+        Condition::UnknownRec => find_own(alloc, Condition::UnknownRec, written),
+        Condition::DuplicateRec => find_own(alloc, Condition::DuplicateRec, written),
         Condition::Unguarded => {
             let culprit = find_unguarded_in_file(alloc, written)?;
             with_name(alloc, culprit)
         }
-        Condition::Unreachable => find_own(alloc, Own::Unreachable, written),
-        Condition::BranchStart => find_own(alloc, Own::BranchStart, written),
-        Condition::MixedChoice => find_own(alloc, Own::MixedChoice, written),
-        Condition::SameLabel => find_own(alloc, Own::SameLabel, written),
-        Condition::ReservedLabel => find_own(alloc, Own::ReservedLabel, written),
+        Condition::Unreachable => find_own(alloc, Condition::Unreachable, written),
+        Condition::BranchStart => find_own(alloc, Condition::BranchStart, written),
+        Condition::MixedChoice => find_own(alloc, Condition::MixedChoice, written),
+        Condition::SameLabel => find_own(alloc, Condition::SameLabel, written),
+        Condition::ReservedLabel => find_own(alloc, Condition::ReservedLabel, written),
         Condition::NameClash => find_name_clash(alloc, written),
         Condition::TooManyStates => with_name(alloc, find_too_many_states(file, written)),
         Condition::UnknownProtocol => {

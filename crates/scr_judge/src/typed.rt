@@ -2,11 +2,10 @@
 
 ghost use Rattle.std.specs.Prelude.{◌≡◌, ◌↔◌, ◌++◌, ℕ, List, IfOk, IsTrue, Contains, map};
 ghost use Rattle.std.specs.List.{flat_map};
-ghost use Rattle.std.specs.Option.{is_some};
 ghost use Rattle.std.specs.HashSet.{contains_text};
 ghost use Rattle.mg_read.specs.First.{Judged};
 ghost use Rattle.scr_tree.specs.Listing.{UnknownType, PayloadCount, declared, carried_by, typed, all_carries};
-ghost use Rattle.scr_tree.specs.Written.{carries_of, kind_of_class, written_of};
+ghost use Rattle.scr_tree.specs.Written.{carries_of, written_of};
 ghost use Rattle.scr_judge.specs.inner.Listed.{alias_of, first_among, is_supported, unsupported, is_declared, undeclared, undeclared_in};
 ghost use Rattle.scr_judge.specs.inner.Listed.{undeclared_by, many, many_by};
 ghost use Rattle.scr_judge.specs.inner.View.{culprit_of};
@@ -16,7 +15,7 @@ use crate::declared::{class_beforehand, culprit_at};
 use crate::seen::{add_name, no_names};
 use crate::truth::{both, either};
 use mg_text::{Memory, Place, Text};
-use scr_tree::{Carries, Declaration, Written, WrittenPart};
+use scr_tree::{Carries, Declaration, Payload, Written, WrittenPart};
 use std::alloc::Global;
 use std::collections::HashSet;
 
@@ -119,20 +118,8 @@ fn find_unsupported(types: &[Declaration]) -> Option<Culprit<'_>>
 fn is_supported(declaration: &Declaration) -> bool
     ensures { result ≡ is_supported declaration.now }
 {
-    let class = is_supported_class(declaration.class.as_str());
+    let class = Payload::of_class(declaration.class.as_str()).is_some();
     both(declaration.language.as_str() == "java", class)
-}
-
-fn is_supported_class(class: &str) -> bool
-    ensures { result ≡ is_some (kind_of_class class.now) }
-{
-    if class == "java.lang.Integer" {
-        return true;
-    }
-    if class == "java.lang.Boolean" {
-        return true;
-    }
-    class == "java.lang.String"
 }
 
 // The names that are declared.

@@ -5,11 +5,13 @@ ghost use Rattle.std.specs.Prelude.{◌≡◌, ◌≤◌, ◌++◌, length, IfOk
 ghost use Rattle.std.specs.Str.{IsAscii};
 ghost use Rattle.mg_text.specs.declared.place.Place.{Place};
 ghost use Rattle.mg_read.specs.Lexed.{MatchLexed};
+ghost use Rattle.mg_read.specs.Passes.{span};
 ghost use Rattle.mg_read.specs.Pieces.{tokens_of};
 ghost use Rattle.mg_read.specs.inner.Fronts.{content_shown, IsReadable};
 ghost use Rattle.scr_tree.specs.Tok.{tok_at, toks};
 ghost use Rattle.scr_tree.specs.Words.{reserved};
 ghost use Rattle.scr_lex.specs.Pieces.{word_tok, tok_said, AreTokens, IsBadAt};
+ghost use Rattle.scr_lex.specs.inner.Spaces.{is_space};
 
 use crate::words::{reserved, sign_of, signs};
 use mg_read::{LexFault, PieceKind, ascii_text, first_of, ill_formed_at, piece_of};
@@ -62,7 +64,22 @@ fn put(
     }
 }
 
-// The tokens of the bytes, piece by piece.
+fn is_space(byte: u8) -> bool
+    ensures { result ≡ is_space byte }
+{
+    byte == b' '
+}
+
+// How many spaces stand at the front.
+fn spaces_len(bytes: &[u8]) -> usize
+    ensures value { result ≡ span is_space bytes.now }
+    ensures within { result ≤ length bytes.now }
+{
+    bytes.iter().take_while(|byte| is_space(**byte)).count()
+}
+
+// The tokens of the bytes, piece by piece. Spaces at the front are passed at once: most bytes of a laid out file
+// are such.
 pub(crate) fn scan_tokens(alloc: Global, file: u32, bytes: &[u8]) -> Result<List<Token>, LexFault>
     requires { length bytes.now ≤ 1048576 }
     ensures { MatchLexed result (λ v. AreTokens file (toks v.items) bytes.now) (λ k. IsBadAt k bytes.now) }
@@ -73,6 +90,14 @@ pub(crate) fn scan_tokens(alloc: Global, file: u32, bytes: &[u8]) -> Result<List
     let mut offset = 0;
     let mut rest = bytes;
     'pieces: while !rest.is_empty() {
+        let spaces = spaces_len(rest);
+        if spaces > 0 {
+            let next = place.after(&rest[..spaces]);
+            place = next;
+            offset += spaces;
+            rest = &rest[spaces..];
+            continue;
+        }
         let Some(piece) = piece_of(signs(), true, rest) else {
             return Err(LexFault::BadByte(first_of(offset, ill_formed)));
         };

@@ -1,11 +1,11 @@
 //! Type declarations, and the table in which the kinds of their names are looked up.
 
-ghost use Rattle.std.specs.Prelude.{◌≡◌, IfOk, OnOk, Some, [], ◌∷◌, option_map};
+ghost use Rattle.std.specs.Prelude.{◌≡◌, IfOk, OnOk, Some, [], ◌∷◌};
 ghost use Rattle.std.specs.Option.{option_or};
 ghost use Rattle.std.specs.HashMap.{get_by_text};
 ghost use Rattle.mg_text.specs.Call.{Name};
 ghost use Rattle.scr_tree.specs.Tok.{toks};
-ghost use Rattle.scr_tree.specs.Written.{class_beforehand, kind_if_class, class_of_alias, kind_of};
+ghost use Rattle.scr_tree.specs.Written.{kind_if_class, class_of_alias, kind_of};
 ghost use Rattle.scr_parse.specs.Answer.{Gives};
 ghost use Rattle.scr_parse.specs.inner.Reading.{language_at, class_at, type_at, types_at};
 ghost use Rattle.scr_parse.specs.inner.Kinds.{IsTable, kind_among};
@@ -87,29 +87,9 @@ pub fn types_of(
 fn kind_of_class(class: &str) -> Payload
     ensures { result ≡ kind_if_class (Some class.now) }
 {
-    if class == "java.lang.Integer" {
-        Payload::Int
-    } else if class == "java.lang.Boolean" {
-        Payload::Boolean
-    } else if class == "java.lang.String" {
-        Payload::Text
-    } else {
-        Payload::Nothing
-    }
-}
-
-// The kind of a name that is declared beforehand.
-fn kind_beforehand(alias: &str) -> Option<Payload>
-    ensures { result ≡ option_map (λ class. kind_if_class (Some class)) (class_beforehand alias.now) }
-{
-    if alias == "int" {
-        Some(Payload::Int)
-    } else if alias == "boolean" {
-        Some(Payload::Boolean)
-    } else if alias == "String" {
-        Some(Payload::Text)
-    } else {
-        None
+    match Payload::of_class(class) {
+        Some(kind) => kind,
+        None => Payload::Nothing,
     }
 }
 
@@ -149,7 +129,7 @@ impl Types {
         requires { IsTable self.now }
         ensures { result ≡ kind_if_class (class_of_alias self.now.declared.items alias.now) }
     {
-        if let Some(kind) = kind_beforehand(alias) {
+        if let Some(kind) = Payload::of_word(alias) {
             return kind;
         }
         match self.kinds.get(alias) {

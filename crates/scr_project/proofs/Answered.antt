@@ -17,7 +17,7 @@ use Rattle.scr_tree.specs.Tree.{LocalTree}
 use Rattle.scr_tree.specs.Tree as local
 use Rattle.scr_judge.proofs.OneFault.{one_of}
 use Rattle.scr_read.specs.declared.fault.ScrFault.{ScrFault}
-use Rattle.scr_read.specs.Outcome.{Refused, told, fault_answer as scr_answer}
+use Rattle.scr_read.specs.Outcome.{Refused, fault_answer as scr_answer}
 use Rattle.scr_read.specs.Outcome as scr
 use Rattle.scr_read.specs.Parts.{parts, Makes, IsRefused, refused}
 use Rattle.scr_global.specs.Tree.{Statements, Nothing, Says, Choice, Rec, Continue}
@@ -72,14 +72,14 @@ module _ (g : GlobalTree) (me : Name) where
   same_fault : (s t : local.Statements) (c d : Condition) (p q : Place) (n m : Name) → projected me g.body ≡ Some s →
       projected me g.body ≡ Some t →
       IsOpenFault (projection_of g me s) (Some (c, culprit p n)) → IsOpenFault (projection_of g me t) (Some (d, culprit q m)) →
-      ◌≡◌ {A = Answer} (Unprojected (start_of g.file) me (Refused c p (told c n)))
-      (Unprojected (start_of g.file) me (Refused d q (told d m)))
+      ◌≡◌ {A = Answer} (Unprojected (start_of g.file) me (Refused c p n))
+      (Unprojected (start_of g.file) me (Refused d q m))
   same_fault s t c d p q n m e f j k =
       let pair = some_is (c, culprit p n) (d, culprit q m) (same_open s t (Some (c, culprit p n)) (Some (d, culprit q m)) e f j k) in
       let conditions = ap (λ (x : Condition × Culprit). x.0) pair in
       let culprits = ap (λ (x : Condition × Culprit). x.1) pair in
       let places = place_is p q n m culprits in let names = name_is p q n m culprits in
-      λ i. Unprojected (start_of g.file) me (Refused (conditions i) (places i) (told (conditions i) (names i)))
+      λ i. Unprojected (start_of g.file) me (Refused (conditions i) (places i) (names i))
 
   fault_or_not : (s t : local.Statements) (x : Condition × Culprit) → projected me g.body ≡ Some s → projected me g.body ≡ Some t →
       IsOpenFault (projection_of g me s) (Some x) → IsOpenFault (projection_of g me t) None → ⊥

@@ -11,7 +11,7 @@ use Rattle.scr_tree.specs.declared.local.Local.{Local}
 use Rattle.scr_tree.specs.Faults.{Of}
 use Rattle.scr_tree.specs.Local.{tree_of}
 use Rattle.scr_tree.specs.Tree.{LocalTree, Statements}
-use Rattle.scr_read.specs.Outcome.{Refused, told, fault_answer as scr_answer}
+use Rattle.scr_read.specs.Outcome.{Refused, fault_answer as scr_answer}
 use Rattle.scr_read.specs.Outcome as scr
 use Rattle.scr_read.specs.Parts.{parts}
 use Rattle.scr_global.specs.Conditions.{NotMergeable as IsNotMergeable}
@@ -49,7 +49,7 @@ pub data Outcome (g : GlobalTree) (me : Name) : Answer → Type 0 where
   -- there is a projection, which doesn't meet a condition
   unprojected : {body : Statements} {condition : Condition} {place : Place} {name : Name} → projected me g.body ≡ Some body
       → IsOpenFault (projection_of g me body) (Some (condition, culprit place name))
-      → Outcome g me (Unprojected (start_of g.file) me (Refused condition place (told condition name)))
+      → Outcome g me (Unprojected (start_of g.file) me (Refused condition place name))
   -- there is one that meets all
   found : {body : Statements} → projected me g.body ≡ Some body → IsOpenFault (projection_of g me body) None
       → Outcome g me (Protocol (projection_of g me body))

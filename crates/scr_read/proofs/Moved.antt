@@ -13,7 +13,7 @@ use Rattle.scr_judge.specs.declared.fault.Fault.{Fault}
 use Rattle.scr_judge.proofs.Faultless.{faultless}
 use Rattle.mg_read.proofs.Steps.{some_is}
 use Rattle.scr_read.specs.declared.fault.ScrFault.{ScrFault}
-use Rattle.scr_read.specs.Outcome.{Answer, Refused, told, fault_answer}
+use Rattle.scr_read.specs.Outcome.{Answer, Refused, fault_answer}
 use Rattle.scr_read.specs.Parts.{listed, parts, IsRefused, refused}
 
 pub nothing_left : {X : Type 0} (xs : List X) → length xs ≡ 0 → xs ≡ []
@@ -52,7 +52,7 @@ parts_valid t alone w fault same written first none =
 
 pub parts_refused : (t : LocalTree) (w : WrittenTree) (fault : Option Fault) (f : Fault) (s : ScrFault) → w ≡ parts t →
     IsFault w (fault_of fault) → fault ≡ Some f
-    → fault_answer s ≡ Some (Refused f.condition f.place (told f.condition f.name)) → (a : Answer) → fault_answer s ≡ Some a →
+    → fault_answer s ≡ Some (Refused f.condition f.place f.name) → (a : Answer) → fault_answer s ≡ Some a →
     IsRefused (parts t) a
 parts_refused t w fault f s same first some says a answered =
     subst (IsRefused (parts t)) (some_is _ a (sym says ∙ answered))

@@ -19,6 +19,7 @@ use Rattle.scr_parse.specs.Grammar.{IsSpelled}
 use Rattle.scr_parse.specs.Answer.{SaysSyntax}
 use Rattle.scr_read.specs.declared.fault.ScrFault.{ScrFault}
 use Rattle.scr_read.specs.Unsupported.{IsUnsupported}
+use Rattle.scr_read.specs.declared.words.ProtocolKind.TheVariants as kinds
 use Rattle.scr_read.specs.Spelling.{Separates, Spells}
 use Rattle.scr_read.specs.Outcome.{Answer, Protocol, Outcome, fault_answer, answer_of, IsAnswered}
 use Rattle.scr_read.specs.inner.Stages.{Stage, IsProtocol}
@@ -56,7 +57,7 @@ pub says_syntax : (fault : ParseFault) (place : Option Place) → fault ≡ pars
 says_syntax fault place is = subst (λ (f : ParseFault). SaysSyntax (Err f)) (sym is) tt
 
 pub spells_of : (file : ℕ) (bytes : List ℕ) (tokens : List Tok) (w : WrittenTree) → w.file ≡ file → Separates file bytes tokens
-    → Judged IsUnsupported tokens None → IsSpelled w tokens → Spells file bytes w
+    → Judged (IsUnsupported kinds.Local) tokens None → IsSpelled w tokens → Spells file bytes w
 spells_of file bytes tokens w same separates supported spelled =
     record { same_file = same; tokens = tokens; separates = separates; supported = supported; spelled = spelled }
 

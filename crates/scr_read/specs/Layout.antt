@@ -3,20 +3,12 @@ use Rattle.std.specs.Prelude.{ℕ, ◌+◌, ◌*◌, List, [], ◌∷◌, ◌++�
 use Rattle.mg_text.specs.Call.{Name}
 use Rattle.scr_tree.specs.declared.syntax.Direction.{Direction}
 use Rattle.scr_tree.specs.declared.syntax.Direction.TheVariants as directions
-use Rattle.scr_tree.specs.declared.syntax.Payload.{Payload}
-use Rattle.scr_tree.specs.declared.syntax.Payload.TheVariants as payloads
 use Rattle.scr_tree.specs.declared.syntax.Message.{Message}
+use Rattle.scr_tree.specs.Payloads.{payload_word}
 use Rattle.scr_tree.specs.Tree.{LocalTree, Titled, titled, Statements, Nothing, Says, Choice, Rec, Continue, Do, Branches, NoBranch, Branch}
 
 abbrev pub indent : ℕ → List ℕ
 indent level = replicate (4 * level) 32
-
--- the name of the type of what a message carries
-abbrev pub payload_word : Payload → List ℕ
-payload_word payloads.Nothing = []
-payload_word payloads.Int = codes "int"
-payload_word payloads.Boolean = codes "boolean"
-payload_word payloads.Text = codes "String"
 
 abbrev pub direction_word : Direction → List ℕ
 direction_word directions.To = codes "to"

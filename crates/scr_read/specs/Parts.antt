@@ -11,7 +11,7 @@ use Rattle.scr_tree.specs.Local.{tree_of}
 use Rattle.scr_tree.specs.Tree.{LocalTree}
 use Rattle.scr_tree.specs.Written.{WrittenTree}
 use Rattle.scr_tree.specs.Faults.{IsFault}
-use Rattle.scr_read.specs.Outcome.{Answer, Refused, told, fault_answer}
+use Rattle.scr_read.specs.Outcome.{Answer, Refused, fault_answer}
 use Rattle.scr_read.specs.declared.fault.ScrFault.{ScrFault}
 
 -- a role that has no place of its own is listed where the file begins
@@ -38,7 +38,7 @@ parts t = record {
 -- the parts don't meet a condition
 pub data IsRefused (w : WrittenTree) : Answer → Type 0 where
   refused : {condition : Condition} {place : Place} {name : Name} → IsFault w (Some (condition, culprit place name))
-      → IsRefused w (Refused condition place (told condition name))
+      → IsRefused w (Refused condition place name)
 
 -- the protocol of the parts, which meet all conditions, or the fault of those that don't; want of memory says nothing
 abbrev pub Makes : LocalTree → Result Local ScrFault → Type 0

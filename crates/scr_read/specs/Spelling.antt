@@ -6,6 +6,7 @@ use Rattle.scr_tree.specs.Written.{WrittenTree}
 use Rattle.scr_lex.specs.Pieces.{AreTokens}
 use Rattle.scr_parse.specs.Grammar.{IsSpelled}
 use Rattle.scr_read.specs.Unsupported.{IsUnsupported}
+use Rattle.scr_read.specs.declared.words.ProtocolKind.TheVariants as kinds
 
 -- the bytes of a file are no more than a file may hold, and separate into these tokens, which takes that they are UTF-8
 pub record Separates (file : ℕ) (bytes : List ℕ) (tokens : List Tok) : Type 0 where
@@ -17,5 +18,5 @@ pub record Spells (file : ℕ) (bytes : List ℕ) (w : WrittenTree) : Type 0 whe
   pub same_file : w.file ≡ file
   pub tokens : List Tok
   pub separates : Separates file bytes tokens
-  pub supported : Judged IsUnsupported tokens None
+  pub supported : Judged (IsUnsupported kinds.Local) tokens None
   pub spelled : IsSpelled w tokens

@@ -25,6 +25,7 @@ pub use print::print_local;
 use scr_judge::first_fault;
 pub use scr_tree::{Direction, Local, Message, Part, Payload, Statement};
 use std::alloc::Global;
+pub use words::{ProtocolKind, first_unsupported};
 
 /// Bytes that a file may hold.
 pub const MAX_BYTES: usize = 1_048_576;

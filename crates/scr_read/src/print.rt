@@ -6,10 +6,10 @@ ghost use Rattle.scr_tree.specs.Local.{tree_of};
 ghost use Rattle.scr_tree.specs.Tree.{Nothing, other};
 ghost use Rattle.scr_tree.specs.View.{front, statements, bodies, part_of};
 ghost use Rattle.scr_read.specs.Layout.{layout, part_text, part_texts, do_text, argument_list, block, lines, branch_lines, role_list};
-ghost use Rattle.scr_read.specs.Layout.{indent, message_text, payload_word, direction_word};
+ghost use Rattle.scr_read.specs.Layout.{indent, message_text, direction_word};
 
 use mg_text::{List, Memory, Text};
-use scr_tree::{Direction, Local, Message, Part, Payload, Statement};
+use scr_tree::{Direction, Local, Message, Part, Statement};
 use std::alloc::Global;
 
 /// The text of a local protocol: the first one of its file, and behind it the others. The only error
@@ -184,23 +184,11 @@ fn put_message(out: &mut String, message: &Message) -> Result<(), Memory>
     ensures { OnOk result (string_bytes out.new ≡ string_bytes out.old ++ message_text message.now) }
 {
     put(out, &[message.label.as_str(), "("])?;
-    out.push_str(payload_word(message.payload))?;
+    out.push_str(message.payload.word())?;
     put(out, &[") "])?;
     out.push_str(direction_word(message.direction))?;
     put(out, &[" ", message.peer.as_str(), ";"])?;
     Ok(())
-}
-
-// The name of the type of what a message carries.
-fn payload_word(payload: Payload) -> &'static str
-    ensures { result.now ≡ payload_word payload }
-{
-    match payload {
-        Payload::Nothing => "",
-        Payload::Int => "int",
-        Payload::Boolean => "boolean",
-        Payload::Text => "String",
-    }
 }
 
 fn direction_word(direction: Direction) -> &'static str

@@ -7,7 +7,7 @@ ghost use Rattle.scr_read.specs.Spelling.{Separates, Spells};
 ghost use Rattle.scr_read.specs.inner.Stages.{Stage};
 
 use crate::fault::ScrFault;
-use crate::words::first_unsupported;
+use crate::words::{ProtocolKind, first_unsupported};
 use mg_text::{List, Place, Text, place_of};
 use scr_lex::LexFault;
 use scr_parse::ParseFault;
@@ -43,7 +43,7 @@ fn parsed_of(alloc: Global, file: u32, bytes: &[u8], tokens: &[Token]) -> Result
     requires { Separates file bytes.now (toks tokens.now) }
     ensures { Stage file bytes.now (λ w. Spells file bytes.now (written_of file w)) result }
 {
-    if let Some((place, word)) = first_unsupported(tokens) {
+    if let Some((place, word)) = first_unsupported(ProtocolKind::Local, tokens) {
         let name = Text::of(alloc, word)?;
         return Err(ScrFault::Unsupported { place, name });
     }

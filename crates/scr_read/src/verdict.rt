@@ -5,44 +5,27 @@ ghost use Rattle.scr_tree.specs.Local.{tree_of};
 ghost use Rattle.scr_tree.specs.Valid.{IsValid};
 ghost use Rattle.scr_tree.specs.View.{part_of};
 ghost use Rattle.scr_tree.specs.Written.{written_of, part_written, part_meant, local_of, role_name};
-ghost use Rattle.scr_read.specs.Outcome.{Refused, told, fault_answer};
+ghost use Rattle.scr_read.specs.Outcome.{Refused, fault_answer};
 
 use crate::fault::ScrFault;
 use mg_text::{List, Memory, Text};
 use scr_judge::Fault;
-use scr_tree::{Condition, Local, Part, Role, Written, WrittenPart};
+use scr_tree::{Local, Part, Role, Written, WrittenPart};
 use std::alloc::Global;
 
 // The fault of a file that doesn't meet a condition.
 pub(crate) fn refusal(fault: Fault) -> ScrFault
-    ensures { fault_answer result ≡ Some (Refused fault.condition fault.place (told fault.condition fault.name)) }
+    ensures { fault_answer result ≡ Some (Refused fault.condition fault.place fault.name) }
 {
     let Fault {
         condition,
         place,
         name,
     } = fault;
-    match condition {
-        Condition::DuplicateName => ScrFault::DuplicateName { place, name },
-        Condition::UnknownRole => ScrFault::UnknownRole { place, name },
-        Condition::PeerIsSelf => ScrFault::PeerIsSelf { place },
-        Condition::UnknownType => ScrFault::UnknownType { place, name },
-        Condition::PayloadCount => ScrFault::PayloadCount { place },
-        Condition::UnknownRec => ScrFault::UnknownRec { place, name },
-        Condition::DuplicateRec => ScrFault::DuplicateRec { place, name },
-        Condition::Unguarded => ScrFault::Unguarded { place, name },
-        Condition::Unreachable => ScrFault::Unreachable { place },
-        Condition::BranchStart => ScrFault::BranchStart { place },
-        Condition::MixedChoice => ScrFault::MixedChoice { place },
-        Condition::SameLabel => ScrFault::SameLabel { place, name },
-        Condition::ReservedLabel => ScrFault::ReservedLabel { place, name },
-        Condition::NameClash => ScrFault::NameClash { place, name },
-        Condition::TooManyStates => ScrFault::TooManyStates { place },
-        Condition::UnknownProtocol => ScrFault::UnknownProtocol { place, name },
-        Condition::DuplicateProtocol => ScrFault::DuplicateProtocol { place, name },
-        Condition::RolesDiffer => ScrFault::RolesDiffer { place, name },
-        Condition::NotLast => ScrFault::NotLast { place, name },
-        Condition::StartsWithDo => ScrFault::StartsWithDo { place, name },
+    ScrFault::Unmet {
+        condition,
+        place,
+        name,
     }
 }
 

@@ -1,7 +1,6 @@
 //! The names of calls, made and compared.
 
 ghost use Rattle.std.specs.Prelude.{◌≡◌, IfOk, MatchOption, ◌++◌, ◌≢◌, List, ℕ};
-ghost use Rattle.std.specs.List.{flat_map};
 ghost use Rattle.std.specs.Str.{bytes_eq};
 ghost use Rattle.std.specs.Fmt.{decimal};
 ghost use Rattle.scr_tree.specs.CallNames.{label_call, message_call};
@@ -10,7 +9,7 @@ ghost use Rattle.scr_tree.specs.Meaning.{message_of};
 ghost use Rattle.scr_trace.specs.inner.Joined.{joined};
 
 use mg_text::{Memory, Text};
-use scr_tree::{Direction, Local, Message, Payload};
+use scr_tree::{Direction, Local, Message, label_call};
 use std::alloc::Global;
 
 /// The name of the method that answers which label a peer has sent, of the choice of this number
@@ -23,20 +22,8 @@ pub fn label_call_name(
 ) -> Result<Text, Memory>
     ensures { IfOk result (λ t. t ≡ label_call (tree_of local.now).me number peer.now) }
 {
-    let digits = format!(in alloc; "{number}")?;
-    let me = local.me().as_str();
-    let name = text_of(
-        alloc,
-        &["receive_", me, "Choice", digits.as_str(), "LabelFrom", peer],
-    )?;
+    let name = label_call(alloc, local.me().as_str(), number, peer)?;
     Ok(name)
-}
-
-// Pieces of a text, one behind another.
-fn text_of(alloc: Global, pieces: &[&str]) -> Result<Text, Memory>
-    ensures { IfOk result (λ t. t ≡ flat_map (λ p. p.now) pieces.now) }
-{
-    Ok(Text::from_string(pieces.concat(alloc)?))
 }
 
 /// Whether this is the name of the method that sends or receives a message. No name is made.
@@ -44,12 +31,7 @@ fn text_of(alloc: Global, pieces: &[&str]) -> Result<Text, Memory>
 pub fn is_message_call(method: &str, message: &Message) -> bool
     ensures { result ≡ bytes_eq method.now (message_call (message_of message.now)) }
 {
-    let payload = match message.payload {
-        Payload::Nothing => "",
-        Payload::Int => "Int",
-        Payload::Boolean => "Boolean",
-        Payload::Text => "String",
-    };
+    let payload = message.payload.part();
     let label = message.label.as_str();
     let peer = message.peer.as_str();
     match message.direction {

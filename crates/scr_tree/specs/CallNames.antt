@@ -4,17 +4,9 @@ use Rattle.std.specs.Fmt.{decimal}
 use Rattle.mg_text.specs.Call.{Name, Call}
 use Rattle.scr_tree.specs.declared.syntax.Direction.{Direction}
 use Rattle.scr_tree.specs.declared.syntax.Direction.TheVariants as directions
-use Rattle.scr_tree.specs.declared.syntax.Payload.{Payload}
-use Rattle.scr_tree.specs.declared.syntax.Payload.TheVariants as payloads
+use Rattle.scr_tree.specs.Payloads.{payload_part}
 use Rattle.scr_tree.specs.Protocol.{Message, Send, Take}
 use Rattle.scr_tree.specs.Steps.{Act, Moves, Looks}
-
--- the part of a name that tells what a message carries
-abbrev pub payload_part : Payload → List ℕ
-payload_part payloads.Nothing = []
-payload_part payloads.Int = codes "Int"
-payload_part payloads.Boolean = codes "Boolean"
-payload_part payloads.Text = codes "String"
 
 -- how the name of a message's method begins, and what stands before the peer in it
 abbrev pub start_of : Direction → List ℕ

@@ -1,5 +1,5 @@
 -- The fault of a file that is a tree: of the conditions that don't hold the one of the lowest number, at its first place in the text.
-use Rattle.std.specs.Prelude.{List, [], ◌∷◌, map, Option}
+use Rattle.std.specs.Prelude.{ℕ, List, [], ◌∷◌, map, Option, codes}
 use Rattle.std.specs.List.{flat_map}
 use Rattle.mg_read.specs.Culprit.{Culprit}
 use Rattle.mg_read.specs.First.{Judged, FirstOf, with_earlier}
@@ -45,6 +45,29 @@ by_number =
     ∷ conditions.UnknownRec ∷ conditions.DuplicateRec ∷ conditions.Unguarded ∷ conditions.Unreachable ∷ conditions.BranchStart
     ∷ conditions.MixedChoice ∷ conditions.SameLabel ∷ conditions.ReservedLabel ∷ conditions.NameClash ∷ conditions.TooManyStates
     ∷ conditions.UnknownProtocol ∷ conditions.DuplicateProtocol ∷ conditions.RolesDiffer ∷ conditions.NotLast ∷ conditions.StartsWithDo ∷ []
+
+-- the word for a condition in a refusal
+abbrev pub condition_word : Condition → List ℕ
+condition_word conditions.DuplicateName = codes "DuplicateName"
+condition_word conditions.UnknownRole = codes "UnknownRole"
+condition_word conditions.PeerIsSelf = codes "PeerIsSelf"
+condition_word conditions.UnknownType = codes "UnknownType"
+condition_word conditions.PayloadCount = codes "PayloadCount"
+condition_word conditions.UnknownRec = codes "UnknownRec"
+condition_word conditions.DuplicateRec = codes "DuplicateRec"
+condition_word conditions.Unguarded = codes "Unguarded"
+condition_word conditions.Unreachable = codes "Unreachable"
+condition_word conditions.BranchStart = codes "BranchStart"
+condition_word conditions.MixedChoice = codes "MixedChoice"
+condition_word conditions.SameLabel = codes "SameLabel"
+condition_word conditions.ReservedLabel = codes "ReservedLabel"
+condition_word conditions.NameClash = codes "NameClash"
+condition_word conditions.TooManyStates = codes "TooManyStates"
+condition_word conditions.UnknownProtocol = codes "UnknownProtocol"
+condition_word conditions.DuplicateProtocol = codes "DuplicateProtocol"
+condition_word conditions.RolesDiffer = codes "RolesDiffer"
+condition_word conditions.NotLast = codes "NotLast"
+condition_word conditions.StartsWithDo = codes "StartsWithDo"
 
 -- the fault, or none
 abbrev pub IsFault : WrittenTree → Option (Condition × Culprit) → Type 0

@@ -3,6 +3,7 @@ pub mod Tree
 pub mod View
 pub mod Protocol
 pub mod Steps
+pub mod Payloads
 pub mod CallNames
 pub mod Traces
 pub mod Meaning

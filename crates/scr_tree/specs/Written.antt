@@ -1,5 +1,5 @@
 -- A file as it is written, beside the protocols that it means: types, roles and payloads by their names.
-use Rattle.std.specs.Prelude.{ℕ, List, [], ◌∷◌, map, Option, Some, None, codes, if◌then◌else◌}
+use Rattle.std.specs.Prelude.{ℕ, List, [], ◌∷◌, map, Option, Some, None, if◌then◌else◌}
 use Rattle.std.specs.Str.{bytes_eq}
 use Rattle.std.specs.Option.{option_or}
 use Rattle.mg_text.specs.Call.{Name}
@@ -12,6 +12,7 @@ use Rattle.scr_tree.specs.declared.written.WrittenPart.{WrittenPart as Part}
 use Rattle.scr_tree.specs.declared.written.Written.{Written}
 use Rattle.scr_tree.specs.declared.syntax.Payload.{Payload}
 use Rattle.scr_tree.specs.declared.syntax.Payload.TheVariants as payloads
+use Rattle.scr_tree.specs.Payloads.{payload_class, payload_word}
 use Rattle.scr_tree.specs.Tree.{PartTree, LocalTree, Titled, Statements}
 use Rattle.scr_tree.specs.View.{statements}
 
@@ -111,17 +112,17 @@ local_of w = record {
 -- the kind of a value of a Java class
 abbrev pub kind_of_class : Name → Option Payload
 kind_of_class class =
-    if bytes_eq class (codes "java.lang.Integer") then Some payloads.Int
-    else (if bytes_eq class (codes "java.lang.Boolean") then Some payloads.Boolean
-    else (if bytes_eq class (codes "java.lang.String") then Some payloads.Text
+    if bytes_eq class (payload_class payloads.Int) then Some payloads.Int
+    else (if bytes_eq class (payload_class payloads.Boolean) then Some payloads.Boolean
+    else (if bytes_eq class (payload_class payloads.Text) then Some payloads.Text
     else None))
 
 -- the class of a name that is declared beforehand
 abbrev pub class_beforehand : Name → Option Name
 class_beforehand alias =
-    if bytes_eq alias (codes "int") then Some (codes "java.lang.Integer")
-    else (if bytes_eq alias (codes "boolean") then Some (codes "java.lang.Boolean")
-    else (if bytes_eq alias (codes "String") then Some (codes "java.lang.String")
+    if bytes_eq alias (payload_word payloads.Int) then Some (payload_class payloads.Int)
+    else (if bytes_eq alias (payload_word payloads.Boolean) then Some (payload_class payloads.Boolean)
+    else (if bytes_eq alias (payload_word payloads.Text) then Some (payload_class payloads.Text)
     else None))
 
 -- the class that the first declaration of a name gives it

@@ -11,7 +11,7 @@ mod written;
 
 pub use condition::Condition;
 pub use local::Local;
-pub use names::call_name;
+pub use names::{call_name, label_call};
 pub use syntax::{Direction, Message, Part, Payload, Statement};
 pub use token::{Mark, Token, TokenKind};
 pub use written::{Arguments, Carries, Declaration, Role, Written, WrittenPart};

@@ -8,17 +8,17 @@ ghost use Rattle.scr_tree.specs.Local.{tree_of};
 ghost use Rattle.jv_tree.specs.View.{decl_of, class_of as kept_class, method_of as kept_method};
 ghost use Rattle.stm_api.specs.Api.{IsApi, written, class_file, class_with, enum_file, enum_files, method_of};
 ghost use Rattle.stm_api.specs.View.{written_of};
-ghost use Rattle.stm_api.specs.Doings.{call_of};
 ghost use Rattle.stm_api.specs.inner.Does.{firsts_of};
 ghost use Rattle.stm_api.specs.inner.View.{doing_of, names_of};
 
 use crate::doings::{Doing, doings_of};
-use crate::methods::{call_of, choice_enum, method_of};
+use crate::methods::{call_of, method_of};
 use jv_print::print_file;
 use jv_tree::{Class, Decl, Enum, File, MethodDecl};
 use mg_text::{List, Memory, Names, Place, Text};
 use scr_tree::Local;
 use std::alloc::Global;
+use stm_gen::choice_enum;
 
 /// A file of an API: its name, what it holds, and the text of that. Places are the first of the
 /// protocol's file.
@@ -82,35 +82,29 @@ fn methods_of(
     let mut seen = Names::new(alloc);
     let mut methods = List::new(alloc);
     for doing in doings {
-        let is_new = add_call(alloc, local, doing, &mut seen)?;
+        let name = call_of(alloc, local, doing)?;
+        let is_new = add_call(name.as_str(), &mut seen)?;
         if !is_new {
             continue;
         }
-        let method = method_of(alloc, local, place, doing)?;
+        let method = method_of(alloc, local, place, name, doing)?;
         methods.push(method)?;
     }
     Ok(methods)
 }
 
-// Adds the name of the method that does this to those that were seen, and answers whether it is new.
-fn add_call(
-    alloc: Global,
-    local: &Local,
-    doing: &Doing<'_>,
-    seen: &mut Names,
-) -> Result<bool, Memory>
-    ensures added { OnOk result (seen.new ≡ with_text seen.old (call_of (tree_of local.now).me (doing_of doing.now))) }
-    ensures new { IfOk result (λ b. b
-        ≡ not (is_some (position (bytes_eq (call_of (tree_of local.now).me (doing_of doing.now))) seen.old))) }
+// Adds the name of a method to those that were seen, and answers whether it is new.
+fn add_call(call: &str, seen: &mut Names) -> Result<bool, Memory>
+    ensures added { OnOk result (seen.new ≡ with_text seen.old call.now) }
+    ensures new { IfOk result (λ b. b ≡ not (is_some (position (bytes_eq call.now) seen.old))) }
 {
-    let call = call_of(alloc, local, doing)?;
-    if seen.find(call.as_str()).is_some() {
+    if seen.find(call).is_some() {
         return Ok(false);
     }
     if seen.len() >= MOST_NAMES {
         return Err(Memory);
     }
-    seen.add(call.as_str())?;
+    seen.add(call)?;
     Ok(true)
 }
 

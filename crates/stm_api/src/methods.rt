@@ -1,10 +1,10 @@
 //! The methods of an API class: one for each call of the role.
 
 ghost use Rattle.std.specs.Prelude.{◌≡◌, IfOk, map};
-ghost use Rattle.scr_tree.specs.CallNames.{message_call};
+ghost use Rattle.scr_tree.specs.CallNames.{message_call, label_call};
 ghost use Rattle.scr_tree.specs.Local.{tree_of};
 ghost use Rattle.scr_tree.specs.Meaning.{message_of};
-ghost use Rattle.stm_gen.specs.Laid.{carried_type, carried_params, choice_enum};
+ghost use Rattle.stm_gen.specs.Laid.{carried_params};
 ghost use Rattle.jv_tree.specs.View.{method_of as kept_method, stmt_of};
 ghost use Rattle.stm_api.specs.Doings.{call_of};
 ghost use Rattle.stm_api.specs.Api.{method_of, method_with, look_method, send_method, take_method, value_param};
@@ -17,6 +17,7 @@ use mg_text::{List, Memory, Place, Text};
 use scr_trace::label_call_name;
 use scr_tree::{Direction, Local, Message, Payload, call_name};
 use std::alloc::Global;
+use stm_gen::{carried, choice_enum};
 use ts_tree::TypeName;
 
 /// The name of the method that does this.
@@ -29,44 +30,56 @@ pub fn call_of(alloc: Global, local: &Local, doing: &Doing<'_>) -> Result<Text, 
     }
 }
 
-/// The method that does this.
+/// The method of this name that does this.
 #[tactic(auto, using(crate::proofs::Made::messages))]
 pub fn method_of(
     alloc: Global,
     local: &Local,
     place: Place,
+    name: Text,
     doing: &Doing<'_>,
 ) -> Result<MethodDecl, Memory>
+    requires { name ≡ call_of (tree_of local.now).me (doing_of doing.now) }
     ensures { IfOk result (λ m. kept_method m ≡ method_of place (tree_of local.now).me (doing_of doing.now)) }
 {
     match doing {
         Doing::Passes(message) => match message.direction {
-            Direction::To => send_method(alloc, place, message),
-            Direction::From => take_method(alloc, place, message),
+            Direction::To => send_method(alloc, place, name, message),
+            Direction::From => take_method(alloc, place, name, message),
         },
         Doing::Asks(number, peer, labels) => {
-            look_method(alloc, local, place, *number, peer, labels.as_slice())
+            look_method(alloc, local, place, name, *number, peer, labels.as_slice())
         }
     }
 }
 
 // The method that sends a message.
-fn send_method(alloc: Global, place: Place, message: &Message) -> Result<MethodDecl, Memory>
+fn send_method(
+    alloc: Global,
+    place: Place,
+    name: Text,
+    message: &Message,
+) -> Result<MethodDecl, Memory>
+    requires { name ≡ message_call (message_of message.now) }
     ensures { IfOk result (λ m. kept_method m ≡ send_method place (message_call (message_of message.now)) message.now.peer message.now.label
         message.now.payload) }
 {
-    let name = call_name(alloc, message)?;
     let params = value_params(alloc, place, message.payload)?;
     let body = send_body(alloc, place, message)?;
     Ok(method(place, TypeName::Void, name, params, body))
 }
 
 // The method that takes a message, and answers what it carries.
-fn take_method(alloc: Global, place: Place, message: &Message) -> Result<MethodDecl, Memory>
+fn take_method(
+    alloc: Global,
+    place: Place,
+    name: Text,
+    message: &Message,
+) -> Result<MethodDecl, Memory>
+    requires { name ≡ message_call (message_of message.now) }
     ensures { IfOk result (λ m. kept_method m ≡ take_method place (message_call (message_of message.now)) message.now.peer message.now.label
         message.now.payload) }
 {
-    let name = call_name(alloc, message)?;
     let body = take_body(alloc, place, message)?;
     let result = carried(message.payload);
     Ok(method(place, result, name, List::new(alloc), body))
@@ -77,13 +90,14 @@ fn look_method(
     alloc: Global,
     local: &Local,
     place: Place,
+    name: Text,
     number: u32,
     peer: &Text,
     labels: &[&Text],
 ) -> Result<MethodDecl, Memory>
+    requires { name ≡ label_call (tree_of local.now).me number peer.now }
     ensures { IfOk result (λ m. kept_method m ≡ look_method place (tree_of local.now).me number peer.now (names_of labels.now)) }
 {
-    let name = label_call_name(alloc, local, number, peer.as_str())?;
     let answers = choice_enum(alloc, local.me().as_str(), number)?;
     let body = look_body(alloc, place, answers.as_str(), peer.as_str(), labels)?;
     let result = TypeName::Named(answers);
@@ -124,24 +138,4 @@ fn value_params(alloc: Global, place: Place, payload: Payload) -> Result<List<Pa
     let ty = carried(payload);
     params.push(Param { place, ty, name })?;
     Ok(params)
-}
-
-// The type of what a message carries.
-fn carried(payload: Payload) -> TypeName
-    ensures { result ≡ carried_type payload }
-{
-    match payload {
-        Payload::Nothing => TypeName::Void,
-        Payload::Int => TypeName::Int,
-        Payload::Boolean => TypeName::Boolean,
-        Payload::Text => TypeName::Text,
-    }
-}
-
-/// The name of the enum whose constants are the labels of a choice.
-pub fn choice_enum(alloc: Global, me: &str, number: u32) -> Result<Text, Memory>
-    ensures { IfOk result (λ t. t ≡ choice_enum me.now number) }
-{
-    let name = format!(in alloc; "{me}Choice{number}")?;
-    Ok(Text::from_string(name))
 }

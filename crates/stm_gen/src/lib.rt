@@ -13,12 +13,14 @@ ghost use Rattle.stm_gen.specs.Laid.{IsLaid};
 ghost use Rattle.stm_gen.specs.Numbered.{typestate_of};
 ghost use Rattle.stm_gen.specs.Agreement.{Agrees};
 
+pub use methods::choice_enum;
 use mg_text::{Memory, Text};
 use scr_trace::Laying;
 use scr_tree::Local;
 use states::states_of;
 use std::alloc::Global;
 use ts_tree::Typestate;
+pub use types::carried;
 
 /// The typestate of a local protocol: `State0`, `State1`, .. in the order of the text, each with
 /// the methods of the steps there, which lead to the states that these reach. There are at most 1,000.

@@ -120,8 +120,8 @@ fn label_method(
     })
 }
 
-// The name of the enum whose constants are the labels of a choice.
-fn choice_enum(alloc: Global, me: &str, number: u32) -> Result<Text, Memory>
+/// The name of the enum whose constants are the labels of a choice.
+pub fn choice_enum(alloc: Global, me: &str, number: u32) -> Result<Text, Memory>
     ensures { IfOk result (λ t. t ≡ choice_enum me.now number) }
 {
     let name = format!(in alloc; "{me}Choice{number}")?;

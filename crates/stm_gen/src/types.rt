@@ -30,8 +30,8 @@ pub fn params_of(alloc: Global, message: &Message) -> Result<List<TypeName>, Mem
     Ok(params)
 }
 
-// The type of what a message carries.
-fn carried(payload: Payload) -> TypeName
+/// The type of what a message carries.
+pub fn carried(payload: Payload) -> TypeName
     ensures { result ≡ carried_type payload }
 {
     match payload {

@@ -1,4 +1,5 @@
 pub mod Queues
+pub mod Outgoing
 pub mod Descriptors
 pub mod Spelled
 pub mod KeptTypes

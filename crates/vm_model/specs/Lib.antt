@@ -5,6 +5,7 @@ pub mod Types
 pub mod Kept
 pub mod Descriptors
 pub mod Messages
+pub mod Outboxes
 pub mod Machine
 pub mod Actions
 pub mod Linked

@@ -5,6 +5,7 @@
 mod built;
 mod linked;
 mod linked_type;
+mod outbox;
 mod ports;
 mod program;
 mod spelling;

@@ -1,51 +1,35 @@
-//! The messages between the roles of a run: a queue for each ordered pair of them.
-//! Taking the first message of a queue shifts no other.
+//! The messages between the roles of a run: a list for each ordered pair of them.
 
-ghost use Rattle.std.specs.Prelude.{◌≡◌, ◌<◌, [], ◌∷◌, ◌++◌, length, map, drop, slice_get, slice_set, option_map, IfOk, OnOk, OnErr};
-ghost use Rattle.std.specs.Prelude.{replicate};
+ghost use Rattle.std.specs.Prelude.{◌≡◌, drop, slice_get, option_map, IfOk, OnOk, OnErr};
 ghost use Rattle.std.specs.List.{IsDistinct};
 ghost use Rattle.std.specs.Str.{bytes_eq};
-ghost use Rattle.vm_model.specs.Messages.{on_way, sending, with_list, role_named, no_messages, or_nothing};
+ghost use Rattle.vm_model.specs.Messages.{on_way, sending, with_list, role_named, no_messages};
 
+use crate::outbox::Outbox;
 use mg_text::{Memory, Names, Sent, Text};
 use std::alloc::Global;
-use std::collections::VecDeque;
 use std::marker::Model;
 
 /// Roles, and for each ordered pair of them the messages on their way from one to the other.
 pub struct Ports {
     roles: Names,
-    queues: Vec<Vec<VecDeque<Sent>>>,
+    // What each role has sent.
+    sent: Vec<Outbox>,
 }
 
 // One call lets go of it, wherever a function ends.
 impl Drop for Ports {
     fn drop(self) {
-        let Ports {
-            roles: _,
-            queues: _,
-        } = self;
+        let Ports { roles: _, sent: _ } = self;
     }
 }
 
 impl Model for Ports {
-    ghost use Rattle.std.specs.Prelude.{map};
     ghost use Rattle.vm_model.specs.Messages.{Messages};
 
     ghost Value = { Messages };
 
-    ghost view = { λ p. record { roles = p.roles; lists = map (λ row. map (λ queue. queue.items) row.items) p.queues.items } };
-}
-
-/// A queue for each of so many receivers.
-fn queues_to(alloc: Global, count: usize) -> Result<Vec<VecDeque<Sent>>, Memory>
-    ensures { IfOk result (λ v. map (λ queue. queue.items) v.items ≡ replicate count []) }
-{
-    let mut queues = Vec::new(alloc);
-    for _ in 0..count {
-        queues.push(VecDeque::new(alloc))?;
-    }
-    Ok(queues)
+    ghost view = { λ p. record { roles = p.roles; lists = p.sent.items } };
 }
 
 /// The names of roles, in a table.
@@ -63,37 +47,6 @@ fn table_of(alloc: Global, roles: &[Text]) -> Result<Names, Memory>
     Ok(names)
 }
 
-/// Appends a message to the queue of a receiver, where there is one.
-fn append_to(queues: &mut Vec<VecDeque<Sent>>, to: usize, message: Sent) -> Result<(), Memory>
-    ensures ok { OnOk result (map (λ queue. queue.items) queues.new.items
-        ≡ (let lists = map (λ queue. queue.items) queues.old.items in
-        slice_set lists to (or_nothing (slice_get lists to) ++ message ∷ []))) }
-    ensures err { OnErr result (map (λ queue. queue.items) queues.new.items ≡ map (λ queue. queue.items) queues.old.items) }
-{
-    if to < queues.len() {
-        let queue = &mut queues[to];
-        return match queue.push_back(message) {
-            Ok(()) => Ok(()),
-            Err(_refused) => Err(Memory),
-        };
-    }
-    Ok(())
-}
-
-/// Takes the first message of the queue of a receiver.
-fn take_first(queues: &mut Vec<VecDeque<Sent>>, to: usize) -> Option<Sent>
-    ensures list { map (λ queue. queue.items) queues.new.items
-        ≡ (let lists = map (λ queue. queue.items) queues.old.items in slice_set lists to (drop 1 (or_nothing (slice_get lists to)))) }
-    ensures first { result ≡ slice_get (or_nothing (slice_get (map (λ queue. queue.items) queues.old.items) to)) 0 }
-{
-    if to < queues.len() {
-        let queue = &mut queues[to];
-        queue.pop_front()
-    } else {
-        None
-    }
-}
-
 impl Ports {
     /// The ports of these roles, which are distinct, with no messages on their way.
     ///
@@ -104,15 +57,14 @@ impl Ports {
         ensures { IfOk result (λ p. p ≡ no_messages roles.now) }
     {
         let names = table_of(alloc, roles)?;
-        let mut queues = Vec::new(alloc);
-        for _ in 0..roles.len() {
-            let row = queues_to(alloc, roles.len())?;
-            queues.push(row)?;
+        let Ok(count) = u32::try_from(roles.len()) else {
+            return Err(Memory);
+        };
+        let mut sent = Vec::new(alloc);
+        for _ in 0..count {
+            sent.push(Outbox::new(alloc, count))?;
         }
-        Ok(Ports {
-            roles: names,
-            queues,
-        })
+        Ok(Ports { roles: names, sent })
     }
 
     /// The number of the role of this name.
@@ -129,9 +81,8 @@ impl Ports {
     pub fn first(&self, from: u32, to: u32) -> Option<&Sent>
         ensures { option_map (λ m. m.now) result ≡ slice_get (on_way self.now from to) 0 }
     {
-        let queues = self.queues.get(from as usize)?;
-        let queue = queues.get(to as usize)?;
-        queue.front()
+        let outbox = self.sent.get(from as usize)?;
+        outbox.first(to)
     }
 
     /// Sends a message from a role to another. After an error nothing has changed.
@@ -143,9 +94,9 @@ impl Ports {
         ensures err { OnErr result (self.new ≡ self.old) }
     {
         let from = from as usize;
-        if from < self.queues.len() {
-            let row = &mut self.queues[from];
-            return append_to(row, to as usize, message);
+        if from < self.sent.len() {
+            let outbox = &mut self.sent[from];
+            return outbox.send(to, message);
         }
         Ok(())
     }
@@ -156,9 +107,9 @@ impl Ports {
         ensures first { result ≡ slice_get (on_way self.old from to) 0 }
     {
         let from = from as usize;
-        if from < self.queues.len() {
-            let row = &mut self.queues[from];
-            take_first(row, to as usize)
+        if from < self.sent.len() {
+            let outbox = &mut self.sent[from];
+            outbox.take(to)
         } else {
             None
         }

@@ -88,14 +88,7 @@ fn add_unprojected(answer: &mut Answer, fault: &ProjectFault) {
 // The kind of a fault that a projection may have.
 fn kind(fault: &ScrFault) -> &'static str {
     match fault {
-        ScrFault::Unguarded { .. } => "Unguarded",
-        ScrFault::Unreachable { .. } => "Unreachable",
-        ScrFault::BranchStart { .. } => "BranchStart",
-        ScrFault::MixedChoice { .. } => "MixedChoice",
-        ScrFault::SameLabel { .. } => "SameLabel",
-        ScrFault::ReservedLabel { .. } => "ReservedLabel",
-        ScrFault::NameClash { .. } => "NameClash",
-        ScrFault::TooManyStates { .. } => "TooManyStates",
+        ScrFault::Unmet { condition, .. } => condition.word(),
         _ => "another",
     }
 }

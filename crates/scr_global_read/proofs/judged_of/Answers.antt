@@ -3,10 +3,10 @@ use Rattle.std.proofs.lemmas.Grind.{merely}
 use Rattle.scr_global_tree.specs.Faults.{IsFault}
 use Rattle.scr_global_tree.specs.Tree.{GlobalTree}
 use Rattle.scr_global_tree.specs.Written.{written_of}
-use Rattle.scr_global_judge.specs.Fault.{fault_of}
-use Rattle.scr_global_judge.specs.declared.fault.Fault.{Fault}
+use Rattle.scr_judge.specs.Fault.{fault_of}
+use Rattle.scr_judge.specs.declared.fault.Fault.{Fault}
 use Rattle.scr_global_judge.proofs.Faultless.{faultless}
-use Rattle.scr_global_read.specs.Outcome.{Outcome, Protocol, Refused, told, fault_answer, refused, found}
+use Rattle.scr_global_read.specs.Outcome.{Outcome, Protocol, Refused, fault_answer, refused, found}
 use Rattle.scr_global_read.proofs.Named.{can_be_written}
 use Rattle.scr_read.proofs.Staged.{told_by}
 use Rattle.scr_global_read.proofs.judged_of.Goals as goal
@@ -23,7 +23,7 @@ returns-in-Some c =
     let f = c.in-Some.fault in
     let fault = subst (λ (o : Option Fault). IsFault w (fault_of o)) c.in-Some.is c.in_ok-fault.ensures in
     told_by (Outcome c.args.file c.args.bytes.now) (fault_answer c.refusal.result)
-    (Refused f.condition f.place (told f.condition f.name)) c.refusal.ensures
+    (Refused f.condition f.place f.name) c.refusal.ensures
     (refused {w = w} {condition = f.condition} {place = f.place} {name = f.name} c.in_ok-written.ensures fault)
 
 pub returns-in_ok-protocol_of-in-None : goal.returns-in_ok-protocol_of-in-None

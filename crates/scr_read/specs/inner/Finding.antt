@@ -3,8 +3,9 @@ use Rattle.std.specs.Prelude.{Option, None}
 use Rattle.mg_text.specs.Call.{Name}
 use Rattle.scr_tree.specs.Tok.{Tok, named, quoted, marked}
 use Rattle.scr_read.specs.Unsupported.{unsupported_word}
+use Rattle.scr_read.specs.declared.words.ProtocolKind.{ProtocolKind}
 
-abbrev pub word_in : Tok → Option Name
-word_in (named place name) = None
-word_in (quoted place name) = None
-word_in (marked place mark) = unsupported_word mark
+abbrev pub word_in : ProtocolKind → Tok → Option Name
+word_in kind (named place name) = None
+word_in kind (quoted place name) = None
+word_in kind (marked place mark) = unsupported_word kind mark

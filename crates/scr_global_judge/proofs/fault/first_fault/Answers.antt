@@ -3,7 +3,7 @@ use Rattle.std.proofs.lemmas.Result.{IfOk-weaker}
 use Rattle.mg_read.specs.First.{FirstOf}
 use Rattle.scr_global_tree.specs.Faults.{Of}
 use Rattle.scr_global_tree.specs.Written.{written_of}
-use Rattle.scr_global_judge.specs.Fault.{fault_of}
+use Rattle.scr_judge.specs.Fault.{fault_of}
 use Rattle.scr_global_judge.proofs.fault.first_fault.Goals as goal
 
 pub returns : goal.returns

@@ -1,7 +1,7 @@
 use Rattle.std.proofs.Common.{ap, arith}
 use Rattle.scr_global_tree.specs.Faults.{Of}
 use Rattle.scr_global_tree.specs.Written.{written_of}
-use Rattle.scr_global_tree.specs.declared.condition.GlobalCondition.TheVariants as conditions
+use Rattle.scr_tree.specs.declared.condition.Condition.TheVariants as conditions
 use Rattle.scr_judge.specs.inner.View.{named_of}
 use Rattle.scr_judge.proofs.Numbers.{rest_end, rest_here, rest_later}
 use Rattle.scr_global_judge.proofs.fault.first_of.Goals as goal

@@ -11,7 +11,7 @@ use Rattle.scr_tree.specs.Spots as local_spots
 use Rattle.scr_tree.specs.Tree as local
 use Rattle.scr_tree.specs.View as locals
 use Rattle.scr_tree.specs.Written.{carries_of, role_name}
-use Rattle.scr_global_tree.specs.declared.condition.GlobalCondition.TheVariants as conditions
+use Rattle.scr_tree.specs.declared.condition.Condition.TheVariants as conditions
 use Rattle.scr_tree.specs.declared.written.Carries.{Carries}
 use Rattle.scr_tree.specs.declared.written.Declaration.{Declaration}
 use Rattle.scr_tree.specs.declared.written.Role.{Role}
@@ -26,6 +26,7 @@ use Rattle.scr_global_judge.specs.inner.Outline.{outlined}
 use Rattle.scr_global_judge.specs.inner.Roles.{walk, unknown_role}
 use Rattle.scr_global_judge.proofs.Alike.{recs_known, recs_differ, guarded, reachable, starts, uniform, labels_differ}
 use Rattle.scr_judge.proofs.Numbers.{arm}
+use Rattle.scr_global_judge.proofs.Others.{no_other}
 use Rattle.scr_global_judge.proofs.Over.{over, over_role}
 use Rattle.scr_global_judge.proofs.RoleWalk.{first_unknown}
 use Rattle.scr_global_judge.proofs.fault.judge.Goals as goal
@@ -128,3 +129,9 @@ returns-in_ok-culprit-in-SameLabel c =
     c.in-SameLabel.is
     (over_role asks.SameLabel says.SameLabel labels_differ _ _ _ _ c.requires.role c.requires.outline c.in_ok-culprit-in-SameLabel.ensures)
     c.with_name-in-SameLabel.ensures
+
+pub returns-in_default : goal.returns-in_default
+returns-in_default c =
+    let o = c.in_default in
+    no_other (written_of c.args.file c.args.written.now) c.args.condition o.not-DuplicateName o.not-UnknownRole o.not-PeerIsSelf o.not-UnknownType o.not-PayloadCount
+    o.not-UnknownRec o.not-DuplicateRec o.not-Unguarded o.not-Unreachable o.not-BranchStart o.not-MixedChoice o.not-SameLabel

@@ -4,7 +4,8 @@ use Rattle.mg_read.specs.Culprit.{culprit}
 use Rattle.mg_read.specs.First.{Judged}
 use Rattle.scr_tree.specs.Tok.{toks}
 use Rattle.scr_global_tree.specs.Written.{written_of}
-use Rattle.scr_global_read.specs.Unsupported.{IsUnsupported}
+use Rattle.scr_read.specs.Unsupported.{IsUnsupported}
+use Rattle.scr_read.specs.declared.words.ProtocolKind.TheVariants as kinds
 use Rattle.scr_global_read.specs.Outcome.{Outcome, Unsupported, Syntax, unsupported, syntax}
 use Rattle.scr_read.proofs.Staged.{told}
 use Rattle.scr_global_read.proofs.Staged.{says_syntax, spells_of}
@@ -13,7 +14,7 @@ use Rattle.scr_global_read.proofs.text.parsed_of.Goals as goal
 pub returns-in-Some : goal.returns-in-Some
 returns-in-Some c =
     let ts = toks c.args.tokens.now in
-    let found = subst (λ (n : Name). Judged IsUnsupported ts (Some (culprit c.in-Some.place n)))
+    let found = subst (λ (n : Name). Judged (IsUnsupported kinds.Global) ts (Some (culprit c.in-Some.place n)))
     (sym c.in_ok-name.ensures) c.in-Some.ensures in
     told (Outcome c.args.file c.args.bytes.now) (Unsupported c.in-Some.place c.in_ok-name.name) (unsupported {tokens = ts} c.requires found)
 

@@ -6,7 +6,6 @@ use Rattle.scr_tree.specs.Spots.{spots}
 use Rattle.scr_tree.specs.Faults.{Of}
 use Rattle.scr_tree.specs.Written.{WrittenPart, written_of, part_written, roles_in, me_in, body_of}
 use Rattle.scr_tree.specs.declared.condition.Condition.TheVariants as conditions
-use Rattle.scr_judge.specs.declared.own.Own.TheVariants as owns
 use Rattle.scr_judge.specs.inner.Own.{OfOwn}
 use Rattle.scr_judge.proofs.Numbers.{arm, arm_named}
 use Rattle.scr_judge.proofs.Owned.{first_map, each_judged, all_judged}
@@ -16,28 +15,28 @@ pub returns-in-UnknownRole : goal.returns-in-UnknownRole
 returns-in-UnknownRole c =
     arm_named (Of (written_of c.args.file c.args.written.now)) c.args.condition conditions.UnknownRole c.find_own.result c.in-UnknownRole.is
     (IfOk-weaker c.find_own.result _ _ (λ r f. each_judged (λ (p : WrittenPart). UnknownRole (roles_in p)) mentions_in
-    (first_map (OfOwn owns.UnknownRole) part_written f)) c.find_own.ensures)
+    (first_map (OfOwn conditions.UnknownRole) part_written f)) c.find_own.ensures)
 
 pub returns-in-PeerIsSelf : goal.returns-in-PeerIsSelf
 returns-in-PeerIsSelf c =
     arm_named (Of (written_of c.args.file c.args.written.now)) c.args.condition conditions.PeerIsSelf c.find_own-in-PeerIsSelf.result
     c.in-PeerIsSelf.is
     (IfOk-weaker c.find_own-in-PeerIsSelf.result _ _ (λ r f. each_judged (λ (p : WrittenPart). says.PeerIsSelf (me_in p))
-    (λ (p : WrittenPart). spots [] p.body) (first_map (OfOwn owns.PeerIsSelf) part_written f)) c.find_own-in-PeerIsSelf.ensures)
+    (λ (p : WrittenPart). spots [] p.body) (first_map (OfOwn conditions.PeerIsSelf) part_written f)) c.find_own-in-PeerIsSelf.ensures)
 
 pub returns-in-UnknownRec : goal.returns-in-UnknownRec
 returns-in-UnknownRec c =
     arm_named (Of (written_of c.args.file c.args.written.now)) c.args.condition conditions.UnknownRec c.find_own-in-UnknownRec.result
     c.in-UnknownRec.is
     (IfOk-weaker c.find_own-in-UnknownRec.result _ _
-    (λ r f. all_judged says.UnknownRec body_of (first_map (OfOwn owns.UnknownRec) part_written f)) c.find_own-in-UnknownRec.ensures)
+    (λ r f. all_judged says.UnknownRec body_of (first_map (OfOwn conditions.UnknownRec) part_written f)) c.find_own-in-UnknownRec.ensures)
 
 pub returns-in-DuplicateRec : goal.returns-in-DuplicateRec
 returns-in-DuplicateRec c =
     arm_named (Of (written_of c.args.file c.args.written.now)) c.args.condition conditions.DuplicateRec c.find_own-in-DuplicateRec.result
     c.in-DuplicateRec.is
     (IfOk-weaker c.find_own-in-DuplicateRec.result _ _
-    (λ r f. all_judged says.DuplicateRec body_of (first_map (OfOwn owns.DuplicateRec) part_written f))
+    (λ r f. all_judged says.DuplicateRec body_of (first_map (OfOwn conditions.DuplicateRec) part_written f))
     c.find_own-in-DuplicateRec.ensures)
 
 pub returns-in-Unreachable : goal.returns-in-Unreachable
@@ -45,35 +44,35 @@ returns-in-Unreachable c =
     arm_named (Of (written_of c.args.file c.args.written.now)) c.args.condition conditions.Unreachable c.find_own-in-Unreachable.result
     c.in-Unreachable.is
     (IfOk-weaker c.find_own-in-Unreachable.result _ _
-    (λ r f. all_judged says.Unreachable body_of (first_map (OfOwn owns.Unreachable) part_written f)) c.find_own-in-Unreachable.ensures)
+    (λ r f. all_judged says.Unreachable body_of (first_map (OfOwn conditions.Unreachable) part_written f)) c.find_own-in-Unreachable.ensures)
 
 pub returns-in-BranchStart : goal.returns-in-BranchStart
 returns-in-BranchStart c =
     arm_named (Of (written_of c.args.file c.args.written.now)) c.args.condition conditions.BranchStart c.find_own-in-BranchStart.result
     c.in-BranchStart.is
     (IfOk-weaker c.find_own-in-BranchStart.result _ _
-    (λ r f. all_judged says.BranchStart body_of (first_map (OfOwn owns.BranchStart) part_written f)) c.find_own-in-BranchStart.ensures)
+    (λ r f. all_judged says.BranchStart body_of (first_map (OfOwn conditions.BranchStart) part_written f)) c.find_own-in-BranchStart.ensures)
 
 pub returns-in-MixedChoice : goal.returns-in-MixedChoice
 returns-in-MixedChoice c =
     arm_named (Of (written_of c.args.file c.args.written.now)) c.args.condition conditions.MixedChoice c.find_own-in-MixedChoice.result
     c.in-MixedChoice.is
     (IfOk-weaker c.find_own-in-MixedChoice.result _ _ (λ r f. each_judged (λ (p : WrittenPart). says.MixedChoice (me_in p))
-    (λ (p : WrittenPart). spots [] p.body) (first_map (OfOwn owns.MixedChoice) part_written f)) c.find_own-in-MixedChoice.ensures)
+    (λ (p : WrittenPart). spots [] p.body) (first_map (OfOwn conditions.MixedChoice) part_written f)) c.find_own-in-MixedChoice.ensures)
 
 pub returns-in-SameLabel : goal.returns-in-SameLabel
 returns-in-SameLabel c =
     arm_named (Of (written_of c.args.file c.args.written.now)) c.args.condition conditions.SameLabel c.find_own-in-SameLabel.result
     c.in-SameLabel.is
     (IfOk-weaker c.find_own-in-SameLabel.result _ _ (λ r f. each_judged (λ (p : WrittenPart). says.SameLabel (me_in p))
-    (λ (p : WrittenPart). spots [] p.body) (first_map (OfOwn owns.SameLabel) part_written f)) c.find_own-in-SameLabel.ensures)
+    (λ (p : WrittenPart). spots [] p.body) (first_map (OfOwn conditions.SameLabel) part_written f)) c.find_own-in-SameLabel.ensures)
 
 pub returns-in-ReservedLabel : goal.returns-in-ReservedLabel
 returns-in-ReservedLabel c =
     arm_named (Of (written_of c.args.file c.args.written.now)) c.args.condition conditions.ReservedLabel c.find_own-in-ReservedLabel.result
     c.in-ReservedLabel.is
     (IfOk-weaker c.find_own-in-ReservedLabel.result _ _ (λ r f. each_judged (λ (p : WrittenPart). says.ReservedLabel (me_in p))
-    (λ (p : WrittenPart). spots [] p.body) (first_map (OfOwn owns.ReservedLabel) part_written f)) c.find_own-in-ReservedLabel.ensures)
+    (λ (p : WrittenPart). spots [] p.body) (first_map (OfOwn conditions.ReservedLabel) part_written f)) c.find_own-in-ReservedLabel.ensures)
 
 pub returns-in_ok-culprit-in-DuplicateName : goal.returns-in_ok-culprit-in-DuplicateName
 returns-in_ok-culprit-in-DuplicateName c =

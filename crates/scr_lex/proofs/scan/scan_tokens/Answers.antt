@@ -3,6 +3,7 @@ use Rattle.std.proofs.lemmas.Bool.{eqb-true}
 use Rattle.mg_read.proofs.Fronts.{told_front, told_none, front_within, front_long, front_shorter, front_readable}
 use Rattle.mg_read.proofs.Cuts.{Front-more, SoFar-bad, SoFar-ill}
 use Rattle.scr_lex.specs.Pieces.{scribble}
+use Rattle.scr_lex.proofs.Scans.{spaces_passed}
 use Rattle.scr_lex.proofs.scan.scan_tokens.Goals as goal
 
 pub returns-in_default : goal.returns-in_default
@@ -36,3 +37,13 @@ pub returns-in-Some-ill_formed : goal.returns-in-Some-ill_formed
 returns-in-Some-ill_formed c =
     let empty : length c.pieces.rest.now ≡ 0 = eqb-true _ 0 (sym c.pieces-test.ensures) in
     SoFar-ill _ _ _ _ _ _ _ _ _ _ c.in-Some-ill_formed.ensures empty c.pieces.invariant.so_far
+
+pub pieces-preserved-then-spaces-gt0 : goal.pieces-preserved-then-spaces-gt0
+pieces-preserved-then-spaces-gt0 c =
+    let p = spaces_passed c.args.file c.args.bytes.now _ c.pieces.place c.pieces.offset c.pieces.rest.now c.spaces_len-spaces.result
+    c.spaces_len-spaces.ensures.value c.spaces_len-spaces.ensures.within c.pieces.invariant.so_far in
+    record {
+      so_far = rw c.after-next.ensures.place p.0;
+      lines = omega (arith, c.after-next.ensures.line, p.1, c.pieces.invariant.lines);
+      columns = omega (arith, c.after-next.ensures.column, p.1, c.pieces.invariant.columns);
+    }

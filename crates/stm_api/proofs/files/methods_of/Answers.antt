@@ -1,8 +1,7 @@
-use Rattle.std.proofs.Common.{arith, refl, [], map}
+use Rattle.std.proofs.Common.{arith, [], map, ◌∙◌}
 use Rattle.stm_api.proofs.Made.{method_steps}
 use Rattle.scr_tree.specs.Local.{tree_of}
 use Rattle.stm_api.specs.Api.{method_of}
-use Rattle.stm_api.specs.Doings.{call_of}
 use Rattle.stm_api.specs.inner.Does.{firsts_of}
 use Rattle.stm_api.specs.inner.View.{doing_of}
 use Rattle.stm_api.proofs.Whole.{method_more}
@@ -13,9 +12,9 @@ loop-doing-preserved c =
     let me = (tree_of c.args.local.now).me in
     method_more me c.args.place c.loop-doing.seen c.add_call.new.seen c.args.doings.now c.loop-doing.doing-index c.doing-item.result
     c.loop-doing.methods.items c.push.new.self.items
-    c.in_ok-method.method (call_of me (doing_of c.doing-item.result)) c.in_ok-is_new.is_new
+    c.in_ok-method.method c.as_str.result.now c.in_ok-is_new.is_new
     (map (method_of c.args.place me) (firsts_of me [] (map doing_of c.args.doings.now))) c.loop-doing-test.true c.doing-item.is
-    refl c.in_ok-is_new.ensures.new c.if-not-is_new.false c.in_ok-is_new.ensures.added
+    (c.as_str.ensures ∙ c.in_ok-name.ensures) c.in_ok-is_new.ensures.new c.if-not-is_new.false c.in_ok-is_new.ensures.added
     c.in_ok-method.ensures c.in_ok-push.ensures.ok c.loop-doing.invariant
 
 pub loop-doing-init : goal.loop-doing-init

@@ -14,7 +14,7 @@ returns c =
     let p = c.args.place in
     let m = c.args.message.now in
     c.method.ensures
-    ∙ ap (λ (n : Name). method_with p types.Void n c.in_ok-params.params.items (map stmt_of c.in_ok-body.body.items)) c.in_ok-name.ensures
+    ∙ ap (λ (n : Name). method_with p types.Void n c.in_ok-params.params.items (map stmt_of c.in_ok-body.body.items)) c.requires
     ∙ ap (λ (ps : List Param). method_with p types.Void (message_call (message_of m)) ps (map stmt_of c.in_ok-body.body.items))
     c.in_ok-params.ensures
     ∙ ap (method_with p types.Void (message_call (message_of m)) (map (value_param p) (carried_params m.payload))) c.in_ok-body.ensures

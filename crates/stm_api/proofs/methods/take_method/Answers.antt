@@ -15,9 +15,9 @@ returns c =
     let m = c.args.message.now in
     let name = message_call (message_of m) in
     c.method.ensures
-    ∙ ap (λ (t : TypeName). method_with p t c.in_ok-name.name c.new.result.items (map stmt_of c.in_ok-body.body.items))
+    ∙ ap (λ (t : TypeName). method_with p t c.args.name c.new.result.items (map stmt_of c.in_ok-body.body.items))
     c.carried-result.ensures
     ∙ ap (λ (n : Name). method_with p (carried_type m.payload) n c.new.result.items (map stmt_of c.in_ok-body.body.items))
-    c.in_ok-name.ensures
+    c.requires
     ∙ ap (λ (ps : List Param). method_with p (carried_type m.payload) name ps (map stmt_of c.in_ok-body.body.items)) c.new.ensures
     ∙ ap (method_with p (carried_type m.payload) name []) c.in_ok-body.ensures

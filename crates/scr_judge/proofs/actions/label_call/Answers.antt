@@ -1,7 +1,0 @@
--- By `grind` at once, since a search finds nothing here.
-use Rattle.std.proofs.Common.{arith}
-use Rattle.std.proofs.lemmas.Grind.{common_steps}
-use Rattle.scr_judge.proofs.actions.label_call.Goals as goal
-
-pub returns : goal.returns
-returns c = grind (arith, common_steps)
