@@ -7,8 +7,9 @@ ghost use Rattle.mg_words.specs.Words.{Check};
 ghost use Rattle.mg_top.specs.Commands.{Gives, prints};
 ghost use Rattle.mg_top.specs.inner.Preparing.{IsCarried, IsReported};
 
+use crate::run::add_print;
 use mg_accepted::{AcceptedProgram, accept};
-use mg_delivery::{Action, Delivery, Status, lines};
+use mg_delivery::{Delivery, Status, lines};
 use mg_faults::{Finding, find};
 use mg_refusal::Stop;
 use mg_text::{Bytes, List, Memory, Text};
@@ -72,10 +73,8 @@ pub(crate) fn print(alloc: Global, text: &str) -> Result<Delivery, Memory>
     ensures status { IfOk result (λ d. d.status ≡ Status.Done) }
 {
     let mut actions = List::new(alloc);
-    if !text.is_empty() {
-        let text = Bytes::of(alloc, text.as_bytes())?;
-        actions.push(Action::Print(text))?;
-    }
+    let text = Bytes::of(alloc, text.as_bytes())?;
+    add_print(text, &mut actions)?;
     Ok(Delivery {
         actions,
         status: Status::Done,

@@ -10,7 +10,7 @@ ghost use Rattle.mg_top.specs.Statuses.{status_of};
 ghost use Rattle.mg_top.specs.inner.Preparing.{IsCarried};
 ghost use Rattle.mg_words.specs.inner.Judging.{asked_of, IsAsked};
 
-use crate::run::{limit_of, mains_of, said_of, status_of};
+use crate::run::{add_print, limit_of, mains_of, said_of, status_of};
 use mg_delivery::{Action, Delivery, Status};
 use mg_exec::{Ran, exec_roles};
 use mg_refusal::Stop;
@@ -58,9 +58,7 @@ fn show(alloc: Global, mains: &[RoleMain], ran: Ran) -> Result<Delivery, Memory>
     } = ran;
     let said = said_of(alloc, &trace, mains, roles.as_slice())?;
     let mut actions = List::new(alloc);
-    if !printed.is_empty() {
-        actions.push(Action::Print(printed))?;
-    }
+    add_print(printed, &mut actions)?;
     actions.push(Action::Say(said))?;
     Ok(Delivery {
         actions,

@@ -111,7 +111,7 @@ fn show(alloc: Global, asked: &Asked<'_>, mains: &[RoleMain], ran: Ran) -> Resul
     let said = said_of(alloc, &trace, mains, roles.as_slice())?;
     let mut actions = List::new(alloc);
     keep(alloc, asked.folder, files.as_slice(), &mut actions)?;
-    print(printed, &mut actions)?;
+    add_print(printed, &mut actions)?;
     actions.push(Action::Say(said))?;
     Ok(Delivery {
         actions,
@@ -119,8 +119,8 @@ fn show(alloc: Global, asked: &Asked<'_>, mains: &[RoleMain], ran: Ran) -> Resul
     })
 }
 
-// Appends that a text is put, unless it is empty.
-fn print(printed: Bytes, actions: &mut List<Action>) -> Result<(), Memory>
+/// Appends that a text is put, unless it is empty.
+pub(crate) fn add_print(printed: Bytes, actions: &mut List<Action>) -> Result<(), Memory>
     ensures { OnOk result (actions.new.items ≡ actions.old.items ++ prints printed) }
 {
     if printed.is_empty() {

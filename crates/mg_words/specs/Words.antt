@@ -325,6 +325,10 @@ IsBehind (Exec asked files) rest =
 abbrev pub IsCommand : Command → List Word → Type 0
 IsCommand command words = (rest : List Word) × (words ≡ verb command ∷ rest) × IsBehind command rest
 
+-- words are one command at most
+abbrev pub OneCommand : Type 0
+OneCommand = (words : List Word) (one other : Command) → IsCommand one words → IsCommand other words → one ≡ other
+
 -- these words are a command
 abbrev pub AreCommand : List Word → Type 0
 AreCommand words = (command : Command) × IsCommand command words

@@ -2,16 +2,16 @@
 //! go to the top call, and the number of its status is the exit status.
 #![tactic(auto)]
 
-ghost use Rattle.std.specs.Prelude.{◌≡◌, ◌≢◌, [], None, map, drop, IfOk, string_bytes};
+ghost use Rattle.std.specs.Prelude.{◌≡◌, ◌≢◌, None, map, drop, IfOk, string_bytes};
 ghost use Rattle.std.specs.IoError.{error_kind};
 ghost use Rattle.std.specs.Process.{exit_status};
 ghost use Rattle.std.specs.Vec.Iter.{into_iter_items};
 ghost use Rattle.mg_delivery.specs.Numbers.{number_of};
-ghost use Rattle.mg_delivery.specs.Outside.{Outside, outside, stream};
+ghost use Rattle.mg_delivery.specs.Outside.{outside, stream};
 ghost use Rattle.mg_top.specs.Promises.{Promises};
 ghost use Rattle.mg_delivery.specs.declared.status.Status.{Status as Kept};
 
-use mg_io::{Folder, HostFolder, HostSink, Sink};
+use mg_io::{HostFolder, HostSink};
 use mg_text::{List, Memory, Text};
 use mg_top::{Status, mungo};
 use std::alloc::Global;
@@ -28,46 +28,26 @@ fn main(rt: HostRuntime) -> ExitCode {
         },
         Err(error) => return exit_code(refused(&error)),
     };
-    let out = HostSink::new(rt.stdout());
-    let err = HostSink::new(rt.stderr());
-    hosted(&rt, words.as_slice(), out, err)
-}
-
-// Runs the command over the host's files and streams, each of which stands in its place by its type.
-fn hosted<R: Files + AllocGlobal>(
-    rt: &R,
-    words: &[Text],
-    mut out: HostSink<Stdout>,
-    mut err: HostSink<Stderr>,
-) -> ExitCode
-    ensures { (status : Kept) × (after : Outside) × (exit_status result ≡ number_of status)
-        × Promises words.now (outside None [] [] (stream None out.faults) (stream None err.faults)) status after }
-{
     let alloc = rt.alloc();
-    let mut folder = HostFolder::new(alloc, rt);
-    ended::<HostFolder<R>, HostSink<Stdout>, HostSink<Stderr>>(
-        alloc,
-        words,
-        &mut folder,
-        &mut out,
-        &mut err,
-    )
+    let mut folder = HostFolder::new(alloc, &rt);
+    let mut out = HostSink::new(rt.stdout());
+    let mut err = HostSink::new(rt.stderr());
+    hosted(alloc, words.as_slice(), &mut folder, &mut out, &mut err)
 }
 
-// Runs the command that the words are, and ends with the number of its status.
-fn ended<F: Folder, O: Sink, E: Sink>(
+// Runs the command that the words are over the host's files and streams, each of which stands in its place by its type,
+// and ends with the number of its status. What fails of them is what is promised of it.
+fn hosted<R: Files>(
     alloc: Global,
     words: &[Text],
-    folder: &mut F,
-    out: &mut O,
-    err: &mut E,
+    folder: &mut HostFolder<'_, R>,
+    out: &mut HostSink<Stdout>,
+    err: &mut HostSink<Stderr>,
 ) -> ExitCode
     ensures { (status : Kept) × (exit_status result ≡ number_of status) × Promises words.now
-        (outside (F.files folder.old) (F.failed_reads folder.old) (F.failed_writes folder.old)
-        (stream (O.bytes out.old) (O.faults out.old)) (stream (E.bytes err.old) (E.faults err.old)))
+        (outside None folder.old.reads folder.old.writes (stream None out.old.faults) (stream None err.old.faults))
         status
-        (outside (F.files folder.new) (F.failed_reads folder.new) (F.failed_writes folder.new)
-        (stream (O.bytes out.new) (O.faults out.new)) (stream (E.bytes err.new) (E.faults err.new))) }
+        (outside None folder.new.reads folder.new.writes (stream None out.new.faults) (stream None err.new.faults)) }
 {
     let status = mungo(alloc, words, folder, out, err);
     exit_code(status)
