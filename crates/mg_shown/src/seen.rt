@@ -58,10 +58,7 @@ fn note(seen: &mut IndexMap<PlaceKey, StateSet>, sight: &Sight) -> Result<(), Me
 }
 
 /// What is seen at each place.
-pub fn seen_of(
-    alloc: Global,
-    sights: &[Sight],
-) -> Result<IndexMap<PlaceKey, StateSet>, Memory>
+pub fn seen_of(alloc: Global, sights: &[Sight]) -> Result<IndexMap<PlaceKey, StateSet>, Memory>
     ensures { IfOk result (λ m. AreSeen (map sight_of sights.now) (get ⟦<PlaceKey as PartialEq>⟧.eq m)) }
 {
     let mut seen = IndexMap::new(alloc);
