@@ -1,3 +1,4 @@
 pub mod Slashes
+pub mod Sets
 pub mod Parts
 pub mod Gathering

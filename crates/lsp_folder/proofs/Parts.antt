@@ -8,7 +8,7 @@ use Rattle.lsp_text.specs.Documents.{entries}
 use Rattle.lsp_folder.specs.declared.program.File.{File}
 use Rattle.lsp_folder.specs.declared.program.Member.{Member}
 use Rattle.lsp_folder.specs.Names.{is_part}
-use Rattle.lsp_folder.specs.Programs.{is_open, open_member, open_members, is_read, read_member, read_members, counted, AreMembers}
+use Rattle.lsp_folder.specs.Programs.{is_open, open_member, open_members, open_names, is_read, read_member, read_members, counted, AreMembers}
 
 -- what a filter leaves passes
 passing : {X : Type 0} (p : X → Bool) (x : X) (xs : List X) (b : Bool) → p x ≡ b → All (λ y. p y ≡ true) xs →
@@ -32,8 +32,8 @@ module _ (documents : Documents) (document : List ℕ) (files : List File) where
   open_parts = All-map IsPart open_member (filter (is_open document) (entries documents)) (passes (is_open document) (entries documents))
 
   read_parts : All IsPart (read_members documents document files)
-  read_parts = All-map IsPart read_member (filter (is_read documents document) files)
-      (λ k d less. and_left _ _ (passes (is_read documents document) files k d less))
+  read_parts = All-map IsPart read_member (filter (is_read (open_names documents) document) files)
+      (λ k d less. and_left _ _ (passes (is_read (open_names documents) document) files k d less))
 
   counted_parts : (ms rs : List Member) → All IsPart ms → All IsPart rs → All IsPart (counted ms rs)
   counted_parts [] rs o r = All-nil IsPart

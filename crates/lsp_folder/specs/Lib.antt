@@ -1,3 +1,5 @@
 pub mod Names
+pub mod Noted
 pub mod Programs
 pub mod examples
+pub mod inner

@@ -2,7 +2,10 @@
 use Rattle.std.specs.Prelude.{ℕ, ◌==◌, ◌&&◌, ◌||◌, not, nat_eq, Bool, false, List, [], ◌∷◌, length, Some, None, slice_get, codes}
 use Rattle.std.specs.Prelude.{if◌then◌else◌}
 use Rattle.std.specs.List.{list_any, ends_with}
+use Rattle.std.specs.Option.{unwrap_or}
 use Rattle.std.specs.Str.{bytes_eq}
+use Rattle.percent_encoding.specs.Percent.{percent_decode}
+use Rattle.lsp_names.specs.Names.{file_path}
 
 -- a slash parts a folder from what is in it
 abbrev pub is_slash : ℕ → Bool
@@ -22,6 +25,10 @@ is_source name =
 abbrev pub is_hidden : List ℕ → Bool
 is_hidden name = elim (slice_get name (length (folder_of name))) [ None ↦ false | Some b ↦ b == 46 ]
 
--- the name is that of a source in the folder of the document
+-- What a name reads as: the path of a file of this machine, and each other name itself. Its escapes are read.
+abbrev pub plain : List ℕ → List ℕ
+plain name = percent_decode (unwrap_or (file_path name) name)
+
+-- the name is that of a source in the folder of the document, however the folder is written
 abbrev pub is_part : (document name : List ℕ) → Bool
-is_part document name = bytes_eq (folder_of name) (folder_of document) && (not (is_hidden name) && is_source name)
+is_part document name = bytes_eq (plain (folder_of name)) (plain (folder_of document)) && (not (is_hidden name) && is_source name)

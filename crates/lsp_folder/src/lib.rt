@@ -4,8 +4,10 @@
 
 mod laws;
 mod names;
+mod noted;
 mod program;
 
 pub use laws::rows_hold;
 pub use names::is_part;
+pub use noted::{is_noted, note, room_for};
 pub use program::{File, Member, Program, program_of};

@@ -1,12 +1,18 @@
 //! The sources of a folder.
 
 ghost use Rattle.std.specs.Prelude.{◌≡◌, ◌++◌, map, IfOk, OnOk};
-ghost use Rattle.lsp_folder.specs.Programs.{is_read, open_members, read_members, counted, AreMembers, IsProgramOf};
+ghost use Rattle.lsp_folder.specs.Names.{plain};
+ghost use Rattle.lsp_folder.specs.Noted.{among, noted_in};
+ghost use Rattle.lsp_folder.specs.Programs.{open_names, open_members, read_members, counted, AreMembers, IsProgramOf};
+ghost use Rattle.lsp_folder.specs.inner.Left.{is_left, left_among};
 
-use crate::names::is_part;
+use crate::names::{is_part, named_part};
+use crate::noted::{is_noted, note, room_for};
 use lsp_text::Documents;
 use mg_text::{Bytes, Memory, Text};
+use percent_encoding::percent_decode;
 use std::alloc::Global;
+use std::collections::HashSet;
 
 /// A file as it was read.
 #[derive(Drop)]
@@ -63,25 +69,66 @@ fn put_open(
     Ok(())
 }
 
-// Whether a file of the folder isn't open.
-fn is_read(documents: &Documents, document: &str, file: &File) -> bool
-    ensures { result ≡ is_read documents.now document.now file.now }
+// A name as it reads.
+fn plain(alloc: Global, name: &str) -> Result<Bytes, Memory>
+    ensures { IfOk result (λ b. b ≡ plain name.now) }
 {
-    is_part(document, file.name.as_str()) && documents.get(file.name.as_str()).is_none()
+    let mut plain = Vec::new(alloc);
+    percent_decode(named_part(name.as_bytes())).append_to(&mut plain)?;
+    Bytes::of(alloc, plain.as_slice())
 }
 
-// Appends the other files of the folder.
+// The names of the documents that are open, as they read.
+fn open_names(alloc: Global, documents: &Documents) -> Result<Vec<Bytes>, Memory>
+    ensures { IfOk result (λ v. v.items ≡ open_names documents.now) }
+{
+    let mut names = Vec::new(alloc);
+    for (name, _) in documents.iter() {
+        let name = plain(alloc, name.as_str())?;
+        names.push(name)?;
+    }
+    Ok(names)
+}
+
+// These names, each found at once.
+fn noted_names<'a>(alloc: Global, names: &'a [Bytes]) -> Result<HashSet<&'a [u8]>, Memory>
+    ensures { IfOk result (λ s. noted_in s ≡ among names.now) }
+{
+    let mut noted = room_for(alloc, names.len())?;
+    for name in names {
+        note(&mut noted, name.as_slice())?;
+    }
+    Ok(noted)
+}
+
+// Whether a file of the folder isn't open, where documents of these names are.
+fn is_read(
+    alloc: Global,
+    opened: &HashSet<&[u8]>,
+    document: &str,
+    file: &File,
+) -> Result<bool, Memory>
+    ensures { IfOk result (λ b. b ≡ is_left (noted_in opened.now) document.now file.now) }
+{
+    if !is_part(document, file.name.as_str()) {
+        return Ok(false);
+    }
+    let name = plain(alloc, file.name.as_str())?;
+    Ok(!is_noted(opened, name.as_slice()))
+}
+
+// Appends the files of the folder of which no document is open.
 fn put_read(
     alloc: Global,
     members: &mut Vec<Member>,
-    documents: &Documents,
+    opened: &HashSet<&[u8]>,
     document: &str,
     files: &[File],
 ) -> Result<(), Memory>
-    ensures { OnOk result (members.new.items ≡ members.old.items ++ read_members documents.now document.now files.now) }
+    ensures { OnOk result (members.new.items ≡ members.old.items ++ left_among (noted_in opened.now) document.now files.now) }
 {
     for file in files {
-        if !is_read(documents, document, file) {
+        if !is_read(alloc, opened, document, file)? {
             continue;
         }
         let name = file.name.copy()?;
@@ -95,6 +142,21 @@ fn put_read(
     Ok(())
 }
 
+// Appends the other files of the folder.
+fn put_others(
+    alloc: Global,
+    members: &mut Vec<Member>,
+    documents: &Documents,
+    document: &str,
+    files: &[File],
+) -> Result<(), Memory>
+    ensures { OnOk result (members.new.items ≡ members.old.items ++ read_members documents.now document.now files.now) }
+{
+    let names = open_names(alloc, documents)?;
+    let opened = noted_names(alloc, names.as_slice())?;
+    put_read(alloc, members, &opened, document, files)
+}
+
 // The sources that count, in no order.
 fn gathered(
     alloc: Global,
@@ -102,14 +164,15 @@ fn gathered(
     document: &str,
     files: &[File],
 ) -> Result<Vec<Member>, Memory>
-    ensures { IfOk result (λ v. v.items ≡ counted (open_members documents.now document.now) (read_members documents.now document.now files.now)) }
+    ensures { IfOk result (λ v. v.items
+        ≡ counted (open_members documents.now document.now) (read_members documents.now document.now files.now)) }
 {
     let mut members = Vec::new(alloc);
     put_open(alloc, &mut members, documents, document)?;
     if members.is_empty() {
         return Ok(members);
     }
-    put_read(alloc, &mut members, documents, document, files)?;
+    put_others(alloc, &mut members, documents, document, files)?;
     Ok(members)
 }
 

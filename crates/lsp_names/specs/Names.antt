@@ -1,5 +1,6 @@
 -- What names of documents say of files, and how files of a folder are named.
-use Rattle.std.specs.Prelude.{◌≡◌, ℕ, List, [], ◌∷◌, Bool, true, false, ◌==◌, ◌||◌, nat_eq, codes, drop, if◌then◌else◌}
+use Rattle.std.specs.Prelude.{◌≡◌, ℕ, List, [], ◌∷◌, Bool, true, false, ◌==◌, ◌||◌, nat_eq, codes, drop}
+use Rattle.std.specs.Prelude.{Option, None, Some, if◌then◌else◌}
 use Rattle.std.specs.List.{starts_with, flat_map}
 use Rattle.std.specs.Str.{IsUtf8}
 use Rattle.std.specs.Char.{is_ascii_alphanumeric}
@@ -9,25 +10,37 @@ use Rattle.lsp_names.specs.declared.naming.Named.TheVariants.{Path, NoFile, Else
 
 -- whether the name has the scheme of files, and what stands behind it
 abbrev pub is_file : List ℕ → Bool
-is_file name = starts_with nat_eq name (codes "file://")
+is_file name = starts_with nat_eq name (codes "file:")
 
 abbrev pub behind_scheme : List ℕ → List ℕ
-behind_scheme name = drop 7 name
+behind_scheme name = drop 5 name
 
--- whether a path stands there from the root on
-abbrev pub is_rooted : List ℕ → Bool
-is_rooted path = starts_with nat_eq path (codes "/")
+-- the path that stands there from the root on
+abbrev pub rooted : List ℕ → Option (List ℕ)
+rooted path = if starts_with nat_eq path (codes "/") then Some path else None
 
--- the path with its escapes read
-abbrev pub path_in : List ℕ → List ℕ
-path_in name = percent_decode (behind_scheme name)
+-- the path behind the name of a machine, where it is this one: nothing, or `localhost`
+abbrev pub on_this_machine : List ℕ → Option (List ℕ)
+on_this_machine rest = rooted (if starts_with nat_eq rest (codes "localhost/") then drop 9 rest else rest)
 
--- A path is named where it stands behind the scheme from the root on, and is a text.
+-- the path behind the scheme, as it is escaped; two slashes stand in front of the name of a machine
+abbrev pub escaped_path : List ℕ → Option (List ℕ)
+escaped_path rest = if starts_with nat_eq rest (codes "//") then on_this_machine (drop 2 rest) else rooted rest
+
+-- the same of a name, where it has the scheme
+abbrev pub file_path : List ℕ → Option (List ℕ)
+file_path name = if is_file name then escaped_path (behind_scheme name) else None
+
+-- A file of this machine, with this path.
+abbrev pub HasPath : List ℕ → List ℕ → Type 0
+HasPath name path = (is_file name ≡ true) × (escaped_path (behind_scheme name) ≡ Some path)
+
+-- A path is named where it stands behind the scheme from the root on, on this machine, and is a text. Its escapes are read.
 abbrev pub IsNamed : List ℕ → Named → Type 0
-IsNamed name (Path path) = (is_file name ≡ true) × (is_rooted (behind_scheme name) ≡ true) × (path ≡ path_in name) × IsUtf8 (path_in name)
+IsNamed name (Path path) = (escaped : List ℕ) × HasPath name escaped × (path ≡ percent_decode escaped) × IsUtf8 (percent_decode escaped)
 IsNamed name NoFile = is_file name ≡ false
-IsNamed name Elsewhere = (is_file name ≡ true) × (is_rooted (behind_scheme name) ≡ false)
-IsNamed name NoText = (is_file name ≡ true) × (is_rooted (behind_scheme name) ≡ true) × ¬ IsUtf8 (path_in name)
+IsNamed name Elsewhere = (is_file name ≡ true) × (escaped_path (behind_scheme name) ≡ None)
+IsNamed name NoText = (escaped : List ℕ) × HasPath name escaped × ¬ IsUtf8 (percent_decode escaped)
 
 -- letters, digits and four marks stand for themselves in a name: `-`, `.`, `_` and `~`
 abbrev pub stands : ℕ → Bool

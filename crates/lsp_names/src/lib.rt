@@ -5,7 +5,7 @@ ghost use Rattle.lsp_names.specs.examples.Rows.{Rows};
 
 mod naming;
 
-pub use naming::{Named, beside, path_of};
+pub use naming::{Named, beside, file_path, path_of};
 
 /// The worked rows hold.
 pub fn rows_hold()

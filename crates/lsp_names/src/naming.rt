@@ -1,7 +1,7 @@
 //! Names of documents, and what each says of a file.
 
-ghost use Rattle.std.specs.Prelude.{◌≡◌, ◌++◌, IfOk};
-ghost use Rattle.lsp_names.specs.Names.{IsNamed, escaped};
+ghost use Rattle.std.specs.Prelude.{◌≡◌, ◌++◌, IfOk, option_map};
+ghost use Rattle.lsp_names.specs.Names.{IsNamed, escaped, escaped_path, file_path, rooted};
 
 use mg_text::{Memory, Text};
 use percent_encoding::{
@@ -16,7 +16,7 @@ pub enum Named {
     Path(Text),
     /// No file: the scheme is another than `file`, as `untitled`.
     NoFile,
-    /// A file of another machine, or one whose path isn't told from the root on: no slash stands behind `file://`.
+    /// A file of another machine, or one whose path isn't told from the root on.
     Elsewhere,
     /// A file whose path is no text: its escapes give no UTF-8.
     NoText,
@@ -31,20 +31,55 @@ const ESCAPED: AsciiSet = ascii_set!(
         .remove(b'~')
 );
 
-/// What the name of a document says of a file. Escapes in the path are read, and a letter with a colon behind the
-/// first slash is a part of the path as any other.
+// The path that stands there from the root on.
+fn rooted(path: &[u8]) -> Option<&[u8]>
+    ensures { option_map (λ p. p.now) result ≡ rooted path.now }
+{
+    if path.starts_with(b"/") {
+        Some(path)
+    } else {
+        None
+    }
+}
+
+// The path behind the scheme, as it is escaped, where it is one of this machine.
+fn escaped_path(rest: &[u8]) -> Option<&[u8]>
+    ensures { option_map (λ p. p.now) result ≡ escaped_path rest.now }
+{
+    let Some(behind) = rest.strip_prefix(b"//") else {
+        return rooted(rest);
+    };
+    if behind.starts_with(b"localhost/") {
+        return rooted(&behind[9..]);
+    }
+    rooted(behind)
+}
+
+/// The path of a name, as it is escaped, where it names a file of this machine.
+pub fn file_path(name: &[u8]) -> Option<&[u8]>
+    ensures { option_map (λ p. p.now) result ≡ file_path name.now }
+{
+    match name.strip_prefix(b"file:") {
+        Some(rest) => escaped_path(rest),
+        None => None,
+    }
+}
+
+/// What the name of a document says of a file: `file:///p`, `file://localhost/p` and `file:/p` are the path `/p` of
+/// this machine. Escapes in the path are read, and a letter with a colon behind the first slash is a part of the path
+/// as any other.
 ///
 /// # Errors
 /// `Memory` only.
 pub fn path_of(alloc: Global, name: &str) -> Result<Named, Memory>
     ensures { IfOk result (IsNamed name.now) }
 {
-    let Some(path) = name.as_bytes().strip_prefix(b"file://") else {
+    let Some(rest) = name.as_bytes().strip_prefix(b"file:") else {
         return Ok(Named::NoFile);
     };
-    if !path.starts_with(b"/") {
+    let Some(path) = escaped_path(rest) else {
         return Ok(Named::Elsewhere);
-    }
+    };
     match percent_decode(path).decode_utf8(alloc) {
         Ok(path) => Ok(Named::Path(Text::of(alloc, path.as_str())?)),
         Err(DecodeError::OutOfMemory) => Err(Memory),

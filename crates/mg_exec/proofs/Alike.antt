@@ -1,10 +1,10 @@
 -- Two first refusals of class files are one.
-use Rattle.std.proofs.Common.{◌≡◌, List, [], ◌∷◌, ◌++◌, Option, Some, None, sym, ap, ◌∙◌, subst, inl, arith}
+use Rattle.std.proofs.Common.{◌≡◌, List, [], ◌∷◌, ◌++◌, Some, sym, ap, ◌∙◌, subst, inl, arith}
 use Rattle.mg_read.specs.FirstLaws.{IsSingle}
 use Rattle.mg_read.proofs.Judging.{one_answer, no_both}
 use Rattle.cls_bytes.proofs.Single.{one_fault}
 use Rattle.vm_model.specs.Program.{Program}
-use Rattle.vm_model.specs.Links.{Flaw, IsUnlinked}
+use Rattle.vm_model.specs.Links.{IsUnlinked}
 use Rattle.vm_step.specs.Main.{HasMain}
 use Rattle.vm_world_law.specs.declared.role.RoleMain.{RoleMain}
 use Rattle.mg_refusal.specs.Refusals.{Refusal, AreAlike}

@@ -14,13 +14,15 @@ ghost use Rattle.mg_exec.specs.inner.Going.{IsRunOf, told};
 use crate::mains::first_without;
 use crate::ran::Ran;
 use crate::reading::{link, read_all};
+use crate::typed::is_typed;
 use mg_refusal::Stop;
 use mg_runs::{Gone, go, no_main};
 use mg_text::{Bytes, Memory, Text};
 use mg_trace::plain_trace;
 use std::alloc::Global;
+use vm_events::Events;
 use vm_model::Linked;
-use vm_world::{RoleEvent, RoleMain};
+use vm_world::RoleMain;
 
 /// Runs these roles, each from `static void main(String[])` of its class, of the program that these
 /// class files link to. They take turns in this order of their numbers, repeated as a cycle, until
@@ -113,8 +115,9 @@ fn run(
     requires order { IsOrder order.now mains.now }
     ensures { IfOk result (IsRunOf linked mains.now order.now limit named traced) }
 {
-    let gone = go(alloc, linked, mains, order, limit, named)?;
-    let events = gone.world.events().as_slice();
+    let typed = is_typed(alloc, &linked, limit);
+    let gone = go(alloc, linked, mains, order, limit, named, typed)?;
+    let events = gone.world.events();
     let trace = told(alloc, gone.names.as_slice(), events, traced)?;
     let Gone {
         world: _world,
@@ -130,8 +133,8 @@ fn run(
 }
 
 // The trace of these events, where it is asked for.
-fn told(alloc: Global, names: &[Text], events: &[RoleEvent], traced: bool) -> Result<Text, Memory>
-    ensures { IfOk result (λ t. t ≡ told names.now events.now traced) }
+fn told(alloc: Global, names: &[Text], events: &Events, traced: bool) -> Result<Text, Memory>
+    ensures { IfOk result (λ t. t ≡ told names.now events.now.items traced) }
 {
     if traced {
         plain_trace(alloc, names, events)

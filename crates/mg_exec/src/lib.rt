@@ -7,6 +7,7 @@ mod faults;
 mod mains;
 mod ran;
 mod reading;
+mod typed;
 
 pub use execution::{exec_roles, program};
 pub use mg_runs::{RoleMain, RoleRan, Stand};

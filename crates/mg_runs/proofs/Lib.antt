@@ -9,3 +9,4 @@ pub mod Shown
 pub mod Apart
 pub mod Naming
 pub mod Alike
+pub mod Sending

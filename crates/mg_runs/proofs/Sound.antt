@@ -31,6 +31,8 @@ use Rattle.gen_rules.specs.Classes.{class_files}
 use Rattle.gen_rules.specs.Linked.{linked_program}
 use Rattle.gen_links.specs.Files.{HasPlainNames, CoresLink}
 use Rattle.gen_held.specs.Laws.{WrittenCoresAreHeld}
+use Rattle.cls_verify.specs.Typing.{AllTypable}
+use Rattle.gen_sound.specs.Laws.{CoresTypable}
 use Rattle.gen_sound.specs.Mains.{CoreHasMain, MainsAgree}
 use Rattle.gen_sound.proofs.Starting.{main_stands}
 use Rattle.mg_sources.specs.Files.{Source}
@@ -43,7 +45,7 @@ use Rattle.vm_world_law.specs.declared.role.RoleMain.{RoleMain}
 use Rattle.vm_world_law.specs.Meant.{Holds, RunsAsMeant}
 use Rattle.vm_world_law.specs.Worlds.{DoesAsMeant}
 use Rattle.mg_runs.specs.Runs.{AreSpelled, IsLoaded, HaveMains}
-use Rattle.mg_runs.specs.Laws.{WrittenClassesLink, RunsAreMeant}
+use Rattle.mg_runs.specs.Laws.{WrittenClassesLink, LoadedClassesAreTypable, RunsAreMeant}
 use Rattle.mg_runs.specs.inner.Loading.{HaveFiles}
 
 -- ---- reading back
@@ -169,6 +171,13 @@ runs_law law kept held link agree enough files core written have made class main
           subst (λ (f : ℕ → Ended). RunsAsMeant (step program me) start q f) (meant_alike enough law files class core have inputs)
           (as_meant core is can.plain written made link agree class found program same inputs me q holds start starts),
     )
+
+pub typable_law : SpelledIsShaped → CoreIsKept → WrittenCoresAreHeld → CoresLink → CoresTypable → LoadedClassesAreTypable
+typable_law law kept held link typable files core written have made program (read, spelled, links) =
+    let is = is_core law kept files core have in
+    let can = is_held held files core have in
+    subst AllTypable (sym (linked_is core is can.plain written made link read program spelled links))
+    (typable core is can.plain made.are.all made.are.compiled)
 
 -- ---- the `main`s of roles
 

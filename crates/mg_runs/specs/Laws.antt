@@ -12,6 +12,7 @@ use Rattle.vm_model.specs.Machine.{Machine}
 use Rattle.vm_model.specs.Messages.{Messages}
 use Rattle.vm_model.specs.Start.{IsStart}
 use Rattle.vm_model.specs.Step.{step}
+use Rattle.cls_verify.specs.Typing.{AllTypable}
 use Rattle.vm_step.specs.Main.{HasMain}
 use Rattle.vm_world_law.specs.declared.role.RoleMain.{RoleMain}
 use Rattle.vm_world_law.specs.World.{World, turns, IsBegun}
@@ -31,6 +32,11 @@ abbrev pub WrittenClassesLink : Type 0
 WrittenClassesLink = (files : List Source) (core : Core.Program) (written : List ClassFile) → HaveCore files core →
     (made : AreClassFiles core written) →
     (read : List File) × AreSpelled (map (λ f. f.bytes) written) read × Links read (linked_program core made.are.all)
+
+-- Whatever these bytes are read as and link to, each method of the program has a typing.
+abbrev pub LoadedClassesAreTypable : Type 0
+LoadedClassesAreTypable = (files : List Source) (core : Core.Program) (written : List ClassFile) → HaveCore files core →
+    AreClassFiles core written → (program : Program) → IsLoaded (map (λ f. f.bytes) written) program → AllTypable program
 
 -- Whatever these bytes are read as and link to: where a class of the core has a `main` the linked program has it, and from there the
 -- machine

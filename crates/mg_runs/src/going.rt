@@ -1,8 +1,9 @@
 //! Roles of a linked program take their turns, whatever the program is of.
 
-ghost use Rattle.std.specs.Prelude.{◌≡◌, map, IfOk, OnOk};
+ghost use Rattle.std.specs.Prelude.{◌≡◌, map, IsTrue, IfOk, OnOk};
 ghost use Rattle.std.specs.List.{IsDistinct, AllByRecursion};
 ghost use Rattle.std.specs.Str.{bytes_eq};
+ghost use Rattle.cls_verify.specs.Typing.{AllTypable};
 ghost use Rattle.vm_step.specs.Main.{HasMain};
 ghost use Rattle.vm_world_law.specs.World.{IsBegun};
 ghost use Rattle.vm_world_law.specs.Turns.{IsRun, stands_in};
@@ -33,7 +34,8 @@ pub struct Gone {
 /// Runs these roles of a linked program, each from `static void main(String[])` of its class. They
 /// take turns in this order of their numbers, repeated as a cycle, until each has ended or waits, or
 /// `limit` instructions were counted. Where `named`, each printed text stands behind the name of its
-/// role.
+/// role. Where each method of the program has a typing, which `typed` says, the tests that typings
+/// have made aren't made again.
 ///
 /// # Errors
 /// `Memory` only.
@@ -44,13 +46,15 @@ pub fn go(
     order: &[u32],
     limit: u32,
     named: bool,
+    typed: bool,
 ) -> Result<Gone, Memory>
+    requires typable { IsTrue typed → AllTypable linked }
     requires mains { AllByRecursion (λ m. HasMain linked m.class) mains.now }
     requires roles { IsDistinct bytes_eq (map (λ m. m.role) mains.now) }
     requires order { IsOrder order.now mains.now }
     ensures { IfOk result (IsGone linked mains.now order.now limit named) }
 {
-    let mut world = World::new(alloc, linked, mains)?;
+    let mut world = World::new(alloc, linked, mains, typed)?;
     match played(alloc, &mut world, mains, order, limit, named) {
         Ok((roles, names, printed)) => Ok(Gone {
             world,
@@ -86,7 +90,7 @@ fn played(
     world.run(alloc, order, limit)?;
     let roles = world.roles_ran(alloc, mains)?;
     let names = role_names(alloc, mains)?;
-    let printed = printed(alloc, names.as_slice(), named, world.events().as_slice())?;
+    let printed = printed(alloc, names.as_slice(), named, world.events())?;
     Ok((roles, names, printed))
 }
 

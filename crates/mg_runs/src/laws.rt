@@ -1,11 +1,11 @@
 //! What holds of the class files of sources, also of those whose usages aren't right.
 //! There is no running code here; each function carries a law.
 
-ghost use Rattle.mg_runs.specs.Laws.{AllProtocolsAgree, RolesAreMeant, RolesFit, RolesKeep, RolesPlay, RunsAreMeant, WrittenClassesLink};
+ghost use Rattle.mg_runs.specs.Laws.{AllProtocolsAgree, LoadedClassesAreTypable, RolesAreMeant, RolesFit, RolesKeep, RolesPlay, RunsAreMeant, WrittenClassesLink};
 
 use gen_held::written_cores_are_held;
 use gen_links::files_link;
-use gen_sound::mains_run_as_meant;
+use gen_sound::{code_is_typable, mains_run_as_meant};
 use jv_names::{core_is_kept, types_are_enough};
 use jv_resolve_law::spelled_is_shaped;
 use mg_accepted_law::{accepted_keep_typestates, accepted_objects_play};
@@ -21,6 +21,18 @@ pub fn written_classes_link()
     core_is_kept();
     written_cores_are_held();
     files_link();
+}
+
+/// Whatever the bytes of these class files are read as and link to, each method of the program has
+/// a typing.
+pub fn loaded_classes_are_typable()
+    ensures { LoadedClassesAreTypable }
+{
+    spelled_is_shaped();
+    core_is_kept();
+    written_cores_are_held();
+    files_link();
+    code_is_typable();
 }
 
 /// Where a class of the core has a `main`, the linked program has it, and the machine that starts

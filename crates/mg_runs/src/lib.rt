@@ -12,8 +12,8 @@ mod sent;
 
 pub use going::{Gone, go};
 pub use laws::{
-    protocols_agree, roles_are_meant, roles_fit, roles_keep, roles_play, runs_are_meant,
-    written_classes_link,
+    loaded_classes_are_typable, protocols_agree, roles_are_meant, roles_fit, roles_keep,
+    roles_play, runs_are_meant, written_classes_link,
 };
 pub use mains::first_without;
 pub use ran::Ran;

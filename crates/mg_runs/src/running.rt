@@ -18,7 +18,8 @@ ghost use Rattle.mg_runs.specs.inner.Going.{IsRunOf, told};
 
 use crate::going::{Gone, go};
 use crate::laws::{
-    protocols_agree, roles_are_meant, roles_fit, roles_keep, roles_play, runs_are_meant,
+    loaded_classes_are_typable, protocols_agree, roles_are_meant, roles_fit, roles_keep,
+    roles_play, runs_are_meant,
 };
 use crate::loading::load_back;
 use crate::mains::first_without;
@@ -31,7 +32,8 @@ use mg_refusal::{Refusal, Stop};
 use mg_text::{Bytes, List, Memory, Text};
 use mg_trace::trace;
 use std::alloc::Global;
-use vm_world::{RoleEvent, RoleMain};
+use vm_events::Events;
+use vm_world::RoleMain;
 
 /// Runs these roles, each from `static void main(String[])` of its class, of the program that these
 /// files are. They take turns in this order of their numbers, repeated as a cycle, until each has
@@ -144,9 +146,10 @@ fn run_files(
     ensures { IfOk result (IsRunOf core.now files.items mains.now order.now limit named traced) }
 {
     runs_are_meant();
+    loaded_classes_are_typable();
     let linked = load_back(alloc, core, files.as_slice())?;
-    let gone = go(alloc, linked, mains, order, limit, named)?;
-    let events = gone.world.events().as_slice();
+    let gone = go(alloc, linked, mains, order, limit, named, true)?;
+    let events = gone.world.events();
     let messages = messages_in(events);
     match told(alloc, core, gone.names.as_slice(), events, traced) {
         Ok(trace) => Ok(ran_of(files, gone, trace, messages)),
@@ -183,10 +186,10 @@ fn told(
     alloc: Global,
     core: &Core,
     names: &[Text],
-    events: &[RoleEvent],
+    events: &Events,
     traced: bool,
 ) -> Result<Text, Memory>
-    ensures { IfOk result (λ t. t ≡ told core.now names.now events.now traced) }
+    ensures { IfOk result (λ t. t ≡ told core.now names.now events.now.items traced) }
 {
     if traced {
         trace(alloc, core, names, events)

@@ -1,9 +1,9 @@
 -- The lines of one event more.
-use Rattle.std.proofs.Common.{◌≡◌, ◌==◌, ◌<◌, ◌+◌, take, length, get_or, ℕ, ℤ, List, [], ◌∷◌, ◌++◌, Bool, true, false, if◌then◌else◌}
-use Rattle.std.proofs.Common.{Option, codes, refl, sym, ap, ◌∙◌, append_assoc, append-nil}
-use Rattle.std.specs.Prelude.{Vec}
+use Rattle.std.proofs.Common.{◌≡◌, ◌==◌, ◌+◌, take, zero, suc, ℕ, ℤ, List, [], ◌∷◌, ◌++◌, Bool, true, false, if◌then◌else◌}
+use Rattle.std.proofs.Common.{Option, Some, arith, codes, refl, sym, ap, ◌∙◌, append_assoc, append-nil}
+use Rattle.std.specs.Prelude.{Vec, slice_get}
+use Rattle.std.specs.Option.{unwrap_or}
 use Rattle.std.specs.Global.{Global}
-use Rattle.std.proofs.lemmas.List.{take_more}
 use Rattle.mg_text.specs.Call.{Name}
 use Rattle.mg_text.specs.declared.event.Event.{Event}
 use Rattle.mg_text.specs.declared.event.Event.TheVariants as seen
@@ -38,9 +38,17 @@ known_behind k [] e o = refl
 known_behind k (x ∷ events) e o = known_behind (known_more o k x) events e o
 
 -- the events up to the next
-pub up_to_next : (events : List RoleEvent) (k : ℕ) (e : RoleEvent) → k < length events → e ≡ get_or events k e →
+up_to_more : (events : List RoleEvent) (k : ℕ) (e : RoleEvent) → Some e ≡ slice_get events k →
+    take (suc k) events ≡ take k events ++ e ∷ []
+up_to_more [] k e is = absurd (let no : ⊥ = cc in no)
+up_to_more (x ∷ events) zero e is = ap (λ (o : Option RoleEvent). unwrap_or o e ∷ []) (sym is)
+up_to_more (x ∷ events) (suc k) e is = ap (λ l. x ∷ l) (up_to_more events k e is)
+
+pub up_to_seen : (events : List RoleEvent) (k : ℕ) (e : RoleEvent) → Some e ≡ slice_get events k →
     take (k + 1) events ≡ take k events ++ e ∷ []
-up_to_next events k e within is = take_more events k e within ∙ ap (λ x. take k events ++ x ∷ []) (sym is)
+up_to_seen events k e is =
+    let next : k + 1 ≡ suc k = omega arith in
+    ap (λ n. take n events) next ∙ up_to_more events k e is
 
 -- nothing is kept at first
 pub none_known : AreKnown [] []

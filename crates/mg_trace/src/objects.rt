@@ -1,11 +1,13 @@
 //! What the events of a role tell of its objects. Texts stay where the events have them.
 
 ghost use Rattle.std.specs.Prelude.{◌≡◌, ◌<◌, ℕ, OnOk, length};
+ghost use Rattle.vm_events.specs.Seen.{event_of};
 ghost use Rattle.mg_trace.specs.Trace.{last_call};
 ghost use Rattle.mg_trace.specs.inner.Kept.{known_at, known_of, object_in, changed, KeepsMore};
 
-use mg_text::{Event, Memory};
+use mg_text::Memory;
 use std::alloc::Global;
+use vm_events::SeenEvent;
 
 /// What the events so far tell of an object: the class of which it was made, and the methods that it
 /// entered and hasn't left, in the order in which they were entered.
@@ -42,9 +44,9 @@ pub(crate) fn known<'a>(objects: &[Tracked<'a>], object: u32) -> (&'a str, &'a s
 pub(crate) fn note<'a>(
     alloc: Global,
     objects: &mut Vec<Tracked<'a>>,
-    event: &'a Event,
+    event: SeenEvent<'a>,
 ) -> Result<(), Memory>
-    ensures { OnOk result (KeepsMore objects.old.items objects.new.items event.now) }
+    ensures { OnOk result (KeepsMore objects.old.items objects.new.items (event_of event.entry)) }
 {
     match object_in(event) {
         None => Ok(()),
@@ -56,37 +58,43 @@ pub(crate) fn note<'a>(
 }
 
 // The object of which an event tells, if of any.
-fn object_in(event: &Event) -> Option<u32>
-    ensures { result ≡ object_in event.now }
+fn object_in(event: SeenEvent<'_>) -> Option<u32>
+    ensures { result ≡ object_in (event_of event.entry) }
 {
     match event {
-        Event::Made { object, .. } => Some(*object),
-        Event::Enter { object, .. } => Some(*object),
-        Event::Leave { object, .. } => Some(*object),
-        Event::Print(_) | Event::Send { .. } | Event::Look { .. } | Event::Take { .. } => None,
+        SeenEvent::Made { object, .. } => Some(object),
+        SeenEvent::Enter { object, .. } => Some(object),
+        SeenEvent::Leave { object, .. } => Some(object),
+        SeenEvent::Print(_)
+        | SeenEvent::Send { .. }
+        | SeenEvent::Look { .. }
+        | SeenEvent::Take { .. } => None,
     }
 }
 
 // What an event tells more of its object: it was made, entered a method, or left the one that it had
 // entered last.
-fn change<'a>(tracked: &mut Tracked<'a>, event: &'a Event) -> Result<(), Memory>
-    ensures { OnOk result (known_of tracked.new ≡ changed (known_of tracked.old) event.now) }
+fn change<'a>(tracked: &mut Tracked<'a>, event: SeenEvent<'a>) -> Result<(), Memory>
+    ensures { OnOk result (known_of tracked.new ≡ changed (known_of tracked.old) (event_of event.entry)) }
 {
     match event {
-        Event::Made { class, .. } => {
-            tracked.class = class.as_str();
+        SeenEvent::Made { class, .. } => {
+            tracked.class = class;
             tracked.calls.clear();
             Ok(())
         }
-        Event::Enter { method, .. } => {
-            tracked.calls.push(method.as_str())?;
+        SeenEvent::Enter { method, .. } => {
+            tracked.calls.push(method)?;
             Ok(())
         }
-        Event::Leave { .. } => {
+        SeenEvent::Leave { .. } => {
             let _method = tracked.calls.pop();
             Ok(())
         }
-        Event::Print(_) | Event::Send { .. } | Event::Look { .. } | Event::Take { .. } => Ok(()),
+        SeenEvent::Print(_)
+        | SeenEvent::Send { .. }
+        | SeenEvent::Look { .. }
+        | SeenEvent::Take { .. } => Ok(()),
     }
 }
 

@@ -2,13 +2,15 @@
 
 ghost use Rattle.std.specs.Prelude.{◌≡◌, ◌++◌, OnOk, string_bytes};
 ghost use Rattle.vm_model.specs.Step.{truth_text};
+ghost use Rattle.vm_events.specs.Seen.{carried_of};
 ghost use Rattle.mg_trace.specs.Trace.{told_answer, answer_words, carried_words, label_text};
 ghost use Rattle.mg_trace.specs.inner.Tabled.{AreTold, telling_of};
 ghost use Rattle.mg_trace.specs.inner.Words.{word_text};
 
 use crate::results::Answers;
 use jv_core::{Core, CoreType, name_text};
-use mg_text::{Carried, Memory};
+use mg_text::Memory;
+use vm_events::SeenCarried;
 
 /// What stands last in a line, behind a blank.
 #[derive(Clone, Copy)]
@@ -39,14 +41,14 @@ pub(crate) fn push_word(word: Word<'_>, lines: &mut String) -> Result<(), Memory
 }
 
 /// What a message carries.
-pub(crate) fn carried_word(payload: &Carried) -> Word<'_>
-    ensures { word_text result ≡ carried_words payload.now }
+pub(crate) fn carried_word(payload: SeenCarried<'_>) -> Word<'_>
+    ensures { word_text result ≡ carried_words (carried_of payload.entry) }
 {
     match payload {
-        Carried::Nothing => Word::Nothing,
-        Carried::Int(number) => Word::Number(*number),
-        Carried::Truth(truth) => Word::Said(truth_word(*truth)),
-        Carried::Text(text) => Word::Said(text.as_str()),
+        SeenCarried::Nothing => Word::Nothing,
+        SeenCarried::Int(number) => Word::Number(number),
+        SeenCarried::Truth(truth) => Word::Said(truth_word(truth)),
+        SeenCarried::Text(text) => Word::Said(text),
     }
 }
 

@@ -1,9 +1,9 @@
 -- The objects, once one is made or a field of one has changed.
 use Rattle.std.proofs.Common.{◌≡◌, ℕ, ◌≤◌, List, [], ◌∷◌, ◌++◌, length, set, slice_get, Option, Some, None, refl, sym, ap, ◌∙◌, subst}
-use Rattle.std.proofs.Common.{arith}
+use Rattle.std.proofs.Common.{◌<◌, IsSome, arith}
 use Rattle.std.proofs.lemmas.List.{map-set, map_push, length-map}
 use Rattle.std.proofs.lemmas.List.Elements.{All-set}
-use Rattle.std.proofs.lemmas.Option.{slice_get-map, slice_get_past}
+use Rattle.std.proofs.lemmas.Option.{slice_get-map, slice_get_past, slice_get_within}
 use Rattle.std.specs.Prelude.{All, IfSome}
 use Rattle.std.specs.Option.{option_map}
 use Rattle.mg_text.specs.Call.{Name}
@@ -16,6 +16,20 @@ use Rattle.vm_frames.specs.View.{object_in, objects_in, cell_of_object, cell_in,
 use Rattle.vm_frames.specs.Kept.{IsObject}
 use Rattle.vm_frames.specs.Frames.{field_in, field_of_object, with_field}
 use Rattle.vm_frames.proofs.Rows.{at_slice}
+
+-- an object that has a field
+pub has_object : (field : ℕ) (o : Option Object) → IsSome (cell_of_object field o) →
+    (x : Object) × (o ≡ Some x) × IsSome (slice_get x.fields.items field)
+has_object field None e = absurd (cc e)
+has_object field (Some o) e = (o, refl, e)
+
+pub some_mapped : {A B : Type 0} (f : A → B) (o : Option A) → IsSome (option_map f o) → IsSome o
+some_mapped f None e = absurd (cc e)
+some_mapped f (Some x) e = refl
+
+pub some_within : {A : Type 0} (xs : List A) (k : ℕ) (o : Option A) → slice_get xs k ≡ o → IsSome o → k < length xs
+some_within xs k None is e = absurd (cc e)
+some_within xs k (Some x) is e = slice_get_within xs k x is
 
 module _ (texts : List Name) where
   same_class : (o : Option Object) → option_map (λ o. o.class) o ≡ option_map (λ o. o.class) (option_map (object_in texts) o)

@@ -32,6 +32,23 @@ slice_get-drop zero i xs = ap (slice_get xs) (omega arith)
 slice_get-drop (suc n) i [] = refl
 slice_get-drop (suc n) i (x ∷ xs) = slice_get-drop n i xs ∙ ap (slice_get (x ∷ xs)) {x = suc (n + i)} (omega arith)
 
+-- a list whose last element is another one
+pub set_at_end : {X : Type 0} (i : ℕ) (xs : List X) (x : X) → i < length xs → set (take (suc i) xs) i x ≡ take i xs ++ x ∷ []
+set_at_end i [] x h = absurd (omega (arith, h))
+set_at_end zero (y ∷ ys) x h = refl
+set_at_end (suc i) (y ∷ ys) x h = ap (λ l. y ∷ l) (set_at_end i ys x (omega (arith, h)))
+
+-- in the place of so many
+pub put_at_end : {X : Type 0} (row front last : List X) (count : ℕ) (x : X) → 0 < count → count ≤ length row →
+    front ≡ take (length row - (count - 1)) row → last ≡ set front (length front - 1) x → last ≡ take (length row - count) row ++ x ∷ []
+put_at_end row front last count x some within less is =
+    let one : length row - (count - 1) ≡ suc (length row - count) = omega (arith, some, within) in
+    let long : length (take (suc (length row - count)) row) - 1 ≡ length row - count =
+    omega (arith, length-take (suc (length row - count)) row, some, within) in
+    is ∙ ap (λ l. set l (length l - 1) x) (less ∙ ap (λ k. take k row) one)
+    ∙ ap (λ i. set (take (suc (length row - count)) row) i x) long
+    ∙ set_at_end (length row - count) row x (omega (arith, some, within))
+
 pub at_slice : {X : Type 0} (P : X → Type 0) (xs : List X) (i : ℕ) (x : X) → All P xs → slice_get xs i ≡ Some x → P x
 at_slice P xs i x all e = subst P (get_or_from_slice_get xs i x x e) (all i x (slice_get_within xs i x e))
 

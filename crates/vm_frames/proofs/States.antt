@@ -1,9 +1,10 @@
 -- What each change of a state's cells is, and what is kept of it.
 use Rattle.std.proofs.Common.{◌≡◌, ℕ, ◌+◌, ◌-◌, ◌<◌, ◌≤◌, [], ◌∷◌, ◌++◌, length, take, set, slice_get, Some, None, refl, sym, ap, ◌∙◌}
-use Rattle.std.proofs.Common.{subst, arith, length-append, length-take}
+use Rattle.std.proofs.Common.{IsSome, ◌⊎◌, inl, inr, subst, arith, length-append, length-take}
 use Rattle.std.proofs.lemmas.List.{length-set}
 use Rattle.std.specs.Prelude.{reverse}
 use Rattle.raw_stack.specs.Frames.{Frames}
+use Rattle.vm_model.specs.declared.value.Value.{Value}
 use Rattle.vm_model.specs.Tests.{below}
 use Rattle.vm_model.specs.Step.{at_place, with_local}
 use Rattle.vm_frames.specs.declared.cell.Cell.{Cell}
@@ -85,6 +86,24 @@ module _ (s : Inside) (v : Seen) (view_is : seen_of s ≡ v) (kept : IsKept s) w
       Some (value_in v.texts cell) ≡ held_in (slice_get v.machine.frame.locals local)
   held_says local cell lt e differs =
       sym (rows.set_local_in v.texts (length v.texts) cell (held_set local cell lt e differs)) ∙ ap held_in (local_says local cell lt e)
+
+  nothing_there : IsSome {T = Value} None → ⊥
+  nothing_there e = cc e
+
+  -- one that holds a value is among the cells, and isn't unset
+  pub held_within : (local : ℕ) → IsSome (held_in (slice_get v.machine.frame.locals local)) → local < s.head.locals
+  held_within local some =
+      elim (local_or local s.head.locals) [
+        | inl lt ↦ lt
+        | inr le ↦ absurd (nothing_there (subst IsSome (sym (none_held local le)) some))
+      ]
+    where
+      local_or : (a b : ℕ) → (a < b) ⊎ (b ≤ a)
+      local_or a b = grind arith
+
+  pub held_differs : (local : ℕ) (cell : Cell) → local < s.head.locals → slice_get s.cells.running local ≡ Some cell →
+      IsSome (held_in (slice_get v.machine.frame.locals local)) → cell ≡ cells.Unset → ⊥
+  held_differs local cell lt e some is = nothing_there (subst IsSome (sym (unset_held local cell lt e is)) some)
 
   -- there is room for one more
   pub has_room : length v.machine.frame.operands < most → 0 < s.cells.spare

@@ -1,7 +1,7 @@
 //! The operands and locals of the running frame, by the cells where they lie.
 //! Nothing here takes memory.
 
-ghost use Rattle.std.specs.Prelude.{◌≡◌, ◌+◌, ◌-◌, ◌<◌, ◌≤◌, ◌^◌, ◌++◌, ◌∷◌, [], length, slice_get, option_map, IfSome, Some};
+ghost use Rattle.std.specs.Prelude.{◌≡◌, ◌+◌, ◌-◌, ◌<◌, ◌≤◌, ◌^◌, ◌++◌, ◌∷◌, [], length, slice_get, option_map, IfSome, IsSome, Some};
 ghost use Rattle.vm_model.specs.Tests.{below};
 ghost use Rattle.vm_model.specs.Step.{at_place, with_local};
 ghost use Rattle.vm_frames.specs.Seen.{value_in, held_in, IsSet};
@@ -54,6 +54,16 @@ impl State {
         }
     }
 
+    /// What a local holds that was stored to.
+    #[inline(always)]
+    pub fn local(&self, local: usize) -> Cell
+        requires { IsSome (held_in (slice_get self.now.machine.frame.locals local)) }
+        ensures value { Some (value_in self.now.texts result) ≡ held_in (slice_get self.now.machine.frame.locals local) }
+        ensures set { IsSet (length self.now.texts) result }
+    {
+        self.cells.at(local)
+    }
+
     /// Puts a value on top, and goes to a place.
     #[inline(always)]
     pub fn push(&mut self, cell: Cell, place: u32)
@@ -89,8 +99,8 @@ impl State {
             (below count self.old.machine.frame.operands ++ value_in self.old.texts cell ∷ []) }
         ensures texts { self.new.texts ≡ self.old.texts }
     {
-        self.cells.drop_top(count);
-        self.cells.push(cell);
+        self.cells.drop_top(count - 1);
+        self.cells.put_top(cell);
         self.head.place = place;
     }
 

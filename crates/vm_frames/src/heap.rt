@@ -1,7 +1,8 @@
 //! The objects, by their numbers.
 //! None is ever taken away.
 
-ghost use Rattle.std.specs.Prelude.{◌≡◌, ◌<◌, ◌++◌, ◌∷◌, [], length, option_map, slice_get, slice_set, All, IfOk, IfSome, OnErr};
+ghost use Rattle.std.specs.Prelude.{◌≡◌, ◌<◌, ◌++◌, ◌∷◌, [], length, option_map, slice_get, slice_set, All, IfOk, IfSome};
+ghost use Rattle.std.specs.Prelude.{IsSome, OnErr, Some};
 ghost use Rattle.vm_frames.specs.Seen.{value_in, values_in, IsSet};
 ghost use Rattle.vm_frames.specs.View.{cell_in};
 ghost use Rattle.vm_frames.specs.Frames.{field_in, with_field};
@@ -31,7 +32,18 @@ impl State {
         cell_at(self.heap.as_slice(), object, field)
     }
 
+    /// What a field of an object holds, of which it is known that there are both.
+    #[inline(always)]
+    pub fn held_field(&self, object: u32, field: u32) -> Cell
+        requires { IsSome (field_in self.now.machine.heap object field) }
+        ensures value { Some (value_in self.now.texts result) ≡ field_in self.now.machine.heap object field }
+        ensures set { IsSet (length self.now.texts) result }
+    {
+        cell_there(self.heap.as_slice(), object, field)
+    }
+
     /// Puts a value into a field of an object, where there are both.
+    #[inline(always)]
     pub fn set_field(&mut self, object: u32, field: u32, cell: Cell)
         requires { IsSet (length self.old.texts) cell }
         ensures machine { self.new.machine ≡ record self.old.machine {
@@ -96,7 +108,18 @@ fn cell_at(heap: &[Object], object: u32, field: u32) -> Option<Cell>
     }
 }
 
+/// The cell of a field that is there.
+#[inline(always)]
+fn cell_there(heap: &[Object], object: u32, field: u32) -> Cell
+    requires { IsSome (cell_in heap.now object field) }
+    ensures { Some result ≡ cell_in heap.now object field }
+{
+    let found = &heap[object as usize];
+    found.fields[field as usize]
+}
+
 /// Puts a cell into a field, where there is one of this number.
+#[inline(always)]
 fn put_field(object: &mut Object, field: usize, cell: Cell)
     ensures class { object.new.class ≡ object.old.class }
     ensures fields { object.new.fields.items ≡ slice_set object.old.fields.items field cell }

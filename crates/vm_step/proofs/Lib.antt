@@ -11,3 +11,4 @@ pub mod Mains
 pub mod Quietly
 pub mod Waiting
 pub mod Awaited
+pub mod Alike

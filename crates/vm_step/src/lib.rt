@@ -13,6 +13,7 @@ mod program;
 mod quiet;
 mod returns;
 mod step;
+mod typed;
 mod waits;
 
 pub use machine::{Machine, has_main};

@@ -12,17 +12,22 @@ ghost use Rattle.vm_session.specs.Doing.{Does};
 ghost use Rattle.vm_step.specs.Doing.{waits_in};
 ghost use Rattle.vm_step.specs.Alone.{AllAlone};
 ghost use Rattle.vm_step.specs.Main.{HasMain};
+ghost use Rattle.vm_flat.specs.Flat.{IsFlatOf};
+ghost use Rattle.cls_verify.specs.Typing.{AllTypable};
+ghost use Rattle.cls_verify.specs.Sound.{Sound};
 ghost use Rattle.vm_step.specs.Steady.{is_steady, next_action};
 ghost use Rattle.vm_frames.specs.Lying.{AllLie};
 
 use crate::program::{class_at, max_locals, method_at};
 use crate::quiet::steps_alone;
 use crate::step::take_step;
+use crate::typed::steps_typed;
 use crate::waits::waits;
 use mg_text::{List, Memory, Text};
 use raw_stack::RawStack;
 use std::alloc::Global;
 use std::marker::Model;
+use vm_flat::FlatProgram;
 use vm_frames::{Cell, State};
 use vm_model::{Linked, LinkedClass, LinkedMethod, Ports};
 use vm_session::Stepped;
@@ -165,6 +170,19 @@ impl Machine {
         ensures steps { AllAlone linked.now self.old.machine result self.new.machine }
     {
         steps_alone(&mut self.state, linked, most)
+    }
+
+    /// Takes such steps of a typable program, those that its flat code has without tests of what typing says, and answers how many
+    /// they were. It stops where neither they nor the tested ones go on.
+    pub fn steps_typed(&mut self, linked: &Linked, flat: &FlatProgram, most: u32) -> u32
+        requires typable { AllTypable linked.now }
+        requires flat { IsFlatOf flat.now linked.now }
+        requires sound { Sound linked.now self.old.machine }
+        ensures most { result ≤ most }
+        ensures steps { AllAlone linked.now self.old.machine result self.new.machine }
+        ensures sound { Sound linked.now self.new.machine }
+    {
+        steps_typed(&mut self.state, linked, flat, most)
     }
 
     /// Takes a step of the role `me`: the next instruction's tests in their order, and then what it

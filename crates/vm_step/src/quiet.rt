@@ -3,7 +3,7 @@
 
 ghost use Rattle.std.specs.Prelude.{◌≡◌, ◌-◌, ◌<◌, ◌≤◌, ◌^◌, Bool, false, Option, None, Some, length, map, option_map, slice_get, IfSome};
 ghost use Rattle.std.specs.Prelude.{if◌then◌else◌, OnSome};
-ghost use Rattle.std.specs.Bool.{OnTrue, OnFalse};
+ghost use Rattle.std.specs.Bool.{OnTrue};
 ghost use Rattle.mg_text.specs.declared.event.BadKind.{BadKind};
 ghost use Rattle.vm_model.specs.declared.linked.Built.TheVariants as builts;
 ghost use Rattle.vm_model.specs.Actions as actions;
@@ -12,7 +12,6 @@ ghost use Rattle.vm_model.specs.Program.{Program};
 ghost use Rattle.vm_model.specs.Program as forms;
 ghost use Rattle.vm_model.specs.Tests.{Typed, max_stack_in, method_of_frame, misfits, on_top, some_of};
 ghost use Rattle.vm_model.specs.View.{args_of, instr_of, method_of};
-ghost use Rattle.vm_frames.specs.Frames.{entered};
 ghost use Rattle.vm_session.specs.State.{state_of, operands_of};
 ghost use Rattle.vm_actions.specs.Table.{sort_of};
 ghost use Rattle.vm_step.specs.Alone.{Alone, Stays, Runs, Leads, LeadsAlone, Tried, Keeps, AllAlone};
@@ -30,9 +29,10 @@ use cls_tree::opcodes::*;
 use mg_text::Text;
 use std::rc::Rc;
 use vm_actions::{Comparison, Constant, Operation, Sort};
-use vm_frames::{Callee, Cell, State};
+use vm_frames::{Cell, State};
 use vm_model::{Built, Linked, LinkedArgs, LinkedInstr, LinkedMethod, LinkedType};
 use vm_session::{text_at, truth};
+use vm_typed::enter;
 
 /// The number of an object, where a value is one of the class of this number.
 #[inline(always)]
@@ -144,32 +144,6 @@ fn fit(linked: &Linked, state: &State, params: &[LinkedType]) -> bool
         }
     }
     true
-}
-
-/// Runs a method that has so many locals over the running frame, where there is room for it: a frame that wants memory is entered by
-/// the general tests, which say so where there is none.
-#[inline(always)]
-fn enter(state: &mut State, class: u32, method: u32, taken: usize, locals: u16) -> bool
-    requires place { state.old.machine.frame.place < 2 ^ 32 - 1 }
-    requires within { taken ≤ length (operands_of state.old) }
-    requires locals { taken ≤ locals }
-    ensures yes { OnTrue result (state_of state.new ≡ entered (state_of state.old) class method taken locals None) }
-    ensures no { OnFalse result (state_of state.new ≡ state_of state.old) }
-{
-    let callee = Callee {
-        class,
-        method,
-        args: taken,
-        locals,
-        told: None,
-    };
-    if !state.has_room(callee) {
-        return false;
-    }
-    match state.enter(callee) {
-        Ok(()) => true,
-        Err(_) => false,
-    }
 }
 
 /// Calls a static method.

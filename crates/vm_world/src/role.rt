@@ -1,13 +1,17 @@
 //! A role: its machine, or how it ended, and how many of its instructions were counted.
 //! A turn of it is one step.
 
-ghost use Rattle.std.specs.Prelude.{◌≡◌, ◌+◌, ◌<◌, ◌≤◌, ◌^◌, IfOk, OnErr};
+ghost use Rattle.std.specs.Prelude.{◌≡◌, ◌+◌, ◌<◌, ◌≤◌, ◌^◌, IfOk, IfSome, OnErr};
 ghost use Rattle.vm_world.specs.Alone.{RoleAlone};
 ghost use Rattle.vm_world.specs.Outcome.{outcome};
 ghost use Rattle.vm_world.specs.View.{role_of, state_of};
+ghost use Rattle.vm_world.specs.Typed.{IsTyped, RoleSuits};
+ghost use Rattle.vm_step.specs.Alone.{AllAlone};
+ghost use Rattle.cls_verify.specs.Sound.{Sound};
 
 use mg_text::{Ending, Event, Memory, Text};
 use std::alloc::Global;
+use vm_flat::FlatProgram;
 use vm_model::{Linked, Ports};
 use vm_step::{Machine, Stepped};
 use vm_world_law::Turned;
@@ -99,18 +103,38 @@ pub(crate) fn take_turn(
     }
 }
 
+/// Frequent steps of a machine that tell nothing, at most so many: without the tests that typings have made, where the program has a
+/// flat form. The answer is how many they were.
+#[inline(always)]
+fn steps_alone(machine: &mut Machine, linked: &Linked, flat: &Option<FlatProgram>, most: u32) -> u32
+    requires { IfSome flat.now (λ f. IsTyped linked.now f × Sound linked.now machine.old.machine) }
+    ensures most { result ≤ most }
+    ensures steps { AllAlone linked.now machine.old.machine result machine.new.machine }
+{
+    match flat {
+        Some(flat) => machine.steps_typed(linked, flat, most),
+        None => machine.steps_alone(linked, most),
+    }
+}
+
 /// Turns of a role whose steps are frequent ones that tell nothing, at most so many. The answer is
 /// how many they were.
 #[inline(always)]
-pub(crate) fn turns_alone(role: &mut Role, linked: &Linked, most: u32) -> u32
-    requires { role.old.count + most < 2 ^ 32 }
+pub(crate) fn turns_alone(
+    role: &mut Role,
+    linked: &Linked,
+    flat: &Option<FlatProgram>,
+    most: u32,
+) -> u32
+    requires count { role.old.count + most < 2 ^ 32 }
+    requires typed { IfSome flat.now (λ f. IsTyped linked.now f × RoleSuits linked.now (role_of role.old)) }
     ensures most { result ≤ most }
     ensures turns { RoleAlone linked.now (role_of role.old) result (role_of role.new) }
 {
     let State::Runs(machine) = &mut role.state else {
         return 0;
     };
-    let taken = machine.steps_alone(linked, most);
+    let taken = steps_alone(machine, linked, flat, most);
     role.count += u64::from(taken);
     taken
 }

@@ -7,6 +7,7 @@ ghost use Rattle.std.specs.Bool.{OnFalse};
 ghost use Rattle.std.specs.List.{IsDistinct, AllByRecursion};
 ghost use Rattle.std.specs.Str.{bytes_eq};
 ghost use Rattle.vm_step.specs.Main.{HasMain};
+ghost use Rattle.vm_events.specs.Seen.{event_of};
 ghost use Rattle.vm_world_law.specs.World as model;
 ghost use Rattle.vm_world_law.specs.Turns.{over_in};
 ghost use Rattle.vm_world.specs.Alone.{TurnsAlone};
@@ -14,21 +15,27 @@ ghost use Rattle.vm_world.specs.Resting.{GoesOn};
 ghost use Rattle.vm_world.specs.Telling.{MovesNone, LastMovesNone};
 ghost use Rattle.vm_world.specs.View.{roles_of, ending_in};
 ghost use Rattle.vm_model.specs.Machine.{noted};
+ghost use Rattle.cls_verify.specs.Typing.{AllTypable};
+ghost use Rattle.vm_world.specs.Typed.{IsTyped};
 
 use crate::role::{Role, State, Taken, take_turn, turns_alone};
 use mg_text::{Ending, Event, List, Memory, Text};
 use std::alloc::Global;
 use std::marker::Model;
+use vm_events::{Events, SeenEvent};
+use vm_flat::{FlatProgram, flatten};
 use vm_model::{Linked, Ports};
 use vm_step::Machine;
-use vm_world_law::{RoleEvent, RoleMain, Turned};
+use vm_world_law::{RoleMain, Turned};
 
 /// Roles that run one program, the messages on their way, and the events of all roles in their order.
 pub struct World {
     linked: Linked,
+    /// The flat form of the program, where each of its methods is known to have a typing.
+    flat: Option<FlatProgram>,
     ports: Ports,
     pub(crate) roles: Vec<Role>,
-    events: List<RoleEvent>,
+    events: Events,
 }
 
 // One call lets go of it, wherever a function ends.
@@ -36,6 +43,7 @@ impl Drop for World {
     fn drop(self) {
         let World {
             linked: _,
+            flat: _,
             ports: _,
             roles: _,
             events: _,
@@ -55,7 +63,9 @@ impl Model for World {
       world = record { roles = roles_of w.roles.items; messages = w.ports; events = w.events.items };
     } };
 
-    ghost invariant = { λ w. length w.roles.items < 2 ^ 32 };
+    ghost use Rattle.vm_world.specs.Typed.{SuitsWhereFlat};
+
+    ghost invariant = { λ w. (length w.roles.items < 2 ^ 32) × SuitsWhereFlat w.linked (roles_of w.roles.items) w.flat };
 }
 
 /// The machines of these roles, each at its `main`.
@@ -86,52 +96,74 @@ fn names_of(alloc: Global, mains: &[RoleMain]) -> Result<List<Text>, Memory>
     Ok(names)
 }
 
+/// The flat form of a program, where each of its methods is known to have a typing.
+fn flat_where(alloc: Global, linked: &Linked, typed: bool) -> Result<Option<FlatProgram>, Memory>
+    requires { IsTrue typed → AllTypable linked.now }
+    ensures { IfOk result (λ flat. IfSome flat (IsTyped linked.now)) }
+{
+    if !typed {
+        return Ok(None);
+    }
+    let flat = flatten(alloc, linked)?;
+    Ok(Some(flat))
+}
+
 /// Whether an event is of a message that was sent or taken.
-fn is_of_message(event: &Event) -> bool
-    ensures { OnFalse result (MovesNone event.now) }
+fn is_of_message(event: SeenEvent<'_>) -> bool
+    ensures { OnFalse result (MovesNone (event_of event.entry)) }
 {
     match event {
-        Event::Print(_text) => false,
-        Event::Made { .. } => false,
-        Event::Enter { .. } => false,
-        Event::Leave { .. } => false,
-        Event::Send { .. } => true,
-        Event::Look { .. } => false,
-        Event::Take { .. } => true,
+        SeenEvent::Print(_text) => false,
+        SeenEvent::Made { .. } => false,
+        SeenEvent::Enter { .. } => false,
+        SeenEvent::Leave { .. } => false,
+        SeenEvent::Send { .. } => true,
+        SeenEvent::Look { .. } => false,
+        SeenEvent::Take { .. } => true,
     }
 }
 
 /// Keeps an event of a role, for which there is room.
-fn note(events: &mut List<RoleEvent>, role: u32, event: Option<Event>)
+fn note(events: &mut Events, alloc: Global, role: u32, event: Option<Event>)
     requires { 0 < events.old.spare }
     ensures { events.new.items ≡ events.old.items ++ map (model.of_role role) (noted event) }
 {
     match event {
-        Some(event) => events.add(RoleEvent { role, event }),
+        Some(event) => events.add(alloc, role, event),
         None => {}
     }
 }
 
 impl World {
     /// The world of these roles before the first turn: each at the `main` of its class, and no
-    /// message on its way.
+    /// message on its way. Where each method of the program has a typing, which `typed` says,
+    /// roles take frequent steps without the tests that typings have made.
     ///
     /// # Errors
     /// `Memory` only.
-    pub fn new(alloc: Global, linked: Linked, mains: &[RoleMain]) -> Result<World, Memory>
+    pub fn new(
+        alloc: Global,
+        linked: Linked,
+        mains: &[RoleMain],
+        typed: bool,
+    ) -> Result<World, Memory>
+        requires typable { IsTrue typed → AllTypable linked }
         requires distinct { IsDistinct bytes_eq (map (λ m. m.role) mains.now) }
         requires mains { AllByRecursion (λ m. HasMain linked m.class) mains.now }
         ensures program { IfOk result (λ w. w.program ≡ linked) }
         ensures begun { IfOk result (λ w. model.IsBegun w.program mains.now w.world) }
     {
+        let events = Events::new(alloc)?;
         let names = names_of(alloc, mains)?;
         let ports = Ports::new(alloc, names.as_slice())?;
         let roles = begun(alloc, &linked, mains)?;
+        let flat = flat_where(alloc, &linked, typed)?;
         Ok(World {
             linked,
+            flat,
             ports,
             roles,
-            events: List::new(alloc),
+            events,
         })
     }
 
@@ -147,7 +179,7 @@ impl World {
         ensures turned { IfOk result (λ t. Some t ≡ model.turned self.old.program self.old.world role) }
         ensures err { OnErr result (self.new ≡ self.old) }
     {
-        self.events.reserve(1)?;
+        self.events.reserve()?;
         let taken = take_turn(
             &mut self.roles[role as usize],
             alloc,
@@ -156,7 +188,7 @@ impl World {
             role,
         )?;
         let Taken { turned, event } = taken;
-        note(&mut self.events, role, event);
+        note(&mut self.events, alloc, role, event);
         Ok(turned)
     }
 
@@ -170,7 +202,8 @@ impl World {
         ensures most { result ≤ most }
         ensures turns { TurnsAlone self.old.program self.old.world role result self.new.world }
     {
-        turns_alone(&mut self.roles[role as usize], &self.linked, most)
+        let one = &mut self.roles[role as usize];
+        turns_alone(one, &self.linked, &self.flat, most)
     }
 
     /// The role for whose message the next instruction of a role waits, where that hasn't ended.
@@ -212,7 +245,7 @@ impl World {
     }
 
     /// The events of all roles, in their order.
-    pub fn events(&self) -> &List<RoleEvent>
+    pub fn events(&self) -> &Events
         ensures { result.now.items ≡ self.now.world.events }
     {
         &self.events
@@ -222,10 +255,12 @@ impl World {
     pub(crate) fn last_moved(&self) -> bool
         ensures { OnFalse result (LastMovesNone self.now.world.events) }
     {
-        match self.events().as_slice().last() {
-            Some(last) => is_of_message(&last.event),
-            None => false,
+        let events = self.events();
+        let count = events.len();
+        if count == 0 {
+            return false;
         }
+        is_of_message(events.at(count - 1).event)
     }
 
     /// How many instructions of a role were counted.

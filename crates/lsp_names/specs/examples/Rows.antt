@@ -16,12 +16,18 @@ pub record Rows : Type 0 where
   pub small : Leads (codes "file:///%7euser/50%25%2/C.scr") (codes "/~user/50%%2/C.scr")
   -- a drive's letter is a folder of this machine as any other
   pub drive : Leads (codes "file:///c%3A/ada/C.scr") (codes "/c:/ada/C.scr")
+  -- the name of this machine, and none
+  pub here : Leads (codes "file://localhost/home/ada/C.scr") (codes "/home/ada/C.scr")
+  pub short : Leads (codes "file:/home/my%20files/C.scr") (codes "/home/my files/C.scr")
   -- no files
   pub untitled : IsNamed (codes "untitled:Untitled-1") NoFile
   pub other : IsNamed (codes "git:/home/ada/C.scr?HEAD") NoFile
   -- a file of another machine, and none
   pub elsewhere : IsNamed (codes "file://server/ada/C.scr") Elsewhere
+  pub like : IsNamed (codes "file://localhosts/ada/C.scr") Elsewhere
   pub nothing : IsNamed (codes "file://") Elsewhere
+  pub no_path : IsNamed (codes "file://localhost") Elsewhere
+  pub no_root : IsNamed (codes "file:C.scr") Elsewhere
   -- a byte that no text has
   pub bytes : IsNamed (codes "file:///home/%FF/C.scr") NoText
   -- what stands for itself, and what doesn't

@@ -1,7 +1,9 @@
 use Rattle.std.proofs.Common.{refl}
+use Rattle.percent_encoding.proofs.OnLiterals.{percent_encoding_on_literals}
 use Rattle.lsp_folder.proofs.laws.rows_hold.Goals as goal
 
 pub returns : goal.returns
+unfolding percent_encoding_on_literals
 returns c = record {
   folder = refl;
   bare = refl;
@@ -16,4 +18,12 @@ returns c = record {
   lock = refl;
   hidden = refl;
   dots = refl;
+  escaped = refl;
+  another = refl;
+  path = refl;
+  machine = refl;
+  slash = refl;
+  no_file = refl;
+  one_folder = refl;
+  two_folders = refl;
 }

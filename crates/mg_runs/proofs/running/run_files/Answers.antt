@@ -21,9 +21,16 @@ go-requires-clause-mains c =
     c.args.mains.now
     c.requires.mains
 
+pub go-requires-clause-typable : goal.go-requires-clause-typable
+go-requires-clause-typable c = λ _.
+    let (sources, have) = c.requires.files in
+    c.loaded_classes_are_typable.ensures sources c.args.core.now c.args.files.items have c.requires.made c.in_ok-linked.linked
+    (subst (λ (z : List ClassFile). IsLoaded (map (λ f. f.bytes) z) c.in_ok-linked.linked) c.as_slice.ensures.items
+    c.in_ok-linked.ensures)
+
 pub returns-in-Ok : goal.returns-in-Ok
 returns-in-Ok c =
-    let events = c.as_slice-events.ensures.items ∙ c.events.ensures in
+    let events = c.events-events.ensures in
     let loaded = subst (λ (z : List ClassFile). IsLoaded (map (λ f. f.bytes) z) c.in_ok-linked.linked) c.as_slice.ensures.items
     c.in_ok-linked.ensures in
     subst (IsRunOf c.args.core.now c.args.files.items c.args.mains.now c.args.order.now c.args.limit c.args.named c.args.traced)

@@ -1,13 +1,18 @@
-use Rattle.std.proofs.Common.{arith}
-use Rattle.std.proofs.lemmas.Grind.{common_steps}
+use Rattle.std.proofs.Common.{◌∙◌, ap, arith}
+use Rattle.std.proofs.lemmas.List.{take_all}
+use Rattle.vm_events.specs.Seen.{role_event_of}
+use Rattle.mg_trace.specs.Trace.{printed}
 use Rattle.mg_trace.proofs.Prints.{printed_more}
 use Rattle.mg_trace.proofs.printing.printed.Goals as goal
 
-pub loop-event-preserved : goal.loop-event-preserved
-loop-event-preserved c =
-    printed_more c.args.named c.args.names.now c.args.events.now c.loop-event.event-index c.event-item.result
-    c.loop-event-test.true c.event-item.is c.role_name-name.result.now c.role_name-name.ensures c.loop-event.bytes c.put_printed.new.bytes
-    c.loop-event.invariant c.in_ok-put_printed.ensures
+pub loop-place-preserved : goal.loop-place-preserved
+loop-place-preserved c =
+    printed_more c.args.named c.args.names.now c.args.events.now.items c.loop-place.place (role_event_of c.at-seen.result)
+    c.at-seen.ensures c.role_name-name.result.now c.role_name-name.ensures c.loop-place.bytes c.put_printed.new.bytes
+    c.loop-place.invariant c.in_ok-put_printed.ensures
 
 pub returns : goal.returns
-returns c = grind (arith, common_steps)
+returns c =
+    c.loop-place.invariant
+    ∙ ap (printed c.args.named c.args.names.now)
+    (take_all c.loop-place.place c.args.events.now.items (omega (arith, c.loop-place-test.false, c.len-place-end.ensures.value)))

@@ -1,6 +1,7 @@
 use Rattle.std.proofs.Common.{◌∙◌, ap}
 use Rattle.std.specs.Prelude.{string_bytes, slice_set}
 use Rattle.std.proofs.lemmas.Result.{on_ok_weaker}
+use Rattle.vm_events.specs.Seen.{role_event_of}
 use Rattle.mg_trace.specs.inner.Kept.{objects_at}
 use Rattle.mg_trace.specs.inner.Tabled.{telling_of}
 use Rattle.mg_trace.proofs.Telling.{are_known_same, are_known_more, told_more}
@@ -10,7 +11,7 @@ use Rattle.mg_trace.proofs.tracing.push_next.Goals as goal
 pub returns : goal.returns
 returns c = λ before known lines.
     let t = telling_of c.args.answers in
-    let e = c.args.event.now in
+    let e = role_event_of c.args.seen in
     let within = c.in_ok-make_room.ensures.within in
     let roles = c.make_room.new.roles.items in
     let are = are_known_same c.args.roles.now.items roles before known c.in_ok-make_room.ensures.same in

@@ -63,10 +63,12 @@ fn add_stand(lines: &mut Answer, world: &World, role: u32)
 // Adds the events of a role, and answers how many there are.
 fn add_events(events: &mut Answer, world: &World, role: u32) -> u64 {
     let mut count: u64 = 0;
-    for event in world.events().as_slice() {
-        if event.role == role {
+    let kept = world.events();
+    for place in 0..kept.len() {
+        let seen = kept.at(place);
+        if seen.role == role {
             count = count.saturating_add(1);
-            events.tell(&event.event);
+            events.tell(&seen.event);
             events.add("\n");
         }
     }

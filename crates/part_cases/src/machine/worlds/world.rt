@@ -94,7 +94,7 @@ fn begun(alloc: Global, classes: &[Class], given: &Given<'_>) -> Result<World, U
         let client = main_of(alloc, "C", given.client)?;
         let server = main_of(alloc, "S", given.server)?;
         let mains = [client, server];
-        return Ok(World::new(alloc, linked, mains.as_slice())?);
+        return Ok(World::new(alloc, linked, mains.as_slice(), false)?);
     }
     Err(Unanswered::Form)
 }

@@ -1,4 +1,4 @@
-use Rattle.std.proofs.Common.{◌≡◌, ◌-◌, length, drop, map, Some, slice_get, sym, ap, ◌∙◌}
+use Rattle.std.proofs.Common.{◌≡◌, length, drop, map, Some, slice_get, sym, ap, ◌∙◌}
 use Rattle.std.proofs.lemmas.List.{drop_all}
 use Rattle.vm_model.specs.Kept.{type_kept}
 use Rattle.vm_model.specs.Tests.{Typed, misfits, on_top, some_of}

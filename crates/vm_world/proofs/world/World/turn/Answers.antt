@@ -4,6 +4,7 @@ use Rattle.vm_world_law.specs.World as model
 use Rattle.vm_world.specs.Seen.{Seen}
 use Rattle.vm_world.specs.View.{roles_of}
 use Rattle.vm_world.proofs.Turning.{turned_world, turned_answer, roles_same, many, on_err_of}
+use Rattle.vm_world.proofs.Typed.{kept_same, kept_turned}
 use Rattle.vm_world.proofs.world.World.turn.Goals as goal
 
 pub returns-in_err-taken-clause-err : goal.returns-in_err-taken-clause-err
@@ -53,3 +54,23 @@ returns-clause-turned c =
     c.self.inside.linked c.self.inside.ports c.take_turn.new.ports c.self.inside.events.items
     c.take_turn.new.role c.in_ok-taken.taken.event c.in_ok-taken.taken.turned c.in_ok-taken.ensures.ok
     ∙ ap (λ (s : Seen). model.turned s.program s.world c.args.role) c.self.view_is
+
+pub invariant_of-self : goal.invariant_of-self
+invariant_of-self c = c.self.invariant
+
+pub invariant_of-self-in_err-taken : goal.invariant_of-self-in_err-taken
+invariant_of-self-in_err-taken c =
+    let lt : c.args.role < length c.self.inside.roles.items =
+    subst (λ k. c.args.role < k) (many c.self.inside.roles.items)
+    (subst (λ (s : Seen). c.args.role < length s.world.roles) (sym c.self.view_is) c.requires.number) in
+    kept_same c.self.inside.linked c.self.inside.roles.items c.args.role c.index_mut.result.now lt c.index_mut.ensures.value
+    c.take_turn.new.role c.self.inside.flat c.in_err-taken.ensures.err c.self.invariant
+
+pub invariant_of-self-2 : goal.invariant_of-self-2
+invariant_of-self-2 c =
+    let lt : c.args.role < length c.self.inside.roles.items =
+    subst (λ k. c.args.role < k) (many c.self.inside.roles.items)
+    (subst (λ (s : Seen). c.args.role < length s.world.roles) (sym c.self.view_is) c.requires.number) in
+    kept_turned c.self.inside.linked c.self.inside.roles.items c.args.role c.index_mut.result.now lt c.index_mut.ensures.value
+    c.take_turn.new.role c.self.inside.flat c.self.inside.ports c.take_turn.new.ports c.in_ok-taken.taken.event
+    c.in_ok-taken.taken.turned c.in_ok-taken.ensures.ok c.self.invariant

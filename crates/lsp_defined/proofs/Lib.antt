@@ -1,0 +1,9 @@
+pub mod Collecting
+pub mod Offering
+pub mod Locating
+pub mod Spelling
+pub mod Filed
+pub mod Hovering
+pub mod Standing
+pub mod Numbering
+pub mod Defining

@@ -1,0 +1,11 @@
+pub mod Files
+pub mod Called
+pub mod Locations
+pub mod Definitions
+pub mod Spots
+pub mod Lines
+pub mod Shown
+pub mod Hovers
+pub mod Laws
+pub mod inner
+pub mod examples

@@ -1,0 +1,3 @@
+pub mod Separated
+pub mod Firsts
+pub mod Showing

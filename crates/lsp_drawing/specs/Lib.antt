@@ -1,0 +1,3 @@
+pub mod Diagrams
+pub mod Drawings
+pub mod examples

@@ -1,0 +1,5 @@
+pub mod Fields
+pub mod Heard
+pub mod Methods
+pub mod Reading
+pub mod examples

@@ -1,0 +1,4 @@
+pub mod Grouping
+pub mod Pairing
+pub mod Telling
+pub mod Finding

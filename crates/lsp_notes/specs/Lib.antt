@@ -1,0 +1,4 @@
+pub mod Homes
+pub mod Told
+pub mod Once
+pub mod inner

@@ -1,0 +1,7 @@
+pub mod Backwards
+pub mod Closing
+pub mod Found
+pub mod Meeting
+pub mod Naming
+pub mod Placed
+pub mod Trying

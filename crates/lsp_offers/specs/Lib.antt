@@ -1,0 +1,10 @@
+pub mod Spots
+pub mod Calls
+pub mod Firsts
+pub mod Attempts
+pub mod Repaired
+pub mod Items
+pub mod Documents
+pub mod Offered
+pub mod examples
+pub mod inner

@@ -1,0 +1,5 @@
+pub mod Objects
+pub mod Parts
+pub mod Answers
+pub mod Said
+pub mod examples

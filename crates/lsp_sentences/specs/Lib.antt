@@ -1,0 +1,4 @@
+pub mod Table
+pub mod Repairs
+pub mod Sentences
+pub mod examples

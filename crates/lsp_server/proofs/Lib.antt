@@ -1,0 +1,5 @@
+mod Fits
+mod Told
+mod Tellings
+mod Responses
+mod Displays

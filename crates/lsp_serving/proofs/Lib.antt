@@ -1,0 +1,6 @@
+mod Joins
+mod Passes
+mod Feeding
+mod Turns
+mod Hears
+mod Speeches

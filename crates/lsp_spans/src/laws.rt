@@ -1,0 +1,8 @@
+//! Laws of words. Each function carries one, and does nothing.
+
+ghost use Rattle.lsp_spans.specs.examples.Rows.{Rows};
+
+/// The worked rows hold.
+pub fn rows_hold()
+    ensures { Rows }
+{}
