@@ -33,5 +33,10 @@ plain_first t = flat_map (λ s. filter is_plain s.methods) t.states ++ flat_map 
 abbrev pub attempts_of : Typestate → List Attempt
 attempts_of t = flat_map forms_of (firsts bys.Result (plain_first t))
 
+-- what stands there
+abbrev pub standing : Attempt
+standing = record { form = forms.Standing; call = [] }
+
+-- First the call that stands there already, if one does, and then those of each typestate.
 abbrev pub attempts : List Typestate → List Attempt
-attempts ts = flat_map attempts_of ts
+attempts ts = standing ∷ flat_map attempts_of ts

@@ -32,15 +32,25 @@ behind_semicolon (b ∷ bs) = if b == 59 then bs else b ∷ bs
 
 -- What stands behind a call whose name is being typed here: its arguments may stand, and where it is a statement, its semicolon.
 abbrev pub behind_call : Form → List ℕ → List ℕ
+behind_call forms.Standing bs = bs
 behind_call forms.Statement bs = behind_semicolon (behind_arguments (behind_word bs))
 behind_call forms.Value bs = behind_arguments (behind_word bs)
 
 -- how a call ends
 abbrev pub ending : Form → List ℕ
+ending forms.Standing = []
 ending forms.Statement = codes ";"
 ending forms.Value = []
 
--- The text with this call in place of what is typed at a spot, up to and behind an offset.
-abbrev pub repaired : (text : List ℕ) → Spot → (offset : ℕ) → Attempt → List ℕ
-repaired text spot offset a =
+-- the text with this call in place of what is typed at a spot, up to and behind an offset
+abbrev pub replaced : (text : List ℕ) → Spot → (offset : ℕ) → Attempt → List ℕ
+replaced text spot offset a =
     take (spot.dot + 1) text ++ (a.call ++ (ending a.form ++ behind_call a.form (drop offset text)))
+
+-- The text in which a call is tried: what stands there already is tried as it stands.
+abbrev pub repaired : (text : List ℕ) → Spot → (offset : ℕ) → Attempt → List ℕ
+repaired text spot offset a = elim a.form [
+  | forms.Standing ↦ text
+  | forms.Statement ↦ replaced text spot offset a
+  | forms.Value ↦ replaced text spot offset a
+]

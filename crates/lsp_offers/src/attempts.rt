@@ -17,6 +17,8 @@ use ts_tree::{Method, State, TypeName, Typestate};
 /// How a call stands in a text.
 #[derive(Clone, Copy)]
 pub(crate) enum Form {
+    /// As it stands already.
+    Standing,
     /// As a statement, with its semicolon.
     Statement,
     /// As a value, in an expression or before a semicolon that stands there.
@@ -118,7 +120,7 @@ fn put_attempts(alloc: Global, out: &mut Vec<Attempt>, typestate: &Typestate) ->
     put_forms(alloc, out, methods.as_slice())
 }
 
-/// What is tried of typestates.
+/// What is tried: what stands there already, and then calls of typestates.
 ///
 /// # Errors
 /// `Memory` only.
@@ -126,6 +128,11 @@ pub(crate) fn attempts(alloc: Global, typestates: &[Typestate]) -> Result<Vec<At
     ensures { IfOk result (λ v. v.items ≡ attempts typestates.now) }
 {
     let mut out = Vec::new(alloc);
+    let call = Text::of(alloc, "")?;
+    out.push(Attempt {
+        form: Form::Standing,
+        call,
+    })?;
     for typestate in typestates {
         put_attempts(alloc, &mut out, typestate)?;
     }

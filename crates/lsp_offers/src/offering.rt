@@ -72,9 +72,9 @@ fn offers_behind(
 /// What may be called at a position of the file of a number, one of those that an editor's program has, where a method
 /// is being typed there behind a variable and a dot. First come the methods that may be called whatever the variable is
 /// there; then those that only some of its states offer, or all where it may also be null, moved away or at its end.
-/// What it may be is told by a call in place of what is typed. For each typestate and each result type of its methods
+/// What it may be is told by the call that stands there, where one does and all is well typed, and else by one in its place. For each typestate and each result type of its methods
 /// the first method with that result is tried (one that takes no object and no enum where there is one), as a statement and as a value, until such a call stands in a program
-/// that is well typed; so at most two programs are judged for each of them. Where none is well typed nothing is offered,
+/// that is well typed; so at most two programs are judged for each of them, and one before. Where none is well typed nothing is offered,
 /// nor where nothing is typed so.
 ///
 /// # Errors

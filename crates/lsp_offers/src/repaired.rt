@@ -2,7 +2,7 @@
 
 ghost use Rattle.std.specs.Prelude.{◌≡◌, ◌≤◌, ◌<◌, ◌+◌, ◌^◌, IfOk, length};
 ghost use Rattle.lsp_offers.specs.Repaired.{open_behind, closing, behind_word, behind_arguments, behind_semicolon};
-ghost use Rattle.lsp_offers.specs.Repaired.{behind_call, ending, repaired};
+ghost use Rattle.lsp_offers.specs.Repaired.{behind_call, ending, replaced, repaired};
 
 use crate::attempts::{Attempt, Form};
 use crate::spots::{Spot, word_len};
@@ -70,6 +70,7 @@ fn behind_call(form: Form, bytes: &[u8]) -> &[u8]
 {
     let behind = behind_arguments(behind_word(bytes));
     match form {
+        Form::Standing => bytes,
         Form::Statement => behind_semicolon(behind),
         Form::Value => behind,
     }
@@ -81,11 +82,31 @@ fn ending(form: Form) -> &'static str
 {
     match form {
         Form::Statement => ";",
-        Form::Value => "",
+        Form::Standing | Form::Value => "",
     }
 }
 
-/// The text with a call in place of what is typed at a spot, up to an offset and behind it.
+// The text with a call in place of what is typed at a spot, up to an offset and behind it.
+fn replaced(
+    alloc: Global,
+    text: &[u8],
+    spot: Spot,
+    offset: usize,
+    attempt: &Attempt,
+) -> Result<Bytes, Memory>
+    requires dot { spot.dot < length text.now }
+    requires offset { offset ≤ length text.now }
+    ensures { IfOk result (λ b. b ≡ replaced text.now spot offset attempt.now) }
+{
+    let mut bytes = Bytes::of(alloc, &text[..spot.dot + 1])?;
+    bytes.extend(attempt.call.as_str().as_bytes())?;
+    bytes.extend(ending(attempt.form).as_bytes())?;
+    bytes.extend(behind_call(attempt.form, &text[offset..]))?;
+    Ok(bytes)
+}
+
+/// The text in which a call is tried at a spot, up to an offset and behind it: as it stands, or with the call in place of
+/// what is typed there.
 ///
 /// # Errors
 /// `Memory` only.
@@ -100,9 +121,9 @@ pub(crate) fn repaired(
     requires offset { offset ≤ length text.now }
     ensures { IfOk result (λ b. b ≡ repaired text.now spot offset attempt.now) }
 {
-    let mut bytes = Bytes::of(alloc, &text[..spot.dot + 1])?;
-    bytes.extend(attempt.call.as_str().as_bytes())?;
-    bytes.extend(ending(attempt.form).as_bytes())?;
-    bytes.extend(behind_call(attempt.form, &text[offset..]))?;
-    Ok(bytes)
+    match attempt.form {
+        Form::Standing => Bytes::of(alloc, text),
+        Form::Statement => replaced(alloc, text, spot, offset, attempt),
+        Form::Value => replaced(alloc, text, spot, offset, attempt),
+    }
 }

@@ -9,7 +9,7 @@ use Rattle.lsp_offers.specs.declared.attempts.Form.TheVariants as forms
 use Rattle.lsp_offers.specs.Spots.{spot_at}
 use Rattle.lsp_offers.specs.Repaired.{repaired}
 use Rattle.lsp_offers.specs.Calls.{signature, plain_call}
-use Rattle.lsp_offers.specs.Attempts.{attempts}
+use Rattle.lsp_offers.specs.Attempts.{standing, attempts}
 use Rattle.lsp_offers.specs.Items.{item_of, items_of}
 
 abbrev pub add : Method
@@ -49,6 +49,7 @@ pub record Rows : Type 0 where
   pub behind : repaired (codes "c.se\n}") front 4 statement ≡ codes "c.m();\n}"
   pub whole : repaired (codes "c.se(f(1), 2); }") front 3 statement ≡ codes "c.m(); }"
   pub nested : repaired (codes "c.se() else") front 2 statement ≡ codes "c.m(); else"
+  pub stands : repaired (codes "c.b(); }") front 3 standing ≡ codes "c.b(); }"
   pub condition : repaired (codes "c.se) {") front 4 value ≡ codes "c.m()) {"
   pub kept : repaired (codes "c.se(1); }") front 2 value ≡ codes "c.m(); }"
   pub signed : signature add ≡ codes "void add(int, String)"
@@ -56,11 +57,13 @@ pub record Rows : Type 0 where
   pub plain : plain_call bye ≡ codes "bye()"
   -- `bye` answers as `add` does, which comes before it
   pub tried : attempts (record { name = codes "T"; states = states } ∷ [])
-      ≡ record { form = forms.Statement; call = codes "add(0, \"\")" } ∷ record { form = forms.Value; call = codes "add(0, \"\")" }
+      ≡ standing
+      ∷ record { form = forms.Statement; call = codes "add(0, \"\")" } ∷ record { form = forms.Value; call = codes "add(0, \"\")" }
       ∷ record { form = forms.Statement; call = codes "total()" } ∷ record { form = forms.Value; call = codes "total()" } ∷ []
   -- what takes an enum is tried where nothing else has its result
   pub named : attempts (record { name = codes "T"; states = record { name = codes "A"; methods = set ∷ bye ∷ []; drops = false } ∷ [] } ∷ [])
-      ≡ record { form = forms.Statement; call = codes "bye()" } ∷ record { form = forms.Value; call = codes "bye()" } ∷ []
+      ≡ standing
+      ∷ record { form = forms.Statement; call = codes "bye()" } ∷ record { form = forms.Value; call = codes "bye()" } ∷ []
   pub one : items_of states (false ∷ false ∷ false ∷ true ∷ false ∷ []) ≡ item_of true add ∷ item_of true bye ∷ []
   pub both : items_of states (false ∷ false ∷ false ∷ true ∷ true ∷ [])
       ≡ item_of true bye ∷ item_of false add ∷ item_of false total ∷ []

@@ -12,6 +12,7 @@ returns c = record {
   behind = refl;
   whole = refl;
   nested = refl;
+  stands = refl;
   condition = refl;
   kept = refl;
   signed = refl;
