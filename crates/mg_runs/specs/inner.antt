@@ -1,2 +1,3 @@
 pub mod Loading
 pub mod Going
+pub mod Sent

@@ -1,10 +1,10 @@
 //! How many messages a run sent.
 
 ghost use Rattle.std.specs.Prelude.{◌≡◌};
-ghost use Rattle.vm_events.specs.Seen.{event_of};
-ghost use Rattle.mg_runs.specs.Runs.{is_send, messages_in};
+ghost use Rattle.mg_runs.specs.Runs.{messages_in};
+ghost use Rattle.mg_runs.specs.inner.Sent.{sends};
 
-use vm_events::{Events, SeenEvent};
+use vm_events::{Events, Kind};
 
 /// How many of these events send a message.
 pub(crate) fn messages_in(events: &Events) -> usize
@@ -12,24 +12,20 @@ pub(crate) fn messages_in(events: &Events) -> usize
 {
     let mut count = 0;
     for place in 0..events.len() {
-        if is_send(events.at(place).event) {
+        if is_send(events.kind_at(place)) {
             count += 1;
         }
     }
     count
 }
 
-// Whether a message is sent.
-fn is_send(event: SeenEvent<'_>) -> bool
-    ensures { result ≡ is_send (event_of event.entry) }
+// Whether events of a kind send a message.
+fn is_send(kind: Kind) -> bool
+    ensures { result ≡ sends kind }
 {
-    match event {
-        SeenEvent::Send { .. } => true,
-        SeenEvent::Print(_)
-        | SeenEvent::Made { .. }
-        | SeenEvent::Enter { .. }
-        | SeenEvent::Leave { .. }
-        | SeenEvent::Look { .. }
-        | SeenEvent::Take { .. } => false,
+    match kind {
+        Kind::Send => true,
+        Kind::Print | Kind::Made | Kind::Enter | Kind::Leave | Kind::Look => false,
+        Kind::Take => false,
     }
 }

@@ -1,3 +1,4 @@
 pub mod Kept
 pub mod Tabled
 pub mod Words
+pub mod Printing

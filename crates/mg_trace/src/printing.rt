@@ -1,13 +1,14 @@
 //! What a run prints.
 
-ghost use Rattle.std.specs.Prelude.{◌≡◌, ◌++◌, IfOk, OnOk};
+ghost use Rattle.std.specs.Prelude.{◌≡◌, ◌<◌, ◌++◌, length, slice_get, IfOk, OnOk, IsSomeAnd};
 ghost use Rattle.vm_events.specs.Seen.{event_of};
-ghost use Rattle.mg_trace.specs.Trace.{printed, printed_line};
+ghost use Rattle.mg_trace.specs.Trace.{name_at, printed, printed_line};
+ghost use Rattle.mg_trace.specs.inner.Printing.{is_print};
 
 use crate::names::role_name;
 use mg_text::{Bytes, Memory, Text};
 use std::alloc::Global;
-use vm_events::{Events, SeenEvent};
+use vm_events::{Events, Kind, SeenEvent};
 
 /// What a run prints: its printed texts in the order of the events, each with a line feed behind it,
 /// and, where `named`, with the name of its role and `: ` before it. `names` are those of the roles,
@@ -20,11 +21,38 @@ pub fn printed(alloc: Global, names: &[Text], named: bool, events: &Events) -> R
 {
     let mut bytes = Bytes::new(alloc);
     for place in 0..events.len() {
-        let seen = events.at(place);
-        let name = role_name(names, seen.role);
-        put_printed(name, named, seen.event, &mut bytes)?;
+        put_next(names, named, events, place, &mut bytes)?;
     }
     Ok(bytes)
+}
+
+// Whether events of a kind print a text.
+fn is_print(kind: Kind) -> bool
+    ensures { result ≡ is_print kind }
+{
+    match kind {
+        Kind::Print => true,
+        Kind::Made | Kind::Enter | Kind::Leave | Kind::Send | Kind::Look | Kind::Take => false,
+    }
+}
+
+// Appends the line that the event at a place prints. Only of one that prints is more read than its kind.
+fn put_next(
+    names: &[Text],
+    named: bool,
+    events: &Events,
+    place: usize,
+    bytes: &mut Bytes,
+) -> Result<(), Memory>
+    requires { place < length events.now.items }
+    ensures { OnOk result (IsSomeAnd (slice_get events.now.items place) (λ e. bytes.new ≡ bytes.old ++ printed_line named (name_at names.now e.role) e.event)) }
+{
+    if !is_print(events.kind_at(place)) {
+        return Ok(());
+    }
+    let seen = events.at(place);
+    let name = role_name(names, seen.role);
+    put_printed(name, named, seen.event, bytes)
 }
 
 // Appends the line that an event prints.

@@ -20,7 +20,8 @@ use Rattle.vm_events.specs.declared.note.Note.{Note}
 use Rattle.vm_events.specs.declared.tables.Tables.{Tables}
 use Rattle.vm_events.specs.inner.Kept.{text_at, carried_in, no_message, message_at, event_in, role_event_in, events_in}
 use Rattle.vm_events.specs.inner.Kept.{LoadIsThere, MessageIsThere, IsThere, AreThere}
-use Rattle.vm_events.specs.inner.Keeping.{Grows, HasNumber, HasLoad, Grow, HasMessage, IsLeft, Keeps}
+use Rattle.vm_events.specs.Seen.{Grows, IsNumbered}
+use Rattle.vm_events.specs.inner.Keeping.{HasNumber, HasLoad, Grow, HasMessage, IsLeft, Keeps}
 
 module _ {A : Type 0} where
   pub grows_both : (xs ys zs : List A) → Grows xs ys → Grows ys zs → Grows xs zs
@@ -53,6 +54,10 @@ module _ (ts us : List Name) (g : Grows ts us) where
 
   pub text_more : (n : ℕ) → n < length ts → text_at us n ≡ text_at ts n
   text_more n lt = grows_at ts us [] n g lt
+
+  -- a number stays that of its text
+  pub numbered_more : (n : ℕ) (text : Name) → IsNumbered ts n text → IsNumbered us n text
+  numbered_more n text h = record { there = omega (arith, h.there, more); says = text_more n h.there ∙ h.says }
 
   pub carried_more : (load : Load) → LoadIsThere (length ts) load → carried_in us load ≡ carried_in ts load
   carried_more loads.Nothing h = refl
@@ -114,6 +119,10 @@ texts_grow before after g same = record {
   named = λ h. subst (λ (r : Row Message). AllByRecursion (MessageIsThere (length after.texts.kept.items)) r.items) (sym same)
       (named_there before.texts.kept.items after.texts.kept.items g before.messages.items h);
 }
+
+-- nothing is kept
+pub grow_none : (tables : Tables) → Grow tables tables
+grow_none tables = texts_grow tables tables ([], sym (append-nil tables.texts.kept.items)) refl
 
 -- an event that names one text, or two
 module _ (before after : Tables) (event : Event) where
@@ -223,7 +232,7 @@ module _ (before after : Tables) (g : Grow before after) where
   abbrev NoteIsThere : (texts : List Name) → List Message → Note → Type 0
   NoteIsThere texts messages note = IsThere (length texts) (length messages) note.event
 
-  same_events : AllByRecursion (MessageIsThere (length old_texts)) old_messages → (notes : List Note) →
+  pub same_events : AllByRecursion (MessageIsThere (length old_texts)) old_messages → (notes : List Note) →
       AllByRecursion (NoteIsThere old_texts old_messages) notes →
       events_in new_texts new_messages notes ≡ events_in old_texts old_messages notes
   same_events named [] h = refl

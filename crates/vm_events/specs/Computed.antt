@@ -1,9 +1,12 @@
 -- A worked row: notes, the texts and messages that they number, and the events that they are.
-use Rattle.std.specs.Prelude.{◌≡◌, List, [], ◌∷◌, Some, None, pos, codes}
+use Rattle.std.specs.Prelude.{◌≡◌, List, [], ◌∷◌, Some, None, map, pos, codes}
 use Rattle.mg_text.specs.Call.{Name}
 use Rattle.mg_text.specs.declared.event.Carried.TheVariants as carried
 use Rattle.mg_text.specs.declared.event.Event.TheVariants as seen
 use Rattle.vm_world_law.specs.World.{of_role}
+use Rattle.vm_events.specs.Seen.{kind_of, numbered_event}
+use Rattle.vm_events.specs.declared.kind.Kind.TheVariants as kinds
+use Rattle.vm_events.specs.declared.numbered.Numbered.TheVariants as numbered
 use Rattle.vm_events.specs.declared.note.Load.TheVariants as loads
 use Rattle.vm_events.specs.declared.note.Message.{Message}
 use Rattle.vm_events.specs.declared.note.Short.TheVariants as shorts
@@ -38,3 +41,17 @@ IsWorked = events_in texts messages notes ≡
     ∷ of_role 0 (seen.Leave 0 (Some (pos 8)))
     ∷ of_role 1 (seen.Leave 3 None)
     ∷ []
+
+-- numbered events over the same texts, and what they are
+abbrev pub IsNumberedAlike : Type 0
+IsNumberedAlike =
+    map (numbered_event texts) (numbered.Enter 0 1 ∷ numbered.Leave 0 (Some (pos 8)) ∷ numbered.Leave 3 None ∷ []) ≡
+    seen.Enter 0 (codes "next")
+    ∷ seen.Leave 0 (Some (pos 8))
+    ∷ seen.Leave 3 None
+    ∷ []
+
+-- what the row tells of
+abbrev pub AreKinds : Type 0
+AreKinds = map (λ e. kind_of e.event) (events_in texts messages notes) ≡
+    kinds.Made ∷ kinds.Enter ∷ kinds.Send ∷ kinds.Look ∷ kinds.Take ∷ kinds.Leave ∷ kinds.Leave ∷ []

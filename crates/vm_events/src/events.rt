@@ -1,10 +1,13 @@
 //! The events of all roles of a run, in their order.
 
-ghost use Rattle.std.specs.Prelude.{◌≡◌, ◌<◌, ◌≤◌, ◌^◌, ◌+◌, ◌++◌, ◌∷◌, [], Some, length, slice_get, IfOk, OnOk};
+ghost use Rattle.std.specs.Prelude.{◌≡◌, ◌<◌, ◌≤◌, ◌^◌, ◌+◌, ◌++◌, ◌∷◌, [], Some, length, slice_get, option_map, IfOk, OnOk};
+ghost use Rattle.std.specs.Prelude.{OnErr};
 ghost use Rattle.vm_world_law.specs.World.{of_role};
-ghost use Rattle.vm_events.specs.Seen.{role_event_of};
+ghost use Rattle.vm_events.specs.Seen.{role_event_of, kind_of, Grows, IsNumbered, IsNamed, numbered_event};
 
+use crate::kind::{Kind, kind_of};
 use crate::note::Note;
+use crate::numbered::{Numbered, short_of};
 use crate::seen::Noted;
 use crate::tables::Tables;
 use mg_text::{Event, List, Memory};
@@ -12,7 +15,8 @@ use std::alloc::Global;
 use std::marker::Model;
 
 /// The events of all roles of a run, in their order, at most 2^32 - 1 of them. Contracts see the
-/// list, and beside it `spare`: how many more fit with no need of memory.
+/// list, beside it `spare`: how many more fit with no need of memory, and `texts`: the texts that are
+/// kept, which events may name by their numbers.
 pub struct Events {
     notes: List<Note>,
     tables: Tables,
@@ -29,10 +33,9 @@ impl Drop for Events {
 }
 
 impl Model for Events {
-    ghost use Rattle.mg_text.specs.Row.{Row};
-    ghost use Rattle.vm_world_law.specs.declared.role.RoleEvent.{RoleEvent};
+    ghost use Rattle.vm_events.specs.Seen.{Kept};
 
-    ghost Value = { Row RoleEvent };
+    ghost Value = { Kept };
 
     ghost use Rattle.vm_events.specs.inner.View.{view_of, IsKept};
 
@@ -42,12 +45,13 @@ impl Model for Events {
 }
 
 impl Events {
-    /// No events.
+    /// No events, and no texts.
     ///
     /// # Errors
     /// `Memory` only.
     pub fn new(alloc: Global) -> Result<Events, Memory>
-        ensures { IfOk result (λ e. e.items ≡ []) }
+        ensures items { IfOk result (λ e. e.items ≡ []) }
+        ensures texts { IfOk result (λ e. e.texts ≡ []) }
     {
         let tables = Tables::new(alloc)?;
         Ok(Events {
@@ -59,9 +63,10 @@ impl Events {
     /// Makes room for one event more, whatever it is.
     ///
     /// # Errors
-    /// `Memory` only, and past 2^32 - 1 events. The events stay as they are.
+    /// `Memory` only, and past 2^32 - 1 events. The events and texts stay as they are.
     pub fn reserve(&mut self) -> Result<(), Memory>
         ensures items { self.new.items ≡ self.old.items }
+        ensures texts { self.new.texts ≡ self.old.texts }
         ensures ok { OnOk result (0 < self.new.spare) }
         ensures never_lowered { self.old.spare ≤ self.new.spare }
     {
@@ -73,10 +78,40 @@ impl Events {
     pub fn add(&mut self, alloc: Global, role: u32, mut event: Event)
         requires { 0 < self.old.spare }
         ensures items { self.new.items ≡ self.old.items ++ of_role role event ∷ [] }
+        ensures texts { Grows self.old.texts self.new.texts }
         ensures spare { self.old.spare ≤ self.new.spare + 1 }
     {
         let event = self.tables.keep(alloc, &mut event);
         self.notes.add(Note { role, event });
+    }
+
+    /// The number of a text: of one that was kept lately, or of a copy that is kept anew. It stays
+    /// the text of this number. Room for an event isn't lost by it.
+    ///
+    /// # Errors
+    /// `Memory` only, and past 2^32 - 1 texts. The texts stay as they are.
+    pub fn number_of(&mut self, alloc: Global, text: &str) -> Result<u32, Memory>
+        ensures items { self.new.items ≡ self.old.items }
+        ensures texts { Grows self.old.texts self.new.texts }
+        ensures number { IfOk result (λ n. IsNumbered self.new.texts n text.now) }
+        ensures err { OnErr result (self.new.texts ≡ self.old.texts) }
+        ensures room { 0 < self.old.spare → 0 < self.new.spare }
+    {
+        self.tables.texts.number_of_copy(alloc, text)
+    }
+
+    /// Appends an event of a role whose names and texts are kept, for which there is room.
+    pub fn note(&mut self, role: u32, event: Numbered)
+        requires room { 0 < self.old.spare }
+        requires named { IsNamed (length self.old.texts) event }
+        ensures items { self.new.items ≡ self.old.items ++ of_role role (numbered_event self.old.texts event) ∷ [] }
+        ensures texts { self.new.texts ≡ self.old.texts }
+        ensures spare { self.old.spare ≤ self.new.spare + 1 }
+    {
+        self.notes.add(Note {
+            role,
+            event: short_of(event),
+        });
     }
 
     /// How many events there are.
@@ -85,6 +120,14 @@ impl Events {
         ensures bound { result < 2 ^ 32 }
     {
         self.notes.len()
+    }
+
+    /// The kind of the event at a place. No text is looked up.
+    pub fn kind_at(&self, place: usize) -> Kind
+        requires { place < length self.now.items }
+        ensures { Some result ≡ option_map (λ e. kind_of e.event) (slice_get self.now.items place) }
+    {
+        kind_of(self.notes.as_slice()[place].event)
     }
 
     /// The event at a place, with its role.

@@ -12,8 +12,8 @@ const NOTHING: u32 = 0xffff_ffff;
 /// How many places there are.
 const PLACES: usize = 256;
 
-/// How many bytes at each end of a text tell its place.
-const ENDS: usize = 8;
+/// How many bytes of a text tell its place.
+const SAMPLES: usize = 16;
 
 /// The numbers of the two texts of a place that were kept last.
 #[derive(Clone, Copy)]
@@ -28,21 +28,19 @@ pub(crate) struct Guesses {
     places: Vec<Guess>,
 }
 
-/// A number that these bytes and the number before them come to.
-fn mixed(before: usize, bytes: &[u8]) -> usize {
-    let mut number = before;
-    for byte in bytes {
-        number = number.wrapping_mul(31).wrapping_add(usize::from(*byte));
-    }
-    number
-}
-
-/// The place of a text, by its length and the bytes at its ends.
+/// The place of a text, by its length and by bytes that are spread over it from its end.
 pub(crate) fn place_of(text: &str) -> usize {
     let bytes = text.as_bytes();
-    let end = bytes.len().min(ENDS);
-    let front = mixed(bytes.len(), &bytes[..end]);
-    mixed(front, &bytes[bytes.len() - end..]) % PLACES
+    let mut number = bytes.len();
+    for sample in 1..=SAMPLES {
+        let end = bytes.len().wrapping_mul(sample) / SAMPLES;
+        let byte = match bytes.get(end.wrapping_sub(1)) {
+            Some(byte) => *byte,
+            None => 0,
+        };
+        number = number.wrapping_mul(31).wrapping_add(usize::from(byte));
+    }
+    number % PLACES
 }
 
 impl Guesses {

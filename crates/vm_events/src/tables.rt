@@ -3,32 +3,20 @@
 ghost use Rattle.std.specs.Prelude.{◌≡◌, ◌<◌, ◌≤◌, ◌+◌, [], IfOk, OnOk};
 ghost use Rattle.vm_events.specs.Seen.{carried_of, event_of};
 ghost use Rattle.vm_events.specs.inner.Kept.{carried_in, message_at, event_in};
-ghost use Rattle.vm_events.specs.inner.Keeping.{HasLoad, HasMessage, IsLeft, Keeps};
+ghost use Rattle.vm_events.specs.inner.Keeping.{HasLoad, HasMessage, Keeps};
 
 use crate::note::{Load, Message, Short};
+use crate::numbered::left;
 use crate::seen::{SeenCarried, SeenEvent};
-use crate::texts::Texts;
+use crate::texts::{TEXTS, Texts};
 use mg_text::{Carried, Event, List, Memory, Text};
 use std::alloc::Global;
-
-/// How many texts an event has at most: a peer's name, a label and a payload.
-const TEXTS: usize = 3;
 
 /// Texts and messages by their numbers.
 #[derive(Drop)]
 pub(crate) struct Tables {
     pub texts: Texts,
     pub messages: List<Message>,
-}
-
-/// That a method is left.
-fn left(object: u32, answer: Option<i32>) -> Short
-    ensures { IsLeft result object answer }
-{
-    match answer {
-        Some(answer) => Short::Answered { object, answer },
-        None => Short::Left(object),
-    }
 }
 
 impl Tables {

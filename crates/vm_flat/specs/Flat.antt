@@ -4,6 +4,7 @@ use Rattle.std.specs.List.{AllZip}
 use Rattle.vm_model.specs.declared.value.Value.TheVariants as values
 use Rattle.vm_model.specs.Program.{Program, Instr, MethodOf, ClassOf}
 use Rattle.vm_model.specs.Types.{signature_of}
+use Rattle.vm_model.specs.declared.linked.Built.TheVariants as builts
 use Rattle.vm_model.specs.Tests.{params_in}
 use Rattle.vm_model.specs.Actions.{Action, action}
 use Rattle.vm_model.specs.Actions as model
@@ -51,6 +52,8 @@ action_of_flat (flats.Read class field) = Some (model.Read class field)
 action_of_flat (flats.Write class field) = Some (model.Write class field)
 action_of_flat (flats.CallStatic class method) = Some (model.Call model.Static class method)
 action_of_flat (flats.CallSilent class method) = Some (model.Call model.Silent class method)
+action_of_flat (flats.CallTelling class method) = Some (model.Call model.Telling class method)
+action_of_flat flats.Out = Some (model.Use builts.Out)
 action_of_flat flats.Other = None
 
 -- what a flat instruction is known to do is what the instruction does

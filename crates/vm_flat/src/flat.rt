@@ -1,9 +1,9 @@
-//! Instructions that act on their frame, on fields and by calls of which no object tells, in eight bytes each.
+//! Instructions that act on their frame, on fields and by calls, in eight bytes each.
 
 use std::mem::size_of;
 use vm_actions::Sort;
 
-/// An instruction that acts on its frame, on a field or by a call of which no object tells; or another one.
+/// An instruction that acts on its frame, on a field or by a call; or another one.
 /// Numbers of instructions, fields and methods are as in the linked program, and so are those of classes that fit 16 bits.
 #[derive(Clone, Copy)]
 pub enum Flat {
@@ -48,6 +48,10 @@ pub enum Flat {
     Write { class: u16, field: u32 },
     CallStatic { class: u16, method: u32 },
     CallSilent { class: u16, method: u32 },
+    /// A call of which the object tells.
+    CallTelling { class: u16, method: u32 },
+    /// Pushes the print stream.
+    Out,
     /// Anything else.
     Other,
 }

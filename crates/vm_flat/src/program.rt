@@ -128,7 +128,8 @@ fn method_in(class: &FlatClass, method: u32) -> Option<&FlatMethod>
 /// The method of these numbers, where there is one.
 #[inline(always)]
 pub fn method_at(flat: &FlatProgram, class: u32, method: u32) -> Option<&FlatMethod>
-    ensures { (p : Program) → IsFlatOf flat.now p → StandsFor (option_map (λ f. f.now) result) (model.method_at p class method) }
+    ensures stands { (p : Program) → IsFlatOf flat.now p → StandsFor (option_map (λ f. f.now) result) (model.method_at p class method) }
+    ensures value { option_map (λ f. f.now) result ≡ flat_method_at flat.now class method }
 {
     match class_at(flat, class) {
         Some(class) => method_in(class, method),

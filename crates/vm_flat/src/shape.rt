@@ -8,7 +8,7 @@ ghost use Rattle.vm_flat.specs.Flat.{action_of_flat, IsFlatInstr};
 
 use crate::flat::Flat;
 use vm_actions::{Action, Calling, Comparison, Constant, Operation, Plain, Sort, action_of};
-use vm_model::LinkedInstr;
+use vm_model::{Built, LinkedInstr};
 
 /// Pushes a value that stands in the code.
 fn flat_push(constant: Constant<'_>) -> Flat
@@ -131,7 +131,7 @@ fn flat_write(class: u32, field: u32) -> Flat
     }
 }
 
-/// Calls a method. One of which an object tells has no such form.
+/// Calls a method.
 fn flat_call(calling: Calling, class: u32, method: u32) -> Flat
     ensures { IfSome (action_of_flat result) (λ a. a ≡ model.Call (calling_of calling) class method) }
 {
@@ -142,7 +142,17 @@ fn flat_call(calling: Calling, class: u32, method: u32) -> Flat
     match calling {
         Calling::Static => Flat::CallStatic { class, method },
         Calling::Silent => Flat::CallSilent { class, method },
-        Calling::Telling => Flat::Other,
+        Calling::Telling => Flat::CallTelling { class, method },
+    }
+}
+
+/// Uses a member of a built-in class.
+fn flat_use(built: Built) -> Flat
+    ensures { IfSome (action_of_flat result) (λ a. a ≡ model.Use built) }
+{
+    match built {
+        Built::Out => Flat::Out,
+        _ => Flat::Other,
     }
 }
 
@@ -160,7 +170,8 @@ fn flat_of(action: Action<'_>) -> Flat
             class,
             method,
         } => flat_call(calling, class, method),
-        Action::Make(_) | Action::Use(_) => Flat::Other,
+        Action::Use(built) => flat_use(built),
+        Action::Make(_) => Flat::Other,
     }
 }
 

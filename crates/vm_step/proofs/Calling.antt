@@ -1,14 +1,17 @@
 -- Frames that begin and end, and objects that are there.
 use Rattle.std.proofs.Common.{◌≡◌, ℕ, ◌-◌, ◌≤◌, List, [], ◌∷◌, ◌++◌, length, map, replicate, Option, Some, None, refl, sym, ap, ◌∙◌}
-use Rattle.std.proofs.Common.{arith, length-drop}
+use Rattle.std.proofs.Common.{arith, length-drop, Bor}
 use Rattle.std.specs.Option.{option_map}
 use Rattle.mg_text.specs.declared.event.Event.{Event}
 use Rattle.mg_text.specs.declared.event.Ending.TheVariants as endings
 use Rattle.vm_model.specs.declared.value.Value.{Value}
+use Rattle.vm_model.specs.declared.linked.LinkedMethod.{LinkedMethod}
+use Rattle.vm_model.specs.View.{method_of}
+use Rattle.vm_model.specs.Types.{signature_of}
 use Rattle.vm_model.specs.Program.{Program, method_at}
 use Rattle.vm_model.specs.Messages.{Messages}
 use Rattle.vm_model.specs.Machine.{Machine, Frame, Object, Went, Stops}
-use Rattle.vm_model.specs.Tests.{below, on_top, max_locals_in}
+use Rattle.vm_model.specs.Tests.{below, on_top, max_locals_in, params_in, descriptor_in}
 use Rattle.vm_model.specs.Step as model
 use Rattle.vm_frames.specs.Frames.{entered, left_to}
 
@@ -46,3 +49,7 @@ ends_is q m vs frames e = ap (model.returns q m vs) e
 pub has_object : (found : Option Object) (class : ℕ) → Some class ≡ option_map (λ o. o.class) found → (o : Object) × (found ≡ Some o)
 has_object None class e = absurd (cc e)
 has_object (Some o) class e = (o, refl)
+
+-- how many parameters a method has
+abbrev pub params_taken : Option (Bor LinkedMethod) → ℕ
+params_taken method = length (params_in (signature_of (descriptor_in (option_map (λ m. method_of m.now) method))))

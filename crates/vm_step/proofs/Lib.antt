@@ -12,3 +12,4 @@ pub mod Quietly
 pub mod Waiting
 pub mod Awaited
 pub mod Alike
+pub mod Rightly

@@ -8,7 +8,7 @@ ghost use Rattle.vm_model.specs.Types.{signature_of};
 ghost use Rattle.vm_model.specs.Kept.{type_kept};
 ghost use Rattle.vm_model.specs.Actions.{Call};
 ghost use Rattle.vm_model.specs.Tests.{below, on_top, max_locals_in, Typed, params_in, descriptor_in, name_of_method, receiver, call_takes};
-ghost use Rattle.vm_model.specs.Tests.{call_needs};
+ghost use Rattle.vm_model.specs.Tests.{call_needs, needs, wrong};
 ghost use Rattle.vm_model.specs.Step as model;
 ghost use Rattle.vm_session.specs.State.{state_of, operands_of};
 ghost use Rattle.vm_actions.specs.Table.{calling_of};
@@ -234,6 +234,55 @@ pub(crate) fn call(
         class,
         method,
         taken: takes.len(),
+        told: None,
+    };
+    call_tested(state, alloc, linked, calling, callee)
+}
+
+/// How many parameters a method has.
+fn params(method: Option<&LinkedMethod>) -> usize
+    ensures value { result ≡ length (params_in (signature_of (descriptor_in (option_map (λ m. method_of m.now) method.entry)))) }
+    ensures bound { result < 2 ^ 32 }
+{
+    match method {
+        Some(method) => method.params.len(),
+        None => 0,
+    }
+}
+
+/// How many operands a call takes: its arguments, and the object under them where it has one.
+fn taken(linked: &Linked, calling: Calling, class: u32, method: u32) -> usize
+    ensures count { result ≡ length (call_takes linked.now (calling_of calling) class (method_at linked.now class method)) }
+    ensures receiver { IsReceived (calling_of calling) result }
+{
+    let params = params(method_at(linked, class, method));
+    match calling {
+        Calling::Telling | Calling::Silent => params + 1,
+        Calling::Static => params,
+    }
+}
+
+/// Calls a method where nothing is wrong with that.
+pub(crate) fn call_right(
+    state: &mut State,
+    alloc: Global,
+    linked: &Linked,
+    calling: Calling,
+    class: u32,
+    method: u32,
+) -> Result<Stepped, Memory>
+    requires place { state.old.machine.frame.place < 2 ^ 32 - 1 }
+    requires right { wrong linked.now (needs linked.now (state_of state.old)
+        (Call (calling_of calling) class method)) (state_of state.old) ≡ None }
+    ensures ok { IfOk result (λ s. (me : ℕ) → Plays (λ q. model.act linked.now q (state_of state.old) me
+        (Call (calling_of calling) class method)) (state_of state.old) (state_of state.new) s) }
+    ensures err { OnErr result (state_of state.new ≡ state_of state.old) }
+{
+    let taken = taken(linked, calling, class, method);
+    let callee = Called {
+        class,
+        method,
+        taken,
         told: None,
     };
     call_tested(state, alloc, linked, calling, callee)

@@ -13,9 +13,11 @@ mod program;
 mod quiet;
 mod returns;
 mod step;
+mod step_typed;
 mod typed;
 mod waits;
 
 pub use machine::{Machine, has_main};
 pub use vm_frames::Cell;
 pub use vm_session::Stepped;
+pub use vm_typed::Telling;

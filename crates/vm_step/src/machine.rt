@@ -17,10 +17,12 @@ ghost use Rattle.cls_verify.specs.Typing.{AllTypable};
 ghost use Rattle.cls_verify.specs.Sound.{Sound};
 ghost use Rattle.vm_step.specs.Steady.{is_steady, next_action};
 ghost use Rattle.vm_frames.specs.Lying.{AllLie};
+ghost use Rattle.vm_typed.specs.Telling.{StepTells};
 
 use crate::program::{class_at, max_locals, method_at};
 use crate::quiet::steps_alone;
 use crate::step::take_step;
+use crate::step_typed::take_typed_step;
 use crate::typed::steps_typed;
 use crate::waits::waits;
 use mg_text::{List, Memory, Text};
@@ -31,6 +33,7 @@ use vm_flat::FlatProgram;
 use vm_frames::{Cell, State};
 use vm_model::{Linked, LinkedClass, LinkedMethod, Ports};
 use vm_session::Stepped;
+use vm_typed::{Telling, tell};
 
 /// A machine that runs a linked program. Contracts see its frames and its objects.
 pub struct Machine {
@@ -185,6 +188,17 @@ impl Machine {
         steps_typed(&mut self.state, linked, flat, most)
     }
 
+    /// Takes the next step of a typable program where it begins a protocol method of an object or leaves one, and answers what it
+    /// tells. It takes no memory: a null object, want of room and everything else change nothing, and are left to `step`.
+    pub fn tell(&mut self, linked: &Linked, flat: &FlatProgram) -> Option<Telling>
+        requires typable { AllTypable linked.now }
+        requires flat { IsFlatOf flat.now linked.now }
+        requires sound { Sound linked.now self.old.machine }
+        ensures { StepTells linked.now self.old.machine self.new.machine result }
+    {
+        tell(&mut self.state, linked, flat)
+    }
+
     /// Takes a step of the role `me`: the next instruction's tests in their order, and then what it
     /// does (JVMS chapter 6). A step that waits, or that ends the run, changes neither the machine
     /// nor the messages; so a mismatch takes none.
@@ -207,6 +221,29 @@ impl Machine {
         ensures steady { OnErr result (is_steady (next_action linked.now self.old.machine) ≡ false) }
     {
         take_step(&mut self.state, alloc, linked, ports, me)
+    }
+
+    /// Takes a step as `step` does, of a machine that fits the typings of its program: calls, returns, makings and members of built-in
+    /// classes aren't tested again.
+    ///
+    /// # Errors
+    /// `Memory` only, and then neither the machine nor the messages have changed.
+    pub fn step_typed(
+        &mut self,
+        alloc: Global,
+        linked: &Linked,
+        ports: &mut Ports,
+        me: u32,
+    ) -> Result<Stepped, Memory>
+        requires typable { AllTypable linked.now }
+        requires sound { Sound linked.now self.old.machine }
+        ensures ok { IfOk result (λ s. Does (model.step linked.now me self.old.machine ports.old)
+            self.old.machine ports.old self.new.machine ports.new s) }
+        ensures err { OnErr result (self.new.machine ≡ self.old.machine) }
+        ensures err_ports { OnErr result (ports.new ≡ ports.old) }
+        ensures steady { OnErr result (is_steady (next_action linked.now self.old.machine) ≡ false) }
+    {
+        take_typed_step(&mut self.state, alloc, linked, ports, me)
     }
 
     /// The role for whose message the next instruction waits: exactly where a step would wait for

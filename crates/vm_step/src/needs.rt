@@ -275,3 +275,11 @@ pub(crate) fn taking<'a>(
         max_stack: max_stack(method_at(linked, state.class(), state.method())),
     }
 }
+
+/// A method has at most `most` operands. The function carries a law; its body does nothing else.
+#[inline(always)]
+pub(crate) fn bound_room(linked: &Linked, state: &State)
+    ensures { model.max_stack_in (model.method_of_frame linked.now (state_of state.now).frame) ≤ most }
+{
+    let _room = max_stack(method_at(linked, state.class(), state.method()));
+}

@@ -20,6 +20,7 @@ use vm_actions::Sort;
 use vm_frames::{Cell, State};
 use vm_model::{FieldType, Linked};
 use vm_session::Stepped;
+use vm_typed::answer_of;
 
 /// Whether a return is of the kind that the descriptor says.
 fn is_sort(sort: Option<Sort>, answer: Option<FieldType<'_>>) -> bool
@@ -101,16 +102,6 @@ fn check(
     }
 }
 
-/// What a protocol method that is left answers.
-fn answer_of(value: Option<Cell>) -> Option<i32>
-    ensures { (texts : List Name) → result ≡ model.answer_of (option_to_list (option_map (value_in texts) value)) }
-{
-    match value {
-        Some(Cell::Int(x)) => Some(x),
-        _ => None,
-    }
-}
-
 /// The event of a method that is left, where it tells.
 fn left(told: Option<u32>, value: Option<Cell>) -> Option<Event>
     ensures { (texts : List Name) → result ≡ model.left told (option_to_list (option_map (value_in texts) value)) }
@@ -138,6 +129,24 @@ fn leave(state: &mut State, value: Option<Cell>) -> Stepped
     }
 }
 
+/// Returns where nothing is wrong with that, with a value of this sort or none.
+#[inline(always)]
+pub(crate) fn return_right(state: &mut State, linked: &Linked, sort: Option<Sort>) -> Stepped
+    requires { tests.wrong linked.now (tests.needs linked.now (state_of state.old)
+        (actions.Return (option_map sort_of sort))) (state_of state.old) ≡ None }
+    ensures { (me : ℕ) → Plays (λ q. model.act linked.now q (state_of state.old) me
+        (actions.Return (option_map sort_of sort))) (state_of state.old) (state_of state.new) result }
+{
+    let _program = linked;
+    match sort {
+        None => leave(state, None),
+        Some(_sort) => {
+            let value = state.operand(0);
+            leave(state, Some(value))
+        }
+    }
+}
+
 /// Returns, with a value of this sort or none.
 pub(crate) fn return_from(state: &mut State, linked: &Linked, sort: Option<Sort>) -> Stepped
     ensures { (me : ℕ) → Plays (λ q. model.act linked.now q (state_of state.old) me
@@ -148,11 +157,5 @@ pub(crate) fn return_from(state: &mut State, linked: &Linked, sort: Option<Sort>
     if let Some(kind) = check(linked, state, sort, answer) {
         return Stepped::Ended(Ending::Bad(kind));
     }
-    match sort {
-        None => leave(state, None),
-        Some(_sort) => {
-            let value = state.operand(0);
-            leave(state, Some(value))
-        }
-    }
+    return_right(state, linked, sort)
 }

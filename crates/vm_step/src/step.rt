@@ -2,7 +2,7 @@
 //! Nothing changes where memory is wanting or a message is.
 
 ghost use Rattle.std.specs.Prelude.{◌≡◌, true, false, ℕ, ◌+◌, ◌<◌, ◌≤◌, ◌-◌, ◌^◌, option_map, slice_get, Some, IfOk, OnErr, OnSome};
-ghost use Rattle.std.specs.Prelude.{[]};
+ghost use Rattle.std.specs.Prelude.{[], None};
 ghost use Rattle.vm_model.specs.Program as program;
 ghost use Rattle.vm_model.specs.View.{field_of, instr_of};
 ghost use Rattle.vm_model.specs.Actions as actions;
@@ -19,7 +19,7 @@ ghost use Rattle.vm_step.specs.Doing.{Plays};
 
 use crate::built::{concat, equals, init, print, push_out, show_int, show_truth};
 use crate::calls::call;
-use crate::needs::{NUMBER, TEXT, Want, taking, wrong};
+use crate::needs::{NUMBER, TEXT, Want, bound_room, taking, wrong};
 use crate::objects::{make, read, write};
 use crate::plain::{
     compute, double, increase, jump, jump_on_both, jump_on_null, jump_on_zero, load, negate, pop,
@@ -101,7 +101,11 @@ fn check_plain(linked: &Linked, state: &State, plain: Plain<'_>) -> Option<BadKi
 }
 
 /// Acts on an instruction that stays in its frame.
-fn act_plain(state: &mut State, linked: &Linked, plain: Plain<'_>) -> Result<Stepped, Memory>
+pub(crate) fn act_plain(
+    state: &mut State,
+    linked: &Linked,
+    plain: Plain<'_>,
+) -> Result<Stepped, Memory>
     requires { state.old.machine.frame.place < 2 ^ 32 - 1 }
     ensures ok { IfOk result (λ s. (me : ℕ) → Plays (λ q. model.act linked.now q (state_of state.old) me
         (plain_of plain.entry)) (state_of state.old) (state_of state.new) s) }
@@ -141,7 +145,12 @@ fn object<'a>(linked: &'a Linked, class: u32) -> Want<'a>
 }
 
 /// Reads a field.
-fn act_read(state: &mut State, linked: &Linked, class: u32, field: u32) -> Result<Stepped, Memory>
+pub(crate) fn act_read(
+    state: &mut State,
+    linked: &Linked,
+    class: u32,
+    field: u32,
+) -> Result<Stepped, Memory>
     requires { state.old.machine.frame.place < 2 ^ 32 - 1 }
     ensures ok { IfOk result (λ s. (me : ℕ) → Plays (λ q. model.act linked.now q (state_of state.old) me
         (actions.Read class field)) (state_of state.old) (state_of state.new) s) }
@@ -169,7 +178,12 @@ pub(crate) fn field_want<'a>(field: Option<&'a LinkedField>) -> Want<'a>
 }
 
 /// Writes a field.
-fn act_write(state: &mut State, linked: &Linked, class: u32, field: u32) -> Result<Stepped, Memory>
+pub(crate) fn act_write(
+    state: &mut State,
+    linked: &Linked,
+    class: u32,
+    field: u32,
+) -> Result<Stepped, Memory>
     requires { state.old.machine.frame.place < 2 ^ 32 - 1 }
     ensures ok { IfOk result (λ s. (me : ℕ) → Plays (λ q. model.act linked.now q (state_of state.old) me
         (actions.Write class field)) (state_of state.old) (state_of state.new) s) }
@@ -231,6 +245,47 @@ pub(crate) fn check_built(linked: &Linked, state: &State, built: Built) -> Optio
     }
 }
 
+/// Uses a member of a built-in class with which nothing is wrong.
+pub(crate) fn use_built(
+    state: &mut State,
+    alloc: Global,
+    linked: &Linked,
+    ports: &mut Ports,
+    me: u32,
+    built: Built,
+) -> Result<Stepped, Memory>
+    requires place { state.old.machine.frame.place < 2 ^ 32 - 1 }
+    requires right { tests.wrong linked.now (tests.needs linked.now (state_of state.old)
+        (actions.Use built)) (state_of state.old) ≡ None }
+    ensures ok { IfOk result (λ s. Does (model.act linked.now ports.old (state_of state.old) me
+        (actions.Use built)) (state_of state.old) ports.old (state_of state.new) ports.new s) }
+    ensures err { OnErr result (state_of state.new ≡ state_of state.old) }
+    ensures err_ports { OnErr result (ports.new ≡ ports.old) }
+{
+    match built {
+        Built::Init => Ok(init(state)),
+        Built::Concat => concat(state, alloc),
+        Built::Equals => Ok(equals(state)),
+        Built::ValueOfInt => show_int(state, alloc),
+        Built::ValueOfTruth => show_truth(state, alloc),
+        Built::Out => {
+            bound_room(linked, state);
+            Ok(push_out(state))
+        }
+        Built::Println => print(state, alloc),
+        Built::Send => send(state, ports, me, Payload::Nothing),
+        Built::SendInt => send(state, ports, me, Payload::Int),
+        Built::SendTruth => send(state, ports, me, Payload::Truth),
+        Built::SendText => send(state, ports, me, Payload::Text),
+        Built::Look => look(state, ports, me),
+        Built::Take => take(state, ports, me, Payload::Nothing),
+        Built::TakeInt => take(state, ports, me, Payload::Int),
+        Built::TakeTruth => take(state, ports, me, Payload::Truth),
+        Built::TakeText => take(state, ports, me, Payload::Text),
+        Built::Refuse => refuse(state, ports, me),
+    }
+}
+
 /// Uses a member of a built-in class.
 fn act_built(
     state: &mut State,
@@ -249,25 +304,7 @@ fn act_built(
     if let Some(kind) = check_built(linked, state, built) {
         return Ok(Stepped::Ended(Ending::Bad(kind)));
     }
-    match built {
-        Built::Init => Ok(init(state)),
-        Built::Concat => concat(state, alloc),
-        Built::Equals => Ok(equals(state)),
-        Built::ValueOfInt => show_int(state, alloc),
-        Built::ValueOfTruth => show_truth(state, alloc),
-        Built::Out => Ok(push_out(state)),
-        Built::Println => print(state, alloc),
-        Built::Send => send(state, ports, me, Payload::Nothing),
-        Built::SendInt => send(state, ports, me, Payload::Int),
-        Built::SendTruth => send(state, ports, me, Payload::Truth),
-        Built::SendText => send(state, ports, me, Payload::Text),
-        Built::Look => look(state, ports, me),
-        Built::Take => take(state, ports, me, Payload::Nothing),
-        Built::TakeInt => take(state, ports, me, Payload::Int),
-        Built::TakeTruth => take(state, ports, me, Payload::Truth),
-        Built::TakeText => take(state, ports, me, Payload::Text),
-        Built::Refuse => refuse(state, ports, me),
-    }
+    use_built(state, alloc, linked, ports, me, built)
 }
 
 /// Acts on an instruction.

@@ -11,9 +11,10 @@ use crate::quiet::steps_alone;
 use vm_flat::FlatProgram;
 use vm_frames::State;
 use vm_model::Linked;
+use vm_typed::next_has_form;
 
-/// Takes steps that look at no message and tell nothing, at most so many, and answers how many they were. Where the flat code doesn't
-/// go on, one step is taken with the tests, and where that isn't taken either, it ends.
+/// Takes steps that look at no message and tell nothing, at most so many, and answers how many they were. Where the next instruction
+/// has no flat form, one step is taken with the tests; where it has one, or that isn't taken either, it ends.
 pub(crate) fn steps_typed(state: &mut State, linked: &Linked, flat: &FlatProgram, most: u32) -> u32
     requires typable { AllTypable linked.now }
     requires flat { IsFlatOf flat.now linked.now }
@@ -25,7 +26,7 @@ pub(crate) fn steps_typed(state: &mut State, linked: &Linked, flat: &FlatProgram
     let mut taken = 0;
     while taken < most {
         taken += vm_typed::steps_typed(state, linked, flat, most - taken);
-        if taken == most {
+        if taken == most || next_has_form(state, flat) {
             break;
         }
         if steps_alone(state, linked, 1) == 0 {

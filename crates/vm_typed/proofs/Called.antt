@@ -1,18 +1,20 @@
 -- Calls and returns: what is known of the frames and of what is called, and that the step is taken.
-use Rattle.std.proofs.Common.{◌≡◌, ℕ, ◌+◌, ◌-◌, ◌<◌, ◌≤◌, ◌^◌, true, false, Bool, List, [], ◌∷◌, ◌++◌, length, map, replicate}
+use Rattle.std.proofs.Common.{◌≡◌, ℕ, ℤ, ◌+◌, ◌-◌, ◌<◌, ◌≤◌, ◌^◌, true, false, Bool, List, [], ◌∷◌, ◌++◌, length, map, replicate}
 use Rattle.std.proofs.Common.{IsSome}
 use Rattle.std.proofs.Common.{Option, Some, None, refl, sym, ap, ◌∙◌, subst, arith, length-drop}
 use Rattle.std.proofs.lemmas.List.{length-map}
 use Rattle.std.specs.Bool.{OnTrue, OnFalse}
+use Rattle.mg_text.specs.declared.event.Event.{Event}
+use Rattle.mg_text.specs.declared.event.Event.TheVariants as seen
 use Rattle.vm_model.specs.declared.value.Value.{Value}
 use Rattle.vm_model.specs.declared.value.Value.TheVariants as values
 use Rattle.vm_model.specs.Program.{Program, MethodOf, method_at}
 use Rattle.vm_model.specs.Messages.{Messages}
 use Rattle.vm_model.specs.Machine.{Machine, Frame, Went}
 use Rattle.vm_model.specs.Types.{signature_of}
-use Rattle.vm_model.specs.Actions.{Sort, Calling, Static, Silent, Call, Return}
+use Rattle.vm_model.specs.Actions.{Sort, Calling, Static, Silent, Telling, Call, Return}
 use Rattle.vm_model.specs.Tests.{Want, Typed, Needs, below, on_top, call_takes, params_in, descriptor_in, returning}
-use Rattle.vm_model.specs.Tests.{max_locals_in, method_of_frame}
+use Rattle.vm_model.specs.Tests.{max_locals_in, method_of_frame, name_of_method}
 use Rattle.vm_model.specs.Step as model
 use Rattle.vm_model.specs.Step.{step}
 use Rattle.vm_frames.specs.Frames.{entered, left_to, IsNearest}
@@ -28,21 +30,29 @@ use Rattle.vm_typed.proofs.Tops.{on_top_next, top_none, top_one}
 use Rattle.vm_typed.proofs.Next.{is_right, step_is, names_of}
 
 -- what is entered is what a call leads to
-pub calls_is : (p : Program) (q : Messages) (m new : Machine) (class method args locals : ℕ) → args ≤ length m.frame.operands →
-    locals ≡ max_locals_in (method_at p class method) → new ≡ entered m class method args locals None →
-    model.calls_in p q m class method (below args m.frame.operands) (on_top args m.frame.operands) None None ≡ Went new q None
-calls_is p q m new class method args locals le locals_is is =
+pub calls_are : (p : Program) (q : Messages) (m new : Machine) (class method args locals : ℕ) (told : Option ℕ) (event : Option Event) →
+    args ≤ length m.frame.operands → locals ≡ max_locals_in (method_at p class method) →
+    new ≡ entered m class method args locals told →
+    model.calls_in p q m class method (below args m.frame.operands) (on_top args m.frame.operands) told event ≡ Went new q event
+calls_are p q m new class method args locals told event le locals_is is =
     let count : length (on_top args m.frame.operands) ≡ args =
     omega (arith, length-drop (length m.frame.operands - args) m.frame.operands, le) in
     let left : max_locals_in (method_at p class method) - length (on_top args m.frame.operands) ≡ locals - args =
     omega (arith, count, locals_is) in
-    ap (λ k. Went (record (entered m class method args locals None) {
-      frame = record (entered m class method args locals None).frame {
+    ap (λ k. Went (record (entered m class method args locals told) {
+      frame = record (entered m class method args locals told).frame {
         locals =
             map Some (on_top args m.frame.operands) ++ replicate k None;
       };
-    }) q None) left
-    ∙ ap (λ n. Went n q None) (sym is)
+    }) q event) left
+    ∙ ap (λ n. Went n q event) (sym is)
+
+-- where no object tells of it
+pub calls_is : (p : Program) (q : Messages) (m new : Machine) (class method args locals : ℕ) → args ≤ length m.frame.operands →
+    locals ≡ max_locals_in (method_at p class method) → new ≡ entered m class method args locals None →
+    model.calls_in p q m class method (below args m.frame.operands) (on_top args m.frame.operands) None None ≡ Went new q None
+calls_is p q m new class method args locals le locals_is is =
+    calls_are p q m new class method args locals None None le locals_is is
 
 -- no flat method stands for one that is there
 pub stands_none : (found : Option MethodOf) (method : MethodOf) → StandsFor None found → found ≡ Some method → ⊥
@@ -157,6 +167,38 @@ module _ (p : Program) (m : Machine) (class method : ℕ) (flat : FlatMethod)
         ∙ calls_is p q m new class method (flat.params + 1) flat.max_locals silent_enough
         (locals_are p m Silent class method n flat stands) made
 
+  -- so does one of which the object tells
+  module _ (n : IsNext p m (Call Telling class method)) where
+    pub telling_enough : flat.params + 1 ≤ length m.frame.operands
+    telling_enough =
+        omega (arith, params_are p m Telling class method n flat stands, call_enough p m Telling class method n)
+
+    pub telling_locals : flat.params + 1 ≤ flat.max_locals
+    telling_locals =
+        omega (
+          arith,
+          params_are p m Telling class method n flat stands,
+          call_locals p m Telling class method n,
+          locals_are p m Telling class method n flat stands,
+        )
+
+    pub telling_steps : (new : Machine) (object : ℕ) → at_top m.frame.operands flat.params ≡ Some (values.Object object) →
+        new ≡ entered m class method (flat.params + 1) flat.max_locals (Some object) → (me : ℕ) (q : Messages) →
+        step p me m q ≡ Went new q (Some (seen.Enter object (name_of_method (method_at p class method))))
+    telling_steps new object top made me q =
+        let count : length (call_takes p Telling class (method_at p class method)) ≡ flat.params + 1 =
+        omega (arith, params_are p m Telling class method n flat stands) in
+        let within : flat.params < length m.frame.operands = omega (arith, telling_enough) in
+        let tops : on_top (flat.params + 1) m.frame.operands ≡ values.Object object ∷ on_top flat.params m.frame.operands =
+        on_top_next m.frame.operands flat.params (values.Object object) top within in
+        let event : Option Event = Some (seen.Enter object (name_of_method (method_at p class method))) in
+        step_is p m (Call Telling class method) n me q
+        ∙ ap (λ k. model.calls p q m Telling class method (below k m.frame.operands) (on_top k m.frame.operands)) count
+        ∙ ap (λ l. model.calls p q m Telling class method (below (flat.params + 1) m.frame.operands) l) tops
+        ∙ ap (λ l. model.calls_in p q m class method (below (flat.params + 1) m.frame.operands) l (Some object) event) (sym tops)
+        ∙ calls_are p q m new class method (flat.params + 1) flat.max_locals (Some object) event telling_enough
+        (locals_are p m Telling class method n flat stands) made
+
 -- The nearest of the frames that wait.
 
 pub nearest_there : (p : Program) (heap : _) (result : _) (class method operands : ℕ) (fs : List Frame) → Await p heap result fs →
@@ -222,6 +264,30 @@ module _ (p : Program) (m new : Machine) (told : m.frame.told ≡ None) where
       ∙ ap (λ l. model.returns q m (on_top (length l) m.frame.operands) m.callers) (returning_takes p m.callers (Some sort) _)
       ∙ ap (λ l. model.returns q m l m.callers) (top_one m.frame.operands v (return_some p m sort n) top)
       ∙ returns_is q m new (v ∷ []) m.callers is told
+
+-- What is left is told of.
+pub left_telling : (p : Program) (q : Messages) (m new : Machine) (vs : List Value) (frames : List Frame) (object : ℕ) (o : Option ℤ) →
+    left_to m vs frames ≡ Some new → m.frame.told ≡ Some object → o ≡ model.answer_of vs →
+    model.returns q m vs frames ≡ Went new q (Some (seen.Leave object o))
+left_telling p q m new vs [] object o is e answer = absurd (cc is)
+left_telling p q m new vs (f ∷ fs) object o is e answer =
+    ap (λ n. Went n q (model.left m.frame.told vs))
+    (some_is (record m { frame = record f { operands = f.operands ++ vs }; callers = fs }) new is)
+    ∙ ap (λ t. Went new q (model.left t vs)) e ∙ ap (λ a. Went new q (Some (seen.Leave object a))) (sym answer)
+
+pub returning_telling : (p : Program) (m : Machine) → IsNext p m (Return None) → (me : ℕ) (q : Messages) →
+    step p me m q ≡ model.returns q m [] m.callers
+returning_telling p m n me q =
+    step_is p m (Return None) n me q
+    ∙ ap (λ l. model.returns q m (on_top (length l) m.frame.operands) m.callers) (returning_takes p m.callers None _)
+    ∙ ap (λ l. model.returns q m l m.callers) (top_none m.frame.operands)
+
+pub returning_value_telling : (p : Program) (m : Machine) (sort : Sort) (v : Value) → IsNext p m (Return (Some sort)) →
+    at_top m.frame.operands 0 ≡ Some v → (me : ℕ) (q : Messages) → step p me m q ≡ model.returns q m (v ∷ []) m.callers
+returning_value_telling p m sort v n top me q =
+    step_is p m (Return (Some sort)) n me q
+    ∙ ap (λ l. model.returns q m (on_top (length l) m.frame.operands) m.callers) (returning_takes p m.callers (Some sort) _)
+    ∙ ap (λ l. model.returns q m l m.callers) (top_one m.frame.operands v (return_some p m sort n) top)
 
 -- by whether something was done
 pub when_true : {P : Type 0} (b : Bool) → b ≡ true → OnTrue b P → P

@@ -4,3 +4,4 @@ pub mod Taken
 pub mod Objects
 pub mod Called
 pub mod Flatly
+pub mod Told

@@ -10,7 +10,8 @@ use Rattle.vm_model.specs.Messages.{Messages}
 use Rattle.vm_model.specs.Machine.{Machine, Went}
 use Rattle.vm_model.specs.Arithmetic.{wrap, computed, compares}
 use Rattle.vm_model.specs.Actions.{Sort, Operation, Comparison, Push, Load, Store, Pop, Double, Swap, Compute, Negate, Increase, IfZero}
-use Rattle.vm_model.specs.Actions.{IfBoth, IfNull, Go}
+use Rattle.vm_model.specs.declared.linked.Built.TheVariants as builts
+use Rattle.vm_model.specs.Actions.{IfBoth, IfNull, Go, Use}
 use Rattle.vm_model.specs.Tests.{below, is_null, max_stack_in, method_of_frame}
 use Rattle.vm_model.specs.Step.{goes, next, at_place, with_local, pushed, increased, stored, popped, doubled, swapped, computed_to}
 use Rattle.vm_model.specs.Step.{computes, negates, on_zero, on_both, on_null, same_truth}
@@ -134,6 +135,9 @@ module _ (p : Program) (q : Messages) (m : Machine) (rest : List Value) where
 
 -- What each action needs is there.
 module _ (p : Program) (m : Machine) where
+  pub out_room : IsNext p m (Use builts.Out) → length m.frame.operands + 1 ≤ max_stack_in (method_of_frame p m.frame)
+  out_room n = omega (arith, (is_right p m (Use builts.Out) n).room)
+
   pub push_room : (v : Value) → IsNext p m (Push v) → length m.frame.operands + 1 ≤ max_stack_in (method_of_frame p m.frame)
   push_room v n = omega (arith, (is_right p m (Push v) n).room)
 
@@ -242,6 +246,10 @@ module _ (p : Program) (m m' : Machine) where
   stays : {place : ℕ} {locals : List (Option Value)} {operands : List Value} →
       m' ≡ record m { frame = record m.frame { place = place; locals = locals; operands = operands } } → SameMethod m m'
   stays is = (ap (λ (n : Machine). n.frame.class) is, ap (λ (n : Machine). n.frame.method) is)
+
+  pub pushes_out : IsNext p m (Use builts.Out) → m' ≡ next m (m.frame.operands ++ values.Out ∷ []) → StepsWithin p m m' true
+  pushes_out n is = steps_to p m (Use builts.Out) n m' (stays is)
+      (λ me q. ap (λ vs. goes q (next m (vs ++ values.Out ∷ []))) (below_none m.frame.operands) ∙ ap (goes q) (sym is))
 
   pub pushes : (v : Value) → IsNext p m (Push v) → m' ≡ next m (m.frame.operands ++ v ∷ []) → StepsWithin p m m' true
   pushes v n is = steps_to p m (Push v) n m' (stays is)

@@ -1,3 +1,4 @@
 pub mod Alone
 pub mod Next
 pub mod Running
+pub mod Telling

@@ -33,6 +33,19 @@ pub fn enter(state: &mut State, class: u32, method: u32, taken: usize, locals: u
         locals,
         told: None,
     };
+    enter_told(state, callee)
+}
+
+/// The same of a method that an object may tell of.
+#[inline(always)]
+pub(crate) fn enter_told(state: &mut State, callee: Callee) -> bool
+    requires place { state.old.machine.frame.place < 2 ^ 32 - 1 }
+    requires within { callee.args ≤ length (operands_of state.old) }
+    requires locals { callee.args ≤ callee.locals }
+    ensures yes { OnTrue result (state_of state.new ≡ entered (state_of state.old) callee.class callee.method callee.args callee.locals
+        callee.told) }
+    ensures no { OnFalse result (state_of state.new ≡ state_of state.old) }
+{
     if !state.has_room(callee) {
         return false;
     }

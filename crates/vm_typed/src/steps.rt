@@ -10,13 +10,13 @@ ghost use Rattle.cls_verify.specs.Typing.{AllTypable};
 ghost use Rattle.cls_verify.specs.Sound.{Sound};
 ghost use Rattle.vm_typed.specs.Alone.{AllAlone};
 ghost use Rattle.vm_typed.specs.Next.{IsNext};
-ghost use Rattle.vm_typed.specs.Running.{RunsFlat, StepsTo};
+ghost use Rattle.vm_typed.specs.Running.{RunsFlat, StepsTo, has_form, next_has_form};
 
 use crate::calls::{call_silent, call_static, return_nothing, return_value};
 use crate::fields::{read, write};
 use crate::within::{
     compute, double, increase, jump, jump_on_both, jump_on_null, jump_on_zero, load, negate, pop,
-    push, store, swap,
+    push, push_out, store, swap,
 };
 use vm_actions::{Comparison, Operation};
 use vm_flat::{Flat, FlatProgram, method_at};
@@ -156,6 +156,11 @@ fn act<'a>(
         Flat::Write { class, field } => kept(code, write(state, linked, *class, *field)),
         Flat::CallStatic { class, method } => call_static(state, linked, flat, *class, *method),
         Flat::CallSilent { class, method } => call_silent(state, linked, flat, *class, *method),
+        Flat::Out => {
+            push_out(state, linked);
+            Some(code)
+        }
+        Flat::CallTelling { .. } => None,
         Flat::Other => None,
     }
 }
@@ -199,4 +204,24 @@ pub fn steps_typed(state: &mut State, linked: &Linked, flat: &FlatProgram, most:
         }
     }
     most
+}
+
+/// The flat form of an instruction is more than that it is another one.
+fn has_form(instr: Option<&Flat>) -> bool
+    ensures { result ≡ has_form (option_map (λ f. f.now) instr.entry) }
+{
+    match instr {
+        None | Some(Flat::Other) => false,
+        Some(_) => true,
+    }
+}
+
+/// Whether the next instruction has a flat form.
+pub fn next_has_form(state: &State, flat: &FlatProgram) -> bool
+    ensures { result ≡ next_has_form flat.now (state_of state.now) }
+{
+    match method_at(flat, state.class(), state.method()) {
+        Some(method) => has_form(method.code.as_slice().get(state.place() as usize)),
+        None => false,
+    }
 }

@@ -2,6 +2,7 @@
 
 ghost use Rattle.std.specs.Prelude.{◌≡◌, ◌+◌, ◌-◌, ◌<◌, ◌≤◌, ◌^◌, List, true, length, if◌then◌else◌};
 ghost use Rattle.mg_text.specs.Call.{Name};
+ghost use Rattle.vm_model.specs.declared.linked.Built.TheVariants as builts;
 ghost use Rattle.vm_model.specs.Actions as actions;
 ghost use Rattle.vm_model.specs.Tests.{is_null, max_stack_in, method_of_frame};
 ghost use Rattle.vm_model.specs.Step.{same_truth};
@@ -29,6 +30,19 @@ pub(crate) fn push(state: &mut State, linked: &Linked, cell: Cell)
     let _program = linked;
     let place = state.place() + 1;
     state.push(cell, place);
+}
+
+/// Pushes the print stream.
+#[inline(always)]
+pub(crate) fn push_out(state: &mut State, linked: &Linked)
+    requires place { state.old.machine.frame.place < 2 ^ 32 - 1 }
+    requires room { max_stack_in (method_of_frame linked.now (state_of state.old).frame) ≤ most }
+    requires next { IsNext linked.now (state_of state.old) (actions.Use builts.Out) }
+    ensures { StepsWithin linked.now (state_of state.old) (state_of state.new) true }
+{
+    let _program = linked;
+    let place = state.place() + 1;
+    state.push(Cell::Out, place);
 }
 
 /// Pushes what a local holds.

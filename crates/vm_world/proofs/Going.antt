@@ -7,8 +7,8 @@ use Rattle.vm_model.specs.Program.{Program}
 use Rattle.vm_world_law.specs.World.{Role, World, turn, Rests}
 use Rattle.vm_world_law.specs.Turns.{role_of_turn, counted, StopsAt, IsRun, StillAt}
 use Rattle.vm_world_law.specs.Turns.{Advances}
-use Rattle.vm_world.specs.Alone.{Counts}
-use Rattle.vm_world.proofs.Alone.{AllCount, all_of_counts}
+use Rattle.vm_world.specs.Alone.{Counts, TurnsAlone}
+use Rattle.vm_world.proofs.Alone.{AllCount, all_of_counts, counts_some, none_taken}
 use Rattle.vm_world_law.proofs.Moments.{Moment, first_moment, idle_moment, count_moment, rest_moment, run_here, count_within}
 use Rattle.vm_world_law.proofs.Stopping.{turn_long}
 use Rattle.vm_world.specs.Seen.{Seen}
@@ -148,6 +148,19 @@ module _ (p : Program) (first : World) (order : List ℕ) (limit : ℕ) where
     following_row zero after same t some le = absurd (omega (arith, some))
     following_row (suc k) after same t some le =
         in_a_row k after same (all_of_counts now.program now.world after.world role k t) le
+
+    -- turns that are taken alone, if any
+    pub row_alone : (k : ℕ) (after : Seen) → after.program ≡ now.program → TurnsAlone now.program now.world role k after.world →
+        k ≤ left → idle ≡ 0 → Going p first order limit after (left - k) 0 next
+    row_alone zero after same t le none =
+        let none_left : zero ≤ 0 = omega arith in
+        let still : after ≡ now = none_taken now after role zero same t none_left in
+        subst (λ (s : Seen). Going p first order limit s (left - zero) 0 next) (sym still)
+        (subst (λ k. Going p first order limit now k 0 next) (let e : left ≡ left - zero = omega arith in e)
+        (subst (λ i. Going p first order limit now left i next) none h))
+    row_alone (suc k) after same t le none =
+        let some : 0 < suc k = omega arith in
+        following_row (suc k) after same (counts_some now.program now.world after.world role (suc k) some t) some le
 
     -- the role is found still, and with it all
     pub still_row : (after : Seen) → after.program ≡ now.program → Advances now.program now.world role after.world false →

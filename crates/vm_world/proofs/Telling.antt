@@ -1,5 +1,5 @@
 -- A turn that tells of no message moves none, so the roles beside it stand as they stood.
-use Rattle.std.proofs.Common.{◌≡◌, ◌≢◌, ◌-◌, ℕ, suc, Bool, true, false, List, [], ◌∷◌, ◌++◌, length, map, Option, Some, None, slice_get}
+use Rattle.std.proofs.Common.{◌≡◌, ◌≢◌, ◌-◌, ℕ, suc, Bool, true, false, List, [], ◌∷◌, ◌++◌, length, map, Option, Some, None, option_map, slice_get}
 use Rattle.std.proofs.Common.{slice_set, refl, sym, ap, ◌∙◌, subst, arith, length-append}
 use Rattle.std.specs.Bool.{OnFalse}
 use Rattle.mg_text.specs.declared.event.Event.{Event}
@@ -12,7 +12,10 @@ use Rattle.vm_world_law.specs.World.{State, Runs, Over, Role, World, IsStill, of
 use Rattle.vm_world_law.specs.Turns.{StillAt}
 use Rattle.vm_world_law.proofs.Lists.{some_is, set_there}
 use Rattle.vm_world_law.proofs.Moves.{Moves, MovesTo, stays, sends, takes, step_moves}
-use Rattle.vm_world.specs.Telling.{MovesNone, LastMovesNone}
+use Rattle.mg_text.specs.declared.event.Event.TheVariants as seen
+use Rattle.vm_events.specs.declared.kind.Kind.{Kind}
+use Rattle.vm_events.specs.Seen.{kind_of}
+use Rattle.vm_world.specs.Telling.{MovesNone, KindMovesNone, LastMovesNone}
 use Rattle.vm_world.proofs.Alone.{running}
 
 -- The last of some events.
@@ -33,6 +36,28 @@ pub last_tells : (events : List RoleEvent) (last : RoleEvent) (moved : Bool) →
 last_tells events last true at h = tt
 last_tells events last false at h = λ before x is.
     subst (λ (e : RoleEvent). MovesNone e.event) (some_is (sym at ∙ last_is events before x is)) h
+
+by_kind : (e : Event) → KindMovesNone (kind_of e) → MovesNone e
+by_kind (seen.Print text) h = tt
+by_kind (seen.Made object class) h = tt
+by_kind (seen.Enter object method) h = tt
+by_kind (seen.Leave object answer) h = tt
+by_kind (seen.Send peer label payload) h = h
+by_kind (seen.Look peer label) h = tt
+by_kind (seen.Take peer label payload) h = h
+
+-- by the kind of the last
+pub kind_tells : (events : List RoleEvent) (kind : Kind) (moved : Bool) →
+    Some kind ≡ option_map (λ (e : RoleEvent). kind_of e.event) (slice_get events (length events - 1)) →
+    OnFalse moved (KindMovesNone kind) → OnFalse moved (LastMovesNone events)
+kind_tells events kind true is h = tt
+kind_tells events kind false is h = go (slice_get events (length events - 1)) refl
+  where
+    go : (o : Option RoleEvent) → slice_get events (length events - 1) ≡ o → LastMovesNone events
+    go None at = absurd (let e : Some kind ≡ None = is ∙ ap (option_map (λ (x : RoleEvent). kind_of x.event)) at in cc)
+    go (Some last) at =
+        let same : kind ≡ kind_of last.event = some_is (is ∙ ap (option_map (λ (x : RoleEvent). kind_of x.event)) at) in
+        last_tells events last false at (by_kind last.event (subst KindMovesNone same h))
 
 pub none_tells : (events : List RoleEvent) → slice_get events (length events - 1) ≡ None → LastMovesNone events
 none_tells events at = λ before x is. absurd (let e : None ≡ Some x = sym at ∙ last_is events before x is in cc)

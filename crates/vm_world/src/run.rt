@@ -5,18 +5,18 @@
 //! Steps that a role takes alone change nothing but its machine, so they are the same whether the
 //! turns of other roles come before them or behind. A role whose turn comes takes as many of them at
 //! once as turns of its own are sure to come, and is then that many turns ahead: when they come
-//! they are counted, and nothing is left to do: all at once where every other role is still. A role that
-//! was found still isn't asked again before a turn that may have moved a message.
+//! they are counted, and nothing is left to do: all at once where every other role is still, and whole
+//! cycles at once where every role is far enough ahead. A role that was found still isn't asked again before a
+//! turn that may have moved a message.
 
-ghost use Rattle.std.specs.Prelude.{◌≡◌, ◌⊎◌, ◌<◌, ◌≤◌, ◌^◌, ◌-◌, ◌+◌, ◌*◌, ◌%◌, ◌≢◌, ℕ, Contains, length, replicate, slice_get, IfOk};
-ghost use Rattle.std.specs.Prelude.{false, IfSome};
+ghost use Rattle.std.specs.Prelude.{◌≡◌, ◌⊎◌, ◌<◌, ◌≤◌, ◌^◌, ◌-◌, ◌+◌, ◌*◌, ◌%◌, ◌≢◌, ◌==◌, ℕ, Contains, length, replicate, slice_get, IfOk};
+ghost use Rattle.std.specs.Prelude.{false, IfSome, get_or, count_by};
 ghost use Rattle.vm_world_law.specs.Turns.{counted, Advances, IsRun};
 ghost use Rattle.vm_world.specs.Alone.{Counts};
 
 use crate::world::World;
 use mg_text::Memory;
 use std::alloc::Global;
-use vm_world_law::Turned;
 
 /// The place that follows in a cycle.
 fn following(place: usize, count: usize) -> usize
@@ -52,6 +52,64 @@ fn come_at_once(ahead: u32, idle: usize, count: usize) -> u32
     if idle + 1 == count { ahead } else { 1 }
 }
 
+/// How often a cycle of turns that names each of so many roles names one of them at most.
+fn often_in_a_cycle(order: &[u32], roles: usize) -> usize
+    requires named { (r : ℕ) → r < roles → Contains order.now r }
+    ensures some { 0 < result }
+    ensures often { (r : ℕ) → count_by (λ x. x == r) order.now ≤ result }
+{
+    order.len() - roles + 1
+}
+
+/// How many turns each role of the order is ahead at least: none where one is ahead by no more than `few`, and the others needn't be
+/// looked at.
+fn least_ahead(order: &[u32], ahead: &[u32], few: usize) -> u32
+    requires numbers { (i : ℕ) (r : ℕ) → slice_get order.now i ≡ Some r → r < length ahead.now }
+    ensures { (r : ℕ) → Contains order.now r → result ≤ get_or ahead.now r 0 }
+{
+    let mut least = u32::MAX;
+    for role in order {
+        let turns = ahead[*role as usize];
+        if turns as usize <= few {
+            return 0;
+        }
+        least = least.min(turns);
+    }
+    least
+}
+
+/// How many whole cycles of turns are counted at once, each of which names a role at most so often: no more than every role is ahead
+/// for, and no more than are left.
+#[inline(never)]
+fn cycles_at_once(order: &[u32], ahead: &[u32], often: usize, left: u32) -> u32
+    requires numbers { (i : ℕ) (r : ℕ) → slice_get order.now i ≡ Some r → r < length ahead.now }
+    requires cycle { 0 < length order.now }
+    requires some { 0 < often }
+    requires often { (r : ℕ) → count_by (λ x. x == r) order.now ≤ often }
+    ensures ahead { (r : ℕ) → result * count_by (λ x. x == r) order.now ≤ get_or ahead.now r 0 }
+    ensures within { result * length order.now ≤ left }
+{
+    let cycles = least_ahead(order, ahead, often) as usize / often;
+    cycles.min(left as usize / order.len()) as u32
+}
+
+/// Counts so many whole cycles of turns of roles that are ahead. The answer is how many turns these are.
+#[inline(never)]
+fn count_cycles(order: &[u32], ahead: &mut [u32], cycles: u32) -> u32
+    requires numbers { (i : ℕ) (r : ℕ) → slice_get order.now i ≡ Some r → r < length ahead.old }
+    requires some { 0 < cycles }
+    requires fits { cycles * length order.now < 2 ^ 32 }
+    ensures turns { result ≡ cycles * length order.now }
+    ensures long { length ahead.new ≡ length ahead.old }
+    ensures each { (r : ℕ) → get_or ahead.new r 0 ≡ get_or ahead.old r 0 - cycles * count_by (λ x. x == r) order.now }
+{
+    for role in order {
+        let place = *role as usize;
+        ahead[place] = ahead[place].saturating_sub(cycles);
+    }
+    cycles * order.len() as u32
+}
+
 /// The version of the messages behind turns that counted so many instructions: several of them move
 /// no message, and one does only where the last event is of one.
 fn version_behind(version: u64, counted: u32, moved: bool) -> u64
@@ -65,8 +123,8 @@ fn version_behind(version: u64, counted: u32, moved: bool) -> u64
 }
 
 impl World {
-    /// One turn, or none where the role has ended. The answer is whether an instruction was counted.
-    fn advance(&mut self, alloc: Global, role: u32) -> Result<bool, Memory>
+    /// One turn of a role, or none where it has ended. The answer is whether an instruction was counted.
+    fn go_on(&mut self, alloc: Global, role: u32) -> Result<bool, Memory>
         requires number { role < length self.old.world.roles }
         requires count { IfSome (slice_get self.old.world.roles role) (λ r. r.count < 2 ^ 32 - 1) }
         ensures program { self.new.program ≡ self.old.program }
@@ -75,11 +133,11 @@ impl World {
         if self.is_over(role) {
             return Ok(false);
         }
-        match self.turn(alloc, role)? {
-            Turned::Went => Ok(true),
-            Turned::Waits(_peer) => Ok(false),
-            Turned::Ended(_ending) => Ok(true),
+        let told = self.tell(role)?;
+        if told {
+            return Ok(true);
         }
+        self.count_turn(alloc, role)
     }
 
     /// Turns of a role, at most so many: several only where none of them tells anything. The answer
@@ -97,7 +155,7 @@ impl World {
         if taken > 0 {
             return Ok(taken);
         }
-        let counted = self.advance(alloc, role)?;
+        let counted = self.go_on(alloc, role)?;
         if counted { Ok(1) } else { Ok(0) }
     }
 
@@ -135,11 +193,16 @@ impl World {
         let role = order[0];
         let mut left = limit;
         while left > 0 {
-            let counted = self.take_turns(alloc, role, left)?;
-            if counted == 0 {
+            let alone = self.turns_alone(role, left);
+            left -= alone;
+            if left == 0 {
                 return Ok(());
             }
-            left -= counted;
+            let counted = self.go_on(alloc, role)?;
+            if !counted {
+                return Ok(());
+            }
+            left -= 1;
         }
         Ok(())
     }
@@ -167,9 +230,18 @@ impl World {
         let mut idle = 0;
         let mut next = 0;
         let mut version = 1;
+        let often = often_in_a_cycle(order, ahead.len());
         while left > 0 && idle < order.len() {
             let role = order[next];
             let place = role as usize;
+            if next == 0 && ahead[place] > 1 {
+                let cycles = cycles_at_once(order, ahead, often, left);
+                if cycles > 0 {
+                    left -= count_cycles(order, ahead, cycles);
+                    idle = 0;
+                    continue;
+                }
+            }
             next = following(next, order.len());
             if ahead[place] > 0 {
                 let come = come_at_once(ahead[place], idle, order.len());

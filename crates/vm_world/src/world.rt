@@ -1,28 +1,30 @@
 //! The world as other crates see it.
 //! A turn is one step of a role's machine; whoever waits or has ended changes nothing.
 
-ghost use Rattle.std.specs.Prelude.{◌≡◌, ◌+◌, ◌<◌, ◌≤◌, ◌^◌, ◌-◌, ◌++◌, ◌↔◌, [], length, map, option_map, slice_get, IsTrue, IfOk, OnErr};
+ghost use Rattle.std.specs.Prelude.{◌≡◌, false, ◌+◌, ◌<◌, ◌≤◌, ◌^◌, ◌-◌, ◌++◌, ◌↔◌, [], length, map, option_map, slice_get, IsTrue, IfOk, OnErr};
 ghost use Rattle.std.specs.Prelude.{IfSome};
 ghost use Rattle.std.specs.Bool.{OnFalse};
 ghost use Rattle.std.specs.List.{IsDistinct, AllByRecursion};
 ghost use Rattle.std.specs.Str.{bytes_eq};
 ghost use Rattle.vm_step.specs.Main.{HasMain};
-ghost use Rattle.vm_events.specs.Seen.{event_of};
+ghost use Rattle.vm_events.specs.Seen.{Grows};
 ghost use Rattle.vm_world_law.specs.World as model;
-ghost use Rattle.vm_world_law.specs.Turns.{over_in};
+ghost use Rattle.vm_world_law.specs.Turns.{over_in, Advances};
 ghost use Rattle.vm_world.specs.Alone.{TurnsAlone};
 ghost use Rattle.vm_world.specs.Resting.{GoesOn};
-ghost use Rattle.vm_world.specs.Telling.{MovesNone, LastMovesNone};
+ghost use Rattle.vm_world.specs.Telling.{KindMovesNone, LastMovesNone};
 ghost use Rattle.vm_world.specs.View.{roles_of, ending_in};
 ghost use Rattle.vm_model.specs.Machine.{noted};
 ghost use Rattle.cls_verify.specs.Typing.{AllTypable};
 ghost use Rattle.vm_world.specs.Typed.{IsTyped};
+ghost use Rattle.vm_world.specs.Told.{WorldTells};
 
-use crate::role::{Role, State, Taken, take_turn, turns_alone};
+use crate::names::MethodNames;
+use crate::role::{Role, State, Taken, count_turn, take_turn, tell, turns_alone};
 use mg_text::{Ending, Event, List, Memory, Text};
 use std::alloc::Global;
 use std::marker::Model;
-use vm_events::{Events, SeenEvent};
+use vm_events::{Events, Kind};
 use vm_flat::{FlatProgram, flatten};
 use vm_model::{Linked, Ports};
 use vm_step::Machine;
@@ -36,6 +38,8 @@ pub struct World {
     ports: Ports,
     pub(crate) roles: Vec<Role>,
     events: Events,
+    /// The names of the program's methods, by the numbers of texts that the events keep.
+    names: MethodNames,
 }
 
 // One call lets go of it, wherever a function ends.
@@ -47,6 +51,7 @@ impl Drop for World {
             ports: _,
             roles: _,
             events: _,
+            names: _,
         } = self;
     }
 }
@@ -64,8 +69,10 @@ impl Model for World {
     } };
 
     ghost use Rattle.vm_world.specs.Typed.{SuitsWhereFlat};
+    ghost use Rattle.vm_world.specs.Names.{AreNames};
 
-    ghost invariant = { λ w. (length w.roles.items < 2 ^ 32) × SuitsWhereFlat w.linked (roles_of w.roles.items) w.flat };
+    ghost invariant = { λ w. ((length w.roles.items < 2 ^ 32) × SuitsWhereFlat w.linked (roles_of w.roles.items) w.flat)
+        × AreNames w.events.texts w.names w.linked };
 }
 
 /// The machines of these roles, each at its `main`.
@@ -108,25 +115,22 @@ fn flat_where(alloc: Global, linked: &Linked, typed: bool) -> Result<Option<Flat
     Ok(Some(flat))
 }
 
-/// Whether an event is of a message that was sent or taken.
-fn is_of_message(event: SeenEvent<'_>) -> bool
-    ensures { OnFalse result (MovesNone (event_of event.entry)) }
+/// Whether an event of this kind sends a message or takes one.
+fn is_of_message(kind: Kind) -> bool
+    ensures { OnFalse result (KindMovesNone kind) }
 {
-    match event {
-        SeenEvent::Print(_text) => false,
-        SeenEvent::Made { .. } => false,
-        SeenEvent::Enter { .. } => false,
-        SeenEvent::Leave { .. } => false,
-        SeenEvent::Send { .. } => true,
-        SeenEvent::Look { .. } => false,
-        SeenEvent::Take { .. } => true,
+    match kind {
+        Kind::Send => true,
+        Kind::Take => true,
+        Kind::Print | Kind::Made | Kind::Enter | Kind::Leave | Kind::Look => false,
     }
 }
 
 /// Keeps an event of a role, for which there is room.
 fn note(events: &mut Events, alloc: Global, role: u32, event: Option<Event>)
     requires { 0 < events.old.spare }
-    ensures { events.new.items ≡ events.old.items ++ map (model.of_role role) (noted event) }
+    ensures items { events.new.items ≡ events.old.items ++ map (model.of_role role) (noted event) }
+    ensures texts { Grows events.old.texts events.new.texts }
 {
     match event {
         Some(event) => events.add(alloc, role, event),
@@ -137,7 +141,8 @@ fn note(events: &mut Events, alloc: Global, role: u32, event: Option<Event>)
 impl World {
     /// The world of these roles before the first turn: each at the `main` of its class, and no
     /// message on its way. Where each method of the program has a typing, which `typed` says,
-    /// roles take frequent steps without the tests that typings have made.
+    /// roles take their steps without most of the tests that typings have made, and protocol methods
+    /// begin and are left without a general turn.
     ///
     /// # Errors
     /// `Memory` only.
@@ -153,7 +158,8 @@ impl World {
         ensures program { IfOk result (λ w. w.program ≡ linked) }
         ensures begun { IfOk result (λ w. model.IsBegun w.program mains.now w.world) }
     {
-        let events = Events::new(alloc)?;
+        let mut events = Events::new(alloc)?;
+        let names_of_methods = MethodNames::of(alloc, &linked, &mut events)?;
         let names = names_of(alloc, mains)?;
         let ports = Ports::new(alloc, names.as_slice())?;
         let roles = begun(alloc, &linked, mains)?;
@@ -164,6 +170,7 @@ impl World {
             ports,
             roles,
             events,
+            names: names_of_methods,
         })
     }
 
@@ -184,12 +191,59 @@ impl World {
             &mut self.roles[role as usize],
             alloc,
             &self.linked,
+            &self.flat,
             &mut self.ports,
             role,
         )?;
         let Taken { turned, event } = taken;
         note(&mut self.events, alloc, role, event);
         Ok(turned)
+    }
+
+    /// A turn of a role that hasn't ended. The answer is whether an instruction was counted.
+    ///
+    /// # Errors
+    /// `Memory` only.
+    pub(crate) fn count_turn(&mut self, alloc: Global, role: u32) -> Result<bool, Memory>
+        requires number { role < length self.old.world.roles }
+        requires count { IfSome (slice_get self.old.world.roles role) (λ r. r.count < 2 ^ 32 - 1) }
+        requires runs { over_in self.old.world role ≡ false }
+        ensures program { self.new.program ≡ self.old.program }
+        ensures advances { IfOk result (λ b. Advances self.old.program self.old.world role self.new.world b) }
+    {
+        self.events.reserve()?;
+        count_turn(
+            &mut self.roles[role as usize],
+            alloc,
+            &self.linked,
+            &self.flat,
+            &mut self.ports,
+            &mut self.events,
+            role,
+        )
+    }
+
+    /// The turn of a role that begins a protocol method of an object or leaves one, where that is known to need no test and no memory.
+    /// The answer is whether it was taken; where it wasn't, nothing has changed.
+    ///
+    /// # Errors
+    /// `Memory` only, for the event, and then nothing has changed.
+    pub(crate) fn tell(&mut self, role: u32) -> Result<bool, Memory>
+        requires number { role < length self.old.world.roles }
+        requires count { IfSome (slice_get self.old.world.roles role) (λ r. r.count < 2 ^ 32 - 1) }
+        ensures program { self.new.program ≡ self.old.program }
+        ensures told { IfOk result (λ told. WorldTells self.old.program self.old.world role told self.new.world) }
+        ensures err { OnErr result (self.new ≡ self.old) }
+    {
+        let Some(flat) = &self.flat else {
+            return Ok(false);
+        };
+        self.events.reserve()?;
+        let Some(telling) = tell(&mut self.roles[role as usize], &self.linked, flat) else {
+            return Ok(false);
+        };
+        self.events.note(role, self.names.numbered(telling));
+        Ok(true)
     }
 
     /// Turns of a role whose steps are frequent ones that tell nothing, at most so many. The answer
@@ -260,7 +314,7 @@ impl World {
         if count == 0 {
             return false;
         }
-        is_of_message(events.at(count - 1).event)
+        is_of_message(events.kind_at(count - 1))
     }
 
     /// How many instructions of a role were counted.

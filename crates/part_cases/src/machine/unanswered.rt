@@ -12,6 +12,8 @@ pub enum Unanswered {
     Form,
     /// A list of turns is at an end before its world rests.
     Restless,
+    /// Tests are to be left out, and a method has no typing.
+    Untyped,
     /// The files are refused, by a refusal of this kind.
     Refused(&'static str),
     /// Want of memory.
@@ -24,6 +26,7 @@ impl Unanswered {
         match self {
             Unanswered::Form => answer.add("out of form"),
             Unanswered::Restless => answer.add("no rest"),
+            Unanswered::Untyped => answer.add("a method without a typing"),
             Unanswered::Refused(kind) => answer.add(kind),
             Unanswered::Memory => answer.fail(),
         }

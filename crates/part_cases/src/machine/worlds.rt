@@ -1,6 +1,7 @@
 //! Worlds of two roles under many lists of turns. Each case is run in the plain order, one turn a
-//! role, and under lists that are drawn; what each role shows is told, and whether every list comes
-//! to it.
+//! role, and what each role shows is told. Then it is told whether the roles come to the same with
+//! the tests of the machine and without those that typings have made: in the plain order again, turn
+//! by turn, and many turns at once, and under lists that are drawn.
 //!
 //! A case gives lines, and then files, each begun by a line `>>> NAME`:
 //!
@@ -10,6 +11,7 @@
 //! with Adder.scr CMain.java     files of these names that lie here
 //! ```
 
+mod beginning;
 mod given;
 mod program;
 mod seen;

@@ -1,19 +1,18 @@
 -- For private clauses: how an event is kept. What is kept stays, and more comes behind it.
-use Rattle.std.specs.Prelude.{◌≡◌, ℕ, ℤ, Option, List, ◌++◌, ◌<◌, length}
+use Rattle.std.specs.Prelude.{◌≡◌, ℕ, ℤ, Option, List, ◌<◌, length}
 use Rattle.std.specs.List.{AllByRecursion}
 use Rattle.mg_text.specs.Call.{Name}
 use Rattle.mg_text.specs.declared.event.Carried.{Carried}
 use Rattle.mg_text.specs.declared.event.Event.{Event}
 use Rattle.mg_text.specs.declared.event.Event.TheVariants as seen
+use Rattle.vm_events.specs.Seen.{Grows, kind_of, IsNamed, numbered_event}
+use Rattle.vm_events.specs.declared.kind.Kind.{Kind}
+use Rattle.vm_events.specs.declared.numbered.Numbered.{Numbered}
 use Rattle.vm_events.specs.declared.note.Load.{Load}
 use Rattle.vm_events.specs.declared.note.Message.{Message}
 use Rattle.vm_events.specs.declared.note.Short.{Short}
 use Rattle.vm_events.specs.declared.tables.Tables.{Tables}
 use Rattle.vm_events.specs.inner.Kept.{text_at, carried_in, message_at, event_in, LoadIsThere, MessageIsThere, IsThere}
-
--- nothing is taken away, and these come behind
-abbrev pub Grows : {A : Type 0} → (before after : List A) → Type 0
-Grows {A} before after = (more : List A) × (after ≡ before ++ more)
 
 -- a text has a number
 pub record HasNumber (before after : List Name) (n : ℕ) (text : Name) : Type 0 where
@@ -52,3 +51,12 @@ pub record Keeps (before after : Tables) (short : Short) (event : Event) : Type 
   pub grow : Grow before after
   pub there : IsThere (length after.texts.kept.items) (length after.messages.items) short
   pub says : event_in after.texts.kept.items after.messages.items short ≡ event
+
+-- a numbered event is kept, whatever the texts
+pub record IsShort (short : Short) (event : Numbered) : Type 0 where
+  pub there : (texts messages : ℕ) → IsNamed texts event → IsThere texts messages short
+  pub says : (texts : List Name) (messages : List Message) → event_in texts messages short ≡ numbered_event texts event
+
+-- what is told of, whatever the texts and messages
+abbrev pub IsKindOf : Kind → Short → Type 0
+IsKindOf kind short = (texts : List Name) (messages : List Message) → kind ≡ kind_of (event_in texts messages short)

@@ -1,15 +1,13 @@
 use Rattle.std.proofs.Common.{◌∙◌, ap, arith}
 use Rattle.std.proofs.lemmas.List.{take_all}
-use Rattle.vm_events.specs.Seen.{role_event_of}
 use Rattle.mg_trace.specs.Trace.{printed}
-use Rattle.mg_trace.proofs.Prints.{printed_more}
+use Rattle.mg_trace.proofs.Prints.{printed_next}
 use Rattle.mg_trace.proofs.printing.printed.Goals as goal
 
 pub loop-place-preserved : goal.loop-place-preserved
 loop-place-preserved c =
-    printed_more c.args.named c.args.names.now c.args.events.now.items c.loop-place.place (role_event_of c.at-seen.result)
-    c.at-seen.ensures c.role_name-name.result.now c.role_name-name.ensures c.loop-place.bytes c.put_printed.new.bytes
-    c.loop-place.invariant c.in_ok-put_printed.ensures
+    printed_next c.args.named c.args.names.now c.args.events.now.items c.loop-place.place c.loop-place.bytes c.put_next.new.bytes
+    c.loop-place.invariant c.in_ok-put_next.ensures
 
 pub returns : goal.returns
 returns c =

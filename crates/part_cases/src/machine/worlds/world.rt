@@ -1,45 +1,77 @@
 //! Worlds of two roles, each from its beginning up to rest.
 
-ghost use Rattle.std.specs.Prelude.{◌≡◌, ◌<◌, length, IfOk};
+ghost use Rattle.std.specs.Prelude.{◌≡◌, ◌<◌, length};
+ghost use Rattle.vm_world_law.specs.Turns.{counted};
 
 use crate::machine::unanswered::Unanswered;
+use crate::machine::worlds::beginning::{Tests, begun};
 use crate::machine::worlds::given::Given;
 use crate::machine::worlds::seen::{Seen, seen_of};
 use crate::machine::worlds::turns::Turns;
 use cases::Answer;
 use cls_tree::Class;
-use mg_text::{Memory, Text};
+use mg_text::Memory;
 use std::alloc::Global;
-use vm_load::{LoadFault, load};
-use vm_model::Linked;
-use vm_step::has_main;
-use vm_world::{RoleMain, World};
+use vm_world::World;
 
-/// Tells what the roles of a case come to in the plain order, and whether they do under each of its
-/// lists.
+/// Tells what the roles of a case come to in the plain order, and whether they do in each other way,
+/// with the tests of the machine and without those that typings have made.
 pub fn tell(
     alloc: Global,
     answer: &mut Answer,
     classes: &[Class],
     given: &Given<'_>,
 ) -> Result<(), Unanswered> {
-    let plain = played(alloc, classes, given, Turns::Plain)?;
+    let plain = played(alloc, classes, given, Tests::Made, Turns::Plain)?;
     answer.add(plain.lines.as_str());
-    tell_lists(alloc, answer, classes, given, &plain)
+    tell_ways(alloc, answer, classes, given, Tests::Made, &plain)?;
+    answer.line();
+    tell_ways(alloc, answer, classes, given, Tests::LeftOut, &plain)
 }
 
-// Tells how many lists come to what the plain order comes to, or the first that doesn't.
+// Tells whether the roles come to this in the plain order, turn by turn and many turns at once, and
+// under each of the lists.
+fn tell_ways(
+    alloc: Global,
+    answer: &mut Answer,
+    classes: &[Class],
+    given: &Given<'_>,
+    tests: Tests,
+    wanted: &Seen,
+) -> Result<(), Unanswered> {
+    answer.add(tests.told());
+    let plain = played(alloc, classes, given, tests, Turns::Plain)?;
+    tell_same(answer, "the plain order comes to ", &plain, wanted);
+    let run = ran(alloc, classes, given, tests)?;
+    tell_same(answer, ", many turns at once come to ", &run, wanted);
+    answer.add(", ");
+    tell_lists(alloc, answer, classes, given, tests, wanted)
+}
+
+// Tells whether what is seen is what is wanted.
+fn tell_same(answer: &mut Answer, way: &str, seen: &Seen, wanted: &Seen) {
+    let what = if *seen == *wanted {
+        "the same"
+    } else {
+        "something else"
+    };
+    answer.pair(way, what);
+}
+
+// Tells how many lists come to this, or the first that doesn't.
 fn tell_lists(
     alloc: Global,
     answer: &mut Answer,
     classes: &[Class],
     given: &Given<'_>,
-    plain: &Seen,
+    tests: Tests,
+    wanted: &Seen,
 ) -> Result<(), Unanswered> {
     let (first, last) = given.seeds;
     let mut lists = 0u64;
     for seed in first..=last {
-        if !comes_to(alloc, classes, given, seed, plain)? {
+        let seen = played(alloc, classes, given, tests, Turns::drawn(seed))?;
+        if seen != *wanted {
             answer.add("the list of ");
             answer.show(&seed);
             answer.add(" comes to something else");
@@ -52,26 +84,15 @@ fn tell_lists(
     Ok(())
 }
 
-// Whether the roles come to this under the list of a seed.
-fn comes_to(
-    alloc: Global,
-    classes: &[Class],
-    given: &Given<'_>,
-    seed: u64,
-    wanted: &Seen,
-) -> Result<bool, Unanswered> {
-    let seen = played(alloc, classes, given, Turns::drawn(seed))?;
-    Ok(seen == *wanted)
-}
-
-// What is seen of both roles once the world rests.
+// What is seen of both roles once the world rests, turn by turn.
 fn played(
     alloc: Global,
     classes: &[Class],
     given: &Given<'_>,
+    tests: Tests,
     turns: Turns,
 ) -> Result<Seen, Unanswered> {
-    let mut world = begun(alloc, classes, given)?;
+    let mut world = begun(alloc, classes, given, tests)?;
     play(alloc, &mut world, turns)
 }
 
@@ -85,36 +106,27 @@ fn play(alloc: Global, world: &mut World, turns: Turns) -> Result<Seen, Unanswer
     }
 }
 
-// The world before the first turn.
-fn begun(alloc: Global, classes: &[Class], given: &Given<'_>) -> Result<World, Unanswered>
-    ensures { IfOk result (λ w. length w.world.roles ≡ 2) }
-{
-    let linked = linked(alloc, classes)?;
-    if has_main(&linked, given.client) && has_main(&linked, given.server) {
-        let client = main_of(alloc, "C", given.client)?;
-        let server = main_of(alloc, "S", given.server)?;
-        let mains = [client, server];
-        return Ok(World::new(alloc, linked, mains.as_slice(), false)?);
-    }
-    Err(Unanswered::Form)
+// What is seen of both roles once the world rests, of turns in the plain order that are taken many at once.
+fn ran(
+    alloc: Global,
+    classes: &[Class],
+    given: &Given<'_>,
+    tests: Tests,
+) -> Result<Seen, Unanswered> {
+    let mut world = begun(alloc, classes, given, tests)?;
+    run(alloc, &mut world)
 }
 
-fn linked(alloc: Global, classes: &[Class]) -> Result<Linked, Unanswered> {
-    match load(alloc, classes) {
-        Ok(linked) => Ok(linked),
-        Err(LoadFault::Memory) => Err(Unanswered::Memory),
-        Err(_) => Err(Unanswered::Form),
-    }
-}
-
-// A role and the class whose `main` it runs.
-fn main_of(alloc: Global, role: &str, class: &str) -> Result<RoleMain, Memory>
-    ensures role { IfOk result (λ m. m.role ≡ role.now) }
-    ensures class { IfOk result (λ m. m.class ≡ class.now) }
+fn run(alloc: Global, world: &mut World) -> Result<Seen, Unanswered>
+    requires roles { length world.old.world.roles ≡ 2 }
+    requires fresh { counted world.old.world ≡ 0 }
 {
-    let role = Text::of(alloc, role)?;
-    let class = Text::of(alloc, class)?;
-    Ok(RoleMain { role, class })
+    world.run(alloc, &[0, 1], MOST)?;
+    if world.at_rest() {
+        Ok(seen_of(alloc, world)?)
+    } else {
+        Err(Unanswered::Restless)
+    }
 }
 
 /// How many turns are taken at most.

@@ -5,7 +5,8 @@ use mir.Syntax.{w8, w32}
 use Rattle.vm_model.specs.declared.value.Value.TheVariants as values
 use Rattle.vm_model.specs.Actions.{Push, Load, Store, Pop, Double, Swap, Compute, Plus, Minus, Times, Divide, Remain, Negate, Increase}
 use Rattle.vm_model.specs.Actions.{IfZero, IfBoth, Equal, Unequal, Less, AtLeast, Greater, AtMost, IfNull, Go, Return, Read, Write, Call}
-use Rattle.vm_model.specs.Actions.{Static, Silent}
+use Rattle.vm_model.specs.declared.linked.Built.TheVariants as builts
+use Rattle.vm_model.specs.Actions.{Static, Silent, Use}
 use Rattle.vm_session.specs.State.{state_of}
 use Rattle.vm_actions.specs.Table.{sort_of}
 use Rattle.vm_flat.specs.Flat.{action_of_flat}
@@ -276,6 +277,13 @@ returns-in-CallStatic c = c.call_static.ensures
 
 pub returns-in-CallSilent : goal.returns-in-CallSilent
 returns-in-CallSilent c = c.call_silent.ensures
+
+pub push_out-requires-clause-next : goal.push_out-requires-clause-next
+push_out-requires-clause-next c = c.requires.next (Use builts.Out) (ap action_of_flat c.in-Out.is)
+
+pub returns-in-Out : goal.returns-in-Out
+returns-in-Out c = kept_on c.args.linked.now (state_of c.args.state.now) c.args.code.now c.requires.runs
+    (state_of c.push_out.new.state) c.push_out.ensures
 
 pub returns-in-Other : goal.returns-in-Other
 returns-in-Other c = refl

@@ -15,7 +15,7 @@ unreachable-requires c =
     let p = c.args.linked.now in
     let m : Machine = state_of c.args.state.now in
     stands_none (method_at p c.class.result c.method.result) c.requires.sound.frame.method
-    (rw c.in_default.is at (c.method_at.ensures p c.requires.flat))
+    (rw c.in_default.is at (c.method_at.ensures.stands p c.requires.flat))
     ((λ i. method_at p (c.class.ensures i) (c.method.ensures i)) ∙ c.requires.sound.frame.at)
 
 pub loop-taken-init : goal.loop-taken-init
@@ -29,7 +29,7 @@ loop-taken-init c =
         is = c.as_slice-code.ensures.items;
         few = c.as_slice-code.ensures.bound;
         stands = subst (StandsFor (Some c.in-Some.first.now)) (λ i. method_at p (c.class.ensures i) (c.method.ensures i))
-            (rw c.in-Some.is at (c.method_at.ensures p c.requires.flat));
+            (rw c.in-Some.is at (c.method_at.ensures.stands p c.requires.flat));
       };
     }
 

@@ -1,8 +1,8 @@
-use Rattle.std.proofs.Common.{◌≡◌, ◌-◌, List, length, Some, slice_get, sym, ap, ◌∙◌, arith}
+use Rattle.std.proofs.Common.{◌≡◌, ◌-◌, List, length, Some, option_map, slice_get, sym, ap, ◌∙◌, arith}
 use Rattle.std.proofs.lemmas.Option.{slice_get_past}
 use Rattle.vm_world_law.specs.declared.role.RoleEvent.{RoleEvent}
-use Rattle.vm_events.specs.Seen.{role_event_of}
-use Rattle.vm_world.proofs.Telling.{last_tells, none_tells}
+use Rattle.vm_events.specs.Seen.{kind_of}
+use Rattle.vm_world.proofs.Telling.{kind_tells, none_tells}
 use Rattle.vm_world.proofs.world.World.last_moved.Goals as goal
 
 pub returns-then-count-eq0 : goal.returns-then-count-eq0
@@ -14,8 +14,9 @@ returns-then-count-eq0 c =
 pub returns : goal.returns
 returns c =
     let events = c.args.self.now.world.events in
-    let kept = c.events-events.result.now.items in
-    let at : slice_get events (length events - 1) ≡ Some (role_event_of c.at.result) =
-    ap (λ (l : List RoleEvent). slice_get l (length l - 1)) (sym c.events-events.ensures)
-    ∙ ap (λ n. slice_get kept (n - 1)) (sym c.len-count.ensures.value) ∙ sym c.at.ensures in
-    last_tells events (role_event_of c.at.result) c.is_of_message.result at c.is_of_message.ensures
+    let kept : List RoleEvent = c.events-events.result.now.items in
+    let kind_in = λ (e : RoleEvent). kind_of e.event in
+    let at : Some c.kind_at.result ≡ option_map kind_in (slice_get events (length events - 1)) =
+    c.kind_at.ensures ∙ ap (λ n. option_map kind_in (slice_get kept (n - 1))) c.len-count.ensures.value
+    ∙ ap (λ (l : List RoleEvent). option_map kind_in (slice_get l (length l - 1))) c.events-events.ensures in
+    kind_tells events c.kind_at.result c.is_of_message.result at c.is_of_message.ensures

@@ -9,7 +9,7 @@ pub returns-clause-begun : goal.returns-clause-begun
 returns-clause-begun c = record {
   distinct = c.requires.distinct;
   messages = c.in_ok-ports.ensures ∙ ap (λ (l : List Name). no_messages l) (c.as_slice.ensures.items ∙ c.in_ok-names.ensures);
-  unseen = c.in_ok-events.ensures;
+  unseen = c.in_ok-names_of_methods.ensures.items ∙ c.in_ok-events.ensures.items;
   roles = c.in_ok-roles.ensures.begun;
 }
 
@@ -17,6 +17,9 @@ pub invariant_of-result : goal.invariant_of-result
 invariant_of-result c =
     let many : length c.as_slice.result.now ≡ length c.in_ok-roles.roles.items =
     ap length (c.as_slice.ensures.items ∙ c.in_ok-names.ensures) ∙ length-map c.args.mains.now _ ∙ sym c.in_ok-roles.ensures.many in (
-      subst (λ n. n < 2 ^ 32) many c.as_slice.ensures.bound,
-      new_suits c.args.linked c.in_ok-flat.flat c.args.mains.now _ c.in_ok-flat.ensures c.in_ok-roles.ensures.begun,
+      (
+        subst (λ n. n < 2 ^ 32) many c.as_slice.ensures.bound,
+        new_suits c.args.linked c.in_ok-flat.flat c.args.mains.now _ c.in_ok-flat.ensures c.in_ok-roles.ensures.begun,
+      ),
+      c.in_ok-names_of_methods.ensures.named,
     )

@@ -3,6 +3,7 @@ use Rattle.vm_world.specs.Alone.{Counts}
 use Rattle.vm_world.proofs.Going.{zero_is}
 use Rattle.vm_world.proofs.Several.{begin_several, several_stopped, within_ahead, within_roles, taken_several, idle_several, room_several}
 use Rattle.vm_world.proofs.Several.{come_several, come_within, lt}
+use Rattle.vm_world.proofs.AtOnce.{cycles_several}
 use Rattle.vm_world.proofs.Asked.{none_asked, asked_less, asked_again, asked_still, asked_counted}
 use Rattle.vm_world_law.proofs.Lists.{set_long}
 use Rattle.std.proofs.lemmas.List.{length-replicate}
@@ -22,6 +23,24 @@ bounds-ahead-place c =
     c.loop-left.left c.loop-left.idle c.loop-left.next c.loop-left.invariant.several c.if-idle-order.true c.requires.numbers
     (get_or c.args.order.now c.loop-left.next 0) refl
 
+pub overflow_sub-left : goal.overflow_sub-left
+overflow_sub-left c =
+    let turns = c.count_cycles-left.ensures.turns in
+    let within = c.cycles_at_once-cycles.ensures.within in
+    omega (arith, turns, within)
+
+pub loop-left-preserved-then-cycles-gt0 : goal.loop-left-preserved-then-cycles-gt0
+loop-left-preserved-then-cycles-gt0 c = record {
+  several = cycles_several c.args.self.now.program c.args.self.now.world c.args.order.now c.args.limit c.loop-left.self
+      c.requires.numbers c.loop-left.ahead c.loop-left.left c.loop-left.idle c.loop-left.next c.loop-left.invariant.several
+      c.if-idle-order.true c.if-next-eq0.true c.cycles_at_once-cycles.result c.count_cycles-left.result _ c.if-cycles-gt0.true
+      c.count_cycles-left.ensures.turns c.cycles_at_once-cycles.ensures.within c.cycles_at_once-cycles.ensures.ahead
+      c.count_cycles-left.ensures.long c.count_cycles-left.ensures.each;
+  asked = asked_less c.loop-left.self c.loop-left.asked c.loop-left.version c.loop-left.left c.args.limit c.loop-left.invariant.asked
+      c.count_cycles-left.result;
+  long = c.loop-left.invariant.long;
+}
+
 pub loop-left-preserved-then-ahead-place-gt0 : goal.loop-left-preserved-then-ahead-place-gt0
 loop-left-preserved-then-ahead-place-gt0 c = record {
   several = come_several c.args.self.now.program c.args.self.now.world c.args.order.now c.args.limit c.loop-left.self c.requires.numbers
@@ -33,8 +52,8 @@ loop-left-preserved-then-ahead-place-gt0 c = record {
   long = c.loop-left.invariant.long;
 }
 
-pub overflow_sub-left : goal.overflow_sub-left
-overflow_sub-left c =
+pub overflow_sub-left-then-ahead-place-gt0 : goal.overflow_sub-left-then-ahead-place-gt0
+overflow_sub-left-then-ahead-place-gt0 c =
     come_within c.args.self.now.program c.args.self.now.world c.args.order.now c.args.limit c.loop-left.self c.requires.numbers
     c.loop-left.next (get_or c.args.order.now c.loop-left.next 0) refl c.loop-left.ahead c.loop-left.left c.loop-left.idle
     c.loop-left.invariant.several c.if-idle-order.true c.loop-left-test.true c.if-ahead-place-gt0.true c.come_at_once-come.result
@@ -96,6 +115,12 @@ loop-left-preserved-then-counted-eq0 c =
 
 pub bounds-ahead-place-in-loop-left : goal.bounds-ahead-place-in-loop-left
 bounds-ahead-place-in-loop-left c =
+    within_ahead c.args.self.now.program c.args.self.now.world c.args.order.now c.args.limit c.loop-left.self c.loop-left.ahead
+    c.loop-left.left c.loop-left.idle c.loop-left.next c.loop-left.invariant.several c.if-idle-order.true c.requires.numbers
+    (get_or c.args.order.now c.loop-left.next 0) refl
+
+pub bounds-ahead-place-in-loop-left-2 : goal.bounds-ahead-place-in-loop-left-2
+bounds-ahead-place-in-loop-left-2 c =
     within_ahead c.args.self.now.program c.args.self.now.world c.args.order.now c.args.limit c.loop-left.self c.loop-left.ahead
     c.loop-left.left c.loop-left.idle c.loop-left.next c.loop-left.invariant.several c.if-idle-order.true c.requires.numbers
     (get_or c.args.order.now c.loop-left.next 0) refl

@@ -10,15 +10,15 @@ returns-then-taken-gt0-clause-turns c =
     c.if-taken-gt0.true
     c.turns_alone-taken.ensures.turns
 
-pub advance-requires-clause-number : goal.advance-requires-clause-number
-advance-requires-clause-number c =
+pub go_on-requires-clause-number : goal.go_on-requires-clause-number
+go_on-requires-clause-number c =
     let same : c.turns_alone-taken.new.self ≡ c.args.self.now =
     none_taken c.args.self.now c.turns_alone-taken.new.self c.args.role c.turns_alone-taken.result c.turns_alone-taken.ensures.program
     c.turns_alone-taken.ensures.turns c.if-taken-gt0.false in
     subst (λ (s : Seen). c.args.role < length s.world.roles) (sym same) c.requires.number
 
-pub advance-requires-clause-count : goal.advance-requires-clause-count
-advance-requires-clause-count c =
+pub go_on-requires-clause-count : goal.go_on-requires-clause-count
+go_on-requires-clause-count c =
     let same : c.turns_alone-taken.new.self ≡ c.args.self.now =
     none_taken c.args.self.now c.turns_alone-taken.new.self c.args.role c.turns_alone-taken.result c.turns_alone-taken.ensures.program
     c.turns_alone-taken.ensures.turns c.if-taken-gt0.false in
@@ -30,7 +30,7 @@ returns-then-counted-clause-turns c =
     let same : c.turns_alone-taken.new.self ≡ c.args.self.now =
     none_taken c.args.self.now c.turns_alone-taken.new.self c.args.role c.turns_alone-taken.result c.turns_alone-taken.ensures.program
     c.turns_alone-taken.ensures.turns c.if-taken-gt0.false in
-    counts_one c.args.self.now c.turns_alone-taken.new.self c.args.role c.advance.new.self.world c.in_ok-counted.counted same
+    counts_one c.args.self.now c.turns_alone-taken.new.self c.args.role c.go_on.new.self.world c.in_ok-counted.counted same
     c.if-counted.true
     c.in_ok-counted.ensures.advances
 
@@ -39,6 +39,6 @@ returns-else-counted-clause-turns c =
     let same : c.turns_alone-taken.new.self ≡ c.args.self.now =
     none_taken c.args.self.now c.turns_alone-taken.new.self c.args.role c.turns_alone-taken.result c.turns_alone-taken.ensures.program
     c.turns_alone-taken.ensures.turns c.if-taken-gt0.false in
-    counts_none c.args.self.now c.turns_alone-taken.new.self c.args.role c.advance.new.self.world c.in_ok-counted.counted same
+    counts_none c.args.self.now c.turns_alone-taken.new.self c.args.role c.go_on.new.self.world c.in_ok-counted.counted same
     c.if-counted.false
     c.in_ok-counted.ensures.advances

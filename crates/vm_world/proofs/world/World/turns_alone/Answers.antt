@@ -27,12 +27,14 @@ turns_alone-requires-clause-typed c =
     subst (λ k. c.args.role < k) (many c.self.inside.roles.items)
     (subst (λ (s : Seen). c.args.role < length s.world.roles) (sym c.self.view_is) c.requires.number) in
     suits_at c.self.inside.linked c.self.inside.roles.items c.args.role c.index_mut-one.result.now lt c.index_mut-one.ensures.value
-    c.self.inside.flat c.self.invariant.1
+    c.self.inside.flat c.self.invariant.0.1
 
 pub invariant_of-self : goal.invariant_of-self
 invariant_of-self c =
     let lt : c.args.role < length c.self.inside.roles.items =
     subst (λ k. c.args.role < k) (many c.self.inside.roles.items)
-    (subst (λ (s : Seen). c.args.role < length s.world.roles) (sym c.self.view_is) c.requires.number) in
-    kept_alone c.self.inside.linked c.self.inside.roles.items c.args.role c.index_mut-one.result.now lt c.index_mut-one.ensures.value
-    c.turns_alone.new.role c.self.inside.flat c.turns_alone.result c.turns_alone.ensures.turns c.self.invariant
+    (subst (λ (s : Seen). c.args.role < length s.world.roles) (sym c.self.view_is) c.requires.number) in (
+      kept_alone c.self.inside.linked c.self.inside.roles.items c.args.role c.index_mut-one.result.now lt c.index_mut-one.ensures.value
+          c.turns_alone.new.role c.self.inside.flat c.turns_alone.result c.turns_alone.ensures.turns c.self.invariant.0,
+      c.self.invariant.1,
+    )

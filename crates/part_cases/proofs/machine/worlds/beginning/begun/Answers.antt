@@ -3,7 +3,7 @@ use Rattle.std.specs.List.{IsDistinct}
 use Rattle.std.specs.Str.{bytes_eq}
 use Rattle.vm_world_law.specs.declared.role.RoleMain.{RoleMain}
 use Rattle.part_cases.proofs.Beginning.{two_roles}
-use Rattle.part_cases.proofs.machine.worlds.world.begun.Goals as goal
+use Rattle.part_cases.proofs.machine.worlds.beginning.begun.Goals as goal
 
 pub new-requires-clause-distinct : goal.new-requires-clause-distinct
 new-requires-clause-distinct c =
