@@ -31,7 +31,10 @@ function tokenize(file,    line, text, row, at, size, open, command) {
                 if (!match(text, /\*\//)) { if (at + size > length(line)) break; at += size - 1; continue }
                 RLENGTH += RSTART - 1; open = 0
             } else if (match(text, /^[ \t\r\f]+/)) { }
-            else if (match(text, /^\/\//)) break
+            else if (match(text, /^\/\//)) {
+                # In Java a carriage return ends a comment too.
+                if (file !~ /\.java$/ || !(RLENGTH = index(substr(line, at), "\r"))) break
+            }
             else if (match(text, /^\/\*/)) open = 1
             else {
                 if (match(text, /^[A-Za-z0-9_$]+/)) { }
@@ -437,6 +440,7 @@ function in_place_of(file, word) {
 function byte_hint(file, row, col,    text, byte) {
     text = line_of(file, row); byte = substr(text, col, 1)
     if (byte == "\047" && file ~ /\.java$/) return "there are no characters: a text stands between double quotes, and has the type String"
+    if (byte == "\\" && file ~ /\.java$/) return substr(text, col + 1, 1) == "u" ? "Java reads \\u as an escape of Unicode, in comments too: write \\\\u" : ""
     if (file ~ /\.java$/) return ""
     if (byte == "#") return "a comment begins with //, or stands between /* and */"
     if (byte == "[") return "there are no arrays: a type is int, boolean, String or a declared name"

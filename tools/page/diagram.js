@@ -26,12 +26,15 @@ const measure = (() => {
     };
 })();
 
-const STATE_FONT = 12, CALL_FONT = 11, LINE = 14, MOST_STATES = 120;
+const STATE_FONT = 12, CALL_FONT = 11, LINE = 14, MOST_STATES = 120, MOST_ENDS = 400;
 
 const stateKey = (state, ...words) => [state, ...words].join(' ');
 function grouped(list, keyOf) {
     const groups = new Map();
-    for (const it of list) groups.set(keyOf(it), [...groups.get(keyOf(it)) ?? [], it]);
+    for (const it of list) {
+        const key = keyOf(it), group = groups.get(key);
+        if (group) group.push(it); else groups.set(key, [it]);
+    }
     return groups;
 }
 
@@ -135,7 +138,7 @@ function diagram(typestate) {
     const box = [-EDGE, -FIRST - EDGE / 2, size.width + 2 * EDGE, size.height + FIRST + 1.5 * EDGE].map(Math.ceil);
     return tag('svg', {
         class: 'diagram', width: box[2], height: box[3], viewBox: box.join(' '), role: 'img',
-        'aria-label': `the typestate ${typestate.name}`,
+        'aria-label': `the typestate ${typestate.name}, which stands below in words`,
     }, arrowHead('tip'), start, ...lines, ...shapes);
 }
 function stateShape({ kind, name, x, y, width, height }) {

@@ -28,13 +28,14 @@ function markdown(text) {
     return parts.map(part => part.startsWith('```') ? block(part) : paragraphs(part)).join('');
 }
 
-// The section of a fault in a file, of which a part that is about files of another kind is left out.
+// The section of a fault in a file: its head, and those of its parts that are about files of that kind, or else about types.
 function explanation(section, file) {
     const kinds = [
-        [/\.scr$/, /Scribble/], [/\.protocol$/, /typestate/], [/\.java$/, /Java|Types|class files$/],
-        [/\.class$/, /class file/],
+        [/\.scr$/, /Scribble/], [/\.protocol$/, /typestate/], [/\.java$/, /Java|Types/], [/\.class$/, /class file/],
+        [/(^|\/)[^.]*$/, /calls/],
     ];
-    const [head, ...parts] = section.split(/^(?=### )/m), mine = kinds.find(([ending]) => ending.test(file ?? ''));
-    const fitting = mine ? parts.filter(part => mine[1].test(part.split('\n')[0])) : [];
-    return markdown([head, ...fitting.length ? fitting : parts].join('\n'));
+    const [head, ...parts] = `\n${section}`.split(/^(?=### )/m), mine = file && kinds.find(([ending]) => ending.test(file));
+    const of = form => parts.filter(part => form.test(part.split('\n')[0]));
+    const fitting = mine ? [of(mine[1]), of(/Types/), []].find(list => list.length) ?? [] : parts;
+    return markdown([head, ...fitting].join('\n'));
 }

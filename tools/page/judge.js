@@ -1,4 +1,5 @@
-//! What the program says of a set of files: the verdict, and what it makes of them. It is asked after each change.
+//! What the program says of a set of files: the verdict, and what it makes of them. It is asked after each change, and
+//! runs in the Worker.
 'use strict';
 
 const FAULT = /^(.+):(\d+):(\d+): ([A-Z][A-Za-z]+)(?: ([^:\n]*))?$/, BARE = /^mungo: (\w+) ?(.*)$/;
@@ -7,7 +8,7 @@ const isSource = name => /\.(scr|protocol|java)$/.test(name);
 const isGlobal = (name, text) => name.endsWith('.scr') && /\bglobal\s+protocol\b/.test(withoutComments(text));
 // A text with blanks in place of comments, so that places stay.
 function withoutComments(text) {
-    return text.replace(/\/\*[^]*?\*\/|\/\/[^\n]*/g, comment => comment.replace(/[^\n]/g, ' '));
+    return text.replace(/\/\*[^]*?(?:\*\/|$)|\/\/[^\n]*/g, comment => comment.replace(/[^\n]/g, ' '));
 }
 
 // Judges files, a map from names to texts. The answer:
@@ -15,8 +16,6 @@ function withoutComments(text) {
 //   fitted      what `fit` gave of an accepted program and its one global protocol; null where there is nothing to fit
 //   told        what refuses: the verdict, or else what `fit` gave; null where nothing does
 //   faults      of a refusal its lines, as { file, line, column, kind, about }; file is null where one has no place
-//   shown       what `show` gave; null where there is no program
-//   seen        a map from files to the calls in them that `show` tells, as seen.js reads them
 //   globals     the names of the files with global protocols
 //   sources     the files that are one program, a map in order; those are among them that `project` made
 //   program     their names
@@ -44,10 +43,9 @@ function judge(files) {
     const words = verdict.status === 0 && globals.length === 1 ? fitWords(globals[0], sources) : [];
     const fitted = words.length ? answer(words, new Map([...sources, ...files])) : null;
     const told = [verdict, fitted].find(it => it && it.status !== 0) ?? null, faults = told ? faultsOf(told.err) : [];
-    const shown = program.length ? answer(['show', ...program], sources) : null, seen = readSeen(shown?.out ?? '');
     const isTranslated = !translated || translated.status === 0;
     const made = { globals, sources, program, given, isTranslated };
-    return { verdict, fitted, told, faults, shown, seen, ...made, ...meaningOf(sources, given) };
+    return { verdict, fitted, told, faults, ...made, ...meaningOf(sources, given) };
 }
 
 // The words that ask whether the roles of a program fit a global protocol; none where no class plays a role.
@@ -76,35 +74,6 @@ function faultOf(line) {
     if (!placed) return { file: null, line: 0, column: 0, kind: bare?.[1] ?? '', about: bare?.[2] ?? '' };
     const [, file, row, column, kind, about = ''] = placed;
     return { file, line: Number(row), column: Number(column), kind, about };
-}
-
-// Where a fault stands in a text: the offset of its first letter, and that behind its word. Columns count bytes.
-function spanOf(text, fault) {
-    const lines = text.split('\n'), before = lines.slice(0, fault.line - 1).reduce((sum, it) => sum + it.length + 1, 0);
-    const from = before + toText(toBytes(lines[fault.line - 1] ?? '').slice(0, fault.column - 1)).length;
-    const word = /^(\w+|[^])/.exec(text.slice(from));
-    return [Math.min(from, text.length), Math.min(from + (word ? word[0].length : 0), text.length)];
-}
-
-// The typestate of the class that a variable is declared of, before a place { file, line, column } if it is; or null.
-function typestateOf(variable, place, { sources, classes, typestates }) {
-    const text = sources.get(place.file);
-    if (!text || !/^\w+$/.test(variable)) return null;
-    const declared = new RegExp(`\\b(\\w+)\\s+${variable}\\b`, 'g'), [, until] = spanOf(text, place);
-    const found = [...withoutComments(text).matchAll(declared)].map(it => ({ at: it.index, name: it[1] }));
-    const known = found.map(it => ({ at: it.at, typestate: typestates.get(classes.get(it.name)) }))
-        .filter(it => it.typestate);
-    // A field may be declared behind the methods that use it.
-    return (known.filter(it => it.at < until).pop() ?? known[0])?.typestate ?? null;
-}
-
-// The state that a fault tells, where it tells a variable and a state: that of the class that the variable is declared
-// of, and what it offers. Else null.
-function stateOf(fault, judged) {
-    const [variable, state] = (fault?.about ?? '').split(' ');
-    const typestate = state ? typestateOf(variable, fault, judged) : null;
-    if (!typestate?.states.includes(state)) return null;
-    return { typestate, state, offers: typestate.calls.filter(call => call.from === state).map(call => call.text) };
 }
 
 // The words of the run of a program, by its classes with a main: those that make the object of a role play that role.

@@ -3,93 +3,218 @@
 
 const examples = JSON.parse(element('examples').textContent), sections = JSON.parse(element('faults').textContent);
 
+// What is known of files that aren't judged.
+const UNJUDGED = {
+    verdict: { status: 0, out: '', err: '', written: new Map() }, fitted: null, told: null, faults: [], globals: [],
+    sources: new Map(), program: [], given: new Map(), isTranslated: true, typestates: new Map(), classes: new Map(),
+    shown: null, seen: new Map(),           // what `show` gave, and the calls that it tells, as seen.js reads them
+};
+
 const page = {
     files: new Map(), at: '',               // the files, a map from names to texts, and the one that is shown
+    pick: null, isWritten: false, link: '', // the example that was opened, or null; whether it was changed; its link
     judged: null, took: 0, count: 0,        // what judge.js says of them, in how many milliseconds, for the which time
+    change: 0, judgedChange: 0,             // how often the files have changed, and behind which change they were judged
     fault: 0, call: null,                   // which of the faults is chosen, and the call of `show` that is, or null
     words: null, auto: '',                  // the words of the run that were written, or null, and those found
-    ran: null, run: null,                   // what `run` gave, and what sequence.js reads in its trace
+    ran: undefined, run: null,              // what `run` gave, null where nothing runs, and what sequence.js reads in it
     objects: new Map(), step: 0, window: null,      // the run's objects, the step that is shown, and the first row
     typestates: new Map(), shown: '', drawn: '',    // the typestates, the one that is drawn, and its HTML
-    view: 'run',
+    view: 'run', viewed: 0,                 // the view, and how often one was asked for
+    isJudged() { return this.change === this.judgedChange; },
     textOf(name) { return this.files.get(name) ?? this.judged.given.get(name)?.text ?? ''; },
     texts() { return joinedTexts([...this.judged.given].map(([name, made]) => [name, made.text]), this.files); },
 };
 
 // ---- judging ----
-// Judges the files, and shows the verdict; what takes longer comes when the user pauses.
-let later = 0;
-function judgeNow(isTyping = false) {
-    const began = performance.now();
-    page.judged = judge(page.files);
-    Object.assign(page, { fault: 0, call: null });
-    if (!page.files.has(page.at) && !page.judged.given.has(page.at)) page.at = [...page.files.keys()][0] ?? '';
-    showFiles(page);
-    showVerdict(page);
-    page.took = performance.now() - began;
-    page.count++;
-    element('time').textContent = `${page.took.toFixed(0)} ms`;
-    clearTimeout(later);
-    later = setTimeout(showRest, isTyping ? 150 : 0);
-}
-function showRest() {
+// The files have changed. What is under way ends, since it is about what isn't there any more, and what was said of the
+// files before isn't shown: it is hidden at once, or where the last judgement was quick when this one takes longer.
+// Typed text is judged when nothing has been typed for PAUSE milliseconds.
+const QUICK = 40, PAUSE = 60, REST = 150;
+let pause = 0, later = 0;
+function filesChanged(isTyping = false) {
+    page.change++;
+    work.end();
+    clearTimeout(pause);
     clearTimeout(later);
     later = 0;
-    runProgram(page);
+    document.body.dataset.waits = isTyping && page.took < QUICK ? 'briefly' : 'long';
+    for (const id of ['drawn', 'view']) element(id).classList.add('stale');
+    element('time').textContent = 'judging';
+    pause = setTimeout(judgeNow, isTyping ? PAUSE : 0, isTyping);
+    showBusy();
+    if (!keep(page)) notice('This browser has no room to keep what is written: a reload would lose it.');
+}
+// Judges the files, and shows the verdict, then the states beside the text, where the last judgement was quick both at
+// once; and what takes longer when the user pauses.
+async function judgeNow(isTyping) {
+    const began = performance.now(), isQuick = page.took < QUICK;
+    pause = 0;
+    const judged = { ...UNJUDGED, ...await askJudge(page.files) };
+    if (isQuick) await addCalls(judged);
+    takeVerdict(judged);
+    page.took = performance.now() - began;
+    element('time').textContent = `${page.took.toFixed(0)} ms`;
+    if (!isQuick && await addCalls(judged)) {
+        showFile(page);
+        if (judged.told) showVerdict(page);
+    }
+    later = setTimeout(showRest, isTyping ? REST : 0);
+}
+// Adds to what was judged the calls that `show` tells. Whether there is a program that may have some.
+async function addCalls(judged) {
+    const { program, sources } = judged;
+    if (!program.length) return false;
+    judged.shown = await ask(['show', ...program], sources);
+    judged.seen = readSeen(judged.shown.out);
+    return true;
+}
+function takeVerdict(judged) {
+    Object.assign(page, { judged, fault: 0, call: null, judgedChange: page.change, count: page.count + 1 });
+    if (!page.files.has(page.at) && !judged.given.has(page.at)) page.at = [...page.files.keys()][0] ?? '';
+    forgetRun();
+    showFiles(page);
+    showVerdict(page);
+    delete document.body.dataset.waits;
+}
+// The run isn't known any more. Where it was shown to its end, the next one is.
+function forgetRun() {
+    const isAtEnd = !page.run || page.step === page.run.events.length;
+    Object.assign(page, { ran: undefined, run: null, objects: new Map(), step: isAtEnd ? Infinity : page.step });
+}
+// Shows the typestates, the run and the view.
+async function showRest() {
+    later = 0;
+    element('view').classList.add('stale');
     page.shown = stateOf(page.judged.faults[page.fault], page.judged)?.typestate.name ?? page.shown;
     showTypestates(page);
-    showView();
+    await runProgram(page);
+    await showView();
 }
 function goToStep(step) {
+    if (!page.run) return;
     page.call = null;
     showStep(page, step, true);
 }
-function showView() {
-    const view = views[page.view], controls = element('controls');
+// Shows the view that was asked for last. Where the files aren't judged it comes when they are.
+async function showView() {
+    const view = views[page.view], controls = element('controls'), turn = ++page.viewed;
     const tabs = Object.entries(views).map(([name, { title }]) => nameButton(name, name === page.view, {}, title));
     setBar(element('views'), tabs.join(''));
     if (controls.dataset.view !== page.view) controls.innerHTML = view.controls;
     controls.dataset.view = page.view;
-    element('view').innerHTML = view.body(page);
+    if (!page.isJudged()) return;
+    element('view').classList.add('stale');
+    const html = await view.body(page);
+    if (turn !== page.viewed) return;
+    element('view').innerHTML = html;
+    element('view').classList.remove('stale');
     showStep(page, page.step, false);
 }
-// A change of the text is judged at once. Where that takes long, it is judged when nothing has been typed for as long.
-let pause = 0;
+// Ends what is under way, and says so.
+function stop(why = 'Stopped.') {
+    const button = tag('button', { class: 'again' }, 'Again'), stopped = hint(why) + tag('p', {}, button);
+    work.end();
+    clearTimeout(pause);
+    clearTimeout(later);
+    pause = later = 0;
+    if (!page.isJudged()) {
+        page.judged = UNJUDGED;
+        showFiles(page);
+        element('say').innerHTML = stopped;
+        element('time').textContent = '';
+        delete document.body.dataset.waits;
+    }
+    page.viewed++;
+    element('view').innerHTML = stopped;
+    element('view').classList.remove('stale');
+    sayAloud(why);
+    showBusy();
+}
+// A change of the text.
 function typed() {
-    const SHORT = 80, LONG = 1000;
     if (!page.files.has(page.at)) return;
     page.files.set(page.at, element('text').value);
-    clearTimeout(pause);
-    if (page.took < SHORT) return judgeNow(true);
-    showText(element('text').value, [], '', false);
-    pause = setTimeout(judgeNow, Math.min(page.took, LONG), true);
+    page.isWritten = true;
+    const isQuick = page.took < QUICK;
+    showText(element('text').value, isQuick ? sheet.spans : [], isQuick ? sheet.beside : new Map(), false);
+    filesChanged(true);
+}
+// A text that would grow over what is shown stays as it is.
+function refuseLarge(event) {
+    const why = tooLarge(element('text').value + (event.data ?? ''));
+    if (!why || !event.data) return;
+    event.preventDefault();
+    notice('That would be more than is read and written here.');
 }
 
 // ---- programs ----
-function openProgram({ files, at, words = null }, about = '') {
-    Object.assign(page, { files: new Map(files), at, words, shown: '', run: null, typestates: new Map() });
+// Opens a program { files, at, words }, of an example by its number, or of none.
+function openProgram({ files, at, words = null }, about = '', pick = null) {
+    Object.assign(page, { files: new Map(files), at, words, pick, isWritten: false, judged: UNJUDGED, took: Infinity });
+    Object.assign(page, { shown: '', ran: undefined, run: null, objects: new Map(), typestates: new Map() });
     element('about').textContent = element('about').title = about;
-    judgeNow();
-    showRest();
+    if (pick === null) element('pick').selectedIndex = -1; else element('pick').value = String(pick);
+    for (const id of ['say', 'view']) element(id).innerHTML = '';
+    notice('');
+    filesChanged();
+    showFiles(page);
+    showTypestates(page);
     element('text').scrollTop = element('text').scrollLeft = 0;
     scrollText();
 }
 function openExample(number) {
     const { of, about, files, at, without = [] } = examples[number];
     const isKept = ([name]) => !without.includes(name);
-    element('pick').value = String(number);
-    openProgram({ files: Object.entries({ ...examples[of]?.files, ...files }).filter(isKept), at }, about);
+    openProgram({ files: Object.entries({ ...examples[of]?.files, ...files }).filter(isKept), at }, about, number);
+}
+async function pickExample(number) {
+    if (await mayReplace(page)) openExample(number);
+    else if (page.pick === null) element('pick').selectedIndex = -1;
+    else element('pick').value = String(page.pick);
 }
 async function makeLink() {
-    history.replaceState(null, '', await linkOf(page));
+    const link = await linkOf(page);
+    if (!link) return notice(`The program has more than ${MOST_UNPACKED >> 20} MiB: a link to it would not be opened.`);
+    history.replaceState(null, '', link);
+    page.link = location.hash;
+    keep(page);
     const isCopied = await navigator.clipboard?.writeText(location.href).then(() => true, () => false);
     element('link').textContent = isCopied ? 'Copied' : 'In the address';
     setTimeout(() => { element('link').textContent = 'Link'; }, 2000);
 }
+// Opens the program of the link in the address, where there is one. Whether it did; where it doesn't, it says why.
 async function openLink() {
+    if (!IS_LINK.test(location.hash)) return false;
     const linked = await programOf(location.hash);
-    if (linked) openProgram(linked, 'from a link');
-    return linked !== null;
+    if (linked.why) notice(linked.why);
+    else if (await mayReplace(page)) {
+        page.link = location.hash;
+        openProgram(linked, 'from a link');
+    } else history.replaceState(null, '', page.link || location.href.replace(/#.*/, ''));
+    return !linked.why;
+}
+// Opens the program that was open before a reload, and then a link that came with it; or a link; or the first example.
+async function openFirst() {
+    const kept = keptProgram(), hasLink = IS_LINK.test(location.hash);
+    page.link = kept?.link ?? '';
+    const isOther = hasLink && kept?.link !== location.hash;
+    if (kept && (kept.isWritten || !isOther)) {
+        openProgram(kept, kept.pick === null ? '' : examples[kept.pick].about, kept.pick);
+        Object.assign(page, { isWritten: kept.isWritten, view: kept.view });
+        keep(page);
+        if (!isOther) return;
+    }
+    if (!await openLink() && !page.files.size) {
+        const { textContent } = element('noted');
+        openExample(0);
+        notice(textContent);
+    }
+}
+// Shows a sentence above the page, or none.
+function notice(text) {
+    element('noted').textContent = text;
+    element('notice').hidden = !text;
 }
 
 // ---- files ----
@@ -103,7 +228,8 @@ function openFile(name) {
 function goToPlace(place) {
     if (!place?.file || !page.textOf(place.file)) return;
     openFile(place.file);
-    goTo(spanOf(page.textOf(place.file), place)[0]);
+    const text = page.textOf(place.file);
+    goTo(spanOf(text, lineStarts(text), place)[0]);
 }
 function chooseFault(number) {
     const fault = page.judged.faults[number];
@@ -141,8 +267,13 @@ function takeName() {
     if (!name || name.startsWith('-') || page.files.has(name)) return;
     const renamed = [...page.files].map(([old, text]) => [old === page.at ? name : old, text]);
     page.files = new Map(isNew ? [...page.files, [name, '']] : renamed);
-    page.at = name;
-    judgeNow();
+    writtenAt(name);
+}
+// Files were written anew, of which one is shown.
+function writtenAt(name) {
+    Object.assign(page, { at: name, isWritten: true });
+    filesChanged();
+    showFiles(page);
 }
 function endNaming() {
     element('naming').hidden = true;
@@ -150,39 +281,37 @@ function endNaming() {
 }
 function removeFile() {
     if (page.files.size < 2 || !page.files.delete(page.at)) return;
-    page.at = '';
-    judgeNow();
+    writtenAt([...page.files.keys()][0]);
 }
 
 // ---- what the user does ----
+const on = (id, kind, then) => element(id).addEventListener(kind, then);
+const pressed = (id, then) => on(id, 'click', event => {
+    const it = event.target.closest('button');
+    if (it) then(it);
+});
 function listen() {
-    const on = (id, kind, then) => element(id).addEventListener(kind, then);
-    const pressed = (id, then) => on(id, 'click', event => {
-        const it = event.target.closest('button');
-        if (it) then(it);
-    });
-    const steps = { begin: () => 0, back: () => page.step - 1, next: () => page.step + 1, finish: () => Infinity };
+    listenToHead();
+    listenToFiles();
+    listenToPanes();
+    window.addEventListener('hashchange', openLink);
+    window.addEventListener('resize', scrollText);
+    window.addEventListener('pagehide', () => keep(page));
+}
+function listenToHead() {
+    on('pick', 'change', ({ target }) => pickExample(Number(target.value)));
+    on('link', 'click', makeLink);
+    on('states-beside', 'click', toggleBeside);
+    on('stop', 'click', () => stop());
+    on('unnoted', 'click', () => notice(''));
+    for (const id of ['replace', 'leave']) on(id, 'click', () => element('question').close(id));
+}
+function listenToFiles() {
     pressed('tabs', ({ dataset }) => {
         if (dataset.name) openFile(dataset.name);
         else if (dataset.do === 'remove') removeFile();
         else askName(dataset.do);
     });
-    pressed('states', it => { page.shown = it.dataset.name; showTypestates(page); });
-    pressed('views', it => { page.view = it.dataset.name; showView(); });
-    pressed('say', it => { if (it.dataset.fault) chooseFault(Number(it.dataset.fault)); });
-    pressed('controls', it => { if (it.id === 'go') showView(); else goToStep(steps[it.id]()); });
-    on('view', 'click', event => {
-        const row = event.target.closest('.row'), call = event.target.closest('[data-call]');
-        if (row) goToStep(Number(row.dataset.at));
-        if (call) chooseCall(Number(call.dataset.call));
-    });
-    on('controls', 'input', ({ target }) => { if (target.id === 'slide') goToStep(Number(target.value)); });
-    on('controls', 'change', ({ target }) => {
-        if (target.id === 'words') { page.words = target.value.trim() || null; showRest(); }
-        if (target.tagName === 'SELECT') showView();
-    });
-    on('controls', 'keydown', ({ key, target }) => { if (key === 'Enter' && target.id === 'command') showView(); });
-    on('pick', 'change', ({ target }) => openExample(Number(target.value)));
     on('named', 'click', takeName);
     on('unnamed', 'click', endNaming);
     on('naming', 'keydown', event => {
@@ -191,18 +320,48 @@ function listen() {
         event.preventDefault();
         takeName();
     });
-    on('link', 'click', makeLink);
-    on('states-beside', 'click', toggleBeside);
     on('text', 'scroll', scrollText);
+    on('text', 'beforeinput', refuseLarge);
     on('text', 'input', typed);
-    window.addEventListener('hashchange', openLink);
+    pressed('say', it => { if (it.dataset.fault && page.isJudged()) chooseFault(Number(it.dataset.fault)); });
+    pressed('say', againWhenPressed);
+}
+function listenToPanes() {
+    const steps = { begin: () => 0, back: () => page.step - 1, next: () => page.step + 1, finish: () => Infinity };
+    pressed('states', it => { page.shown = it.dataset.name; showTypestates(page); });
+    pressed('views', it => { page.view = it.dataset.name; showView(); });
+    pressed('controls', it => { if (it.id === 'go') showView(); else goToStep(steps[it.id]()); });
+    on('controls', 'input', ({ target }) => { if (target.id === 'slide') goToStep(Number(target.value)); });
+    on('controls', 'change', ({ target }) => {
+        if (target.id === 'words') wordsChanged(target.value.trim() || null);
+        if (target.tagName === 'SELECT') showView();
+    });
+    on('controls', 'keydown', ({ key, target }) => { if (key === 'Enter' && target.id === 'command') showView(); });
+    pressed('view', againWhenPressed);
+    on('view', 'click', event => {
+        const row = event.target.closest('.row'), call = event.target.closest('[data-call]');
+        if (row) goToStep(Number(row.dataset.at));
+        if (call && page.isJudged()) chooseCall(Number(call.dataset.call));
+    });
+}
+const againWhenPressed = it => { if (it.classList.contains('again')) filesChanged(); };
+// The words of the run are others: what runs by the earlier ones ends.
+function wordsChanged(words) {
+    Object.assign(page, { words, isWritten: true });
+    keep(page);
+    if (!page.isJudged()) return;
+    work.end();
+    forgetRun();
+    showRest();
 }
 
 async function start() {
     try {
         await loadProgram(element('module').textContent);
+        work.failed = why => stop(`The browser ended the program: ${why}`);
+        work.begin();
     } catch (fault) {
-        element('say').textContent = `This page needs WebAssembly and DecompressionStream: ${fault.message}`;
+        element('say').textContent = `This page needs WebAssembly, DecompressionStream and Worker: ${fault.message}`;
         document.body.dataset.ready = 'no';
         return;
     }
@@ -212,7 +371,7 @@ async function start() {
     element('pick').innerHTML = group('Examples', options.filter(it => !it.isRefused))
         + group('Refused', options.filter(it => it.isRefused));
     listen();
-    if (!await openLink()) openExample(0);
+    await openFirst();
     document.body.dataset.ready = 'yes';
 }
 start();

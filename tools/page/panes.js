@@ -10,10 +10,16 @@ function setBar(bar, html) {
     bar.innerHTML = html;
     if (place >= 0) bar.children[Math.min(place, bar.children.length - 1)]?.focus();
 }
+// Puts HTML into a pane. Where something was unfolded in it, it is again.
+function setFolded(pane, html) {
+    const isOpen = pane.querySelector('details')?.open ?? false;
+    pane.innerHTML = html;
+    for (const it of pane.querySelectorAll('details')) it.open = isOpen;
+}
 
 // ---- files ----
 function showFiles(page) {
-    const { given, faults } = page.judged, bad = new Set(faults.map(it => it.file));
+    const { given } = page.judged, bad = new Set(faultsNow(page).map(it => it.file));
     const isBad = name => bad.has(name) ? 'bad' : '';
     const own = [...page.files.keys()].map(name => nameButton(name, name === page.at, { class: isBad(name) }));
     const made = [...given].map(([name, { by }]) => {
@@ -27,33 +33,39 @@ function showFiles(page) {
     showFile(page);
 }
 function showFile(page) {
-    const text = page.textOf(page.at), { faults, seen } = page.judged;
-    const spans = faults.filter(it => it.file === page.at).map(it => spanOf(text, it));
-    showText(text, spans, besideText(text, seen.get(page.at) ?? []), !page.files.has(page.at));
+    const text = page.textOf(page.at), starts = lineStarts(text), seen = page.isJudged() ? page.judged.seen : new Map();
+    const spans = faultsNow(page).filter(it => it.file === page.at).map(it => spanOf(text, starts, it));
+    showText(text, spans, besideLines(seen.get(page.at) ?? []), !page.files.has(page.at));
 }
+const faultsNow = page => page.isJudged() ? page.judged.faults : [];
 
 // ---- the verdict ----
 function showVerdict(page) {
     element('say').innerHTML = page.judged.told ? refusedText(page) : acceptedText(page.judged);
+    sayAloud(verdictWords(page.judged));
+}
+// Puts a sentence where it is read aloud. One that stands there already isn't said again.
+function sayAloud(sentence) {
+    if (element('told').textContent !== sentence) element('told').textContent = sentence;
 }
 function acceptedText({ verdict, fitted, globals, program }) {
-    const rows = verdict.out.split('\n').filter(Boolean).map(line => line.split(' = '));
+    const lines = verdict.out.split('\n').filter(Boolean), rows = lines.slice(0, MOST_LISTED).map(line => line.split(' = '));
     const row = ([what, held = '']) => tag('tr', {}, tag('td', {}, escaped(what)), tag('td', {}, escaped(held)));
     const table = tag('p', {}, 'What variables may hold:') + tag('table', {}, ...rows.map(row));
     const fits = fitted ? ` The roles fit ${globals[0]}: in no run do they get stuck on one another.` : '';
     const verdictText = program.length ? `Accepted.${fits}` : 'Nothing is refused.';
-    return tag('div', { class: 'yes' }, escaped(verdictText)) + (rows.length ? table : '');
+    return tag('div', { class: 'yes' }, escaped(verdictText)) + (rows.length ? table + notListed(lines.length) : '');
 }
 // The lines that refuse, each a button that leads to its place, and what is to be said of the one that is chosen.
 function refusedText({ judged, fault: chosen }) {
-    const { verdict, told, faults, globals } = judged, MOST = 100;
+    const { verdict, told, faults, globals } = judged;
     const lines = told.err.split('\n').filter(Boolean), fault = faults[chosen];
     const lineButton = (text, at) => tag('button', {
         class: 'no', 'data-fault': at, title: 'goes to the place', ...at === chosen && { id: 'fault' },
         ...at === chosen && lines.length > 1 && { 'aria-current': 'true' },
     }, escaped(text));
-    const list = (lines.length ? lines : [statusText(told.status)]).slice(0, MOST).map(lineButton).join('');
-    const more = lines.length > MOST ? hint(`and ${lines.length - MOST} more`) : '';
+    const list = (lines.length ? lines : [statusText(told.status)]).slice(0, MOST_LISTED).map(lineButton).join('');
+    const more = notListed(lines.length);
     const alone = `The program is accepted by \`check\`; \`fit\` refuses it with ${globals[0]}.`;
     const which = verdict.status === 0 ? tag('p', {}, inline(alone)) : '', section = sections[fault?.kind];
     return list + more + which + offersText(stateOf(fault, judged)) + ledText(fault, judged)
@@ -80,25 +92,29 @@ function offersText(found) {
 function showTypestates(page) {
     const { typestates, isTranslated } = page.judged, drawn = element('drawn');
     // While a protocol is being changed, and is refused, the diagrams of before stay, and are pale.
-    const isStale = !isTranslated && !typestates.size && page.typestates.size > 0;
+    const isStale = !page.isJudged() || !isTranslated && !typestates.size && page.typestates.size > 0;
     if (!isStale) page.typestates = typestates;
     const names = [...page.typestates.keys()];
     if (!names.includes(page.shown)) page.shown = names[0] ?? '';
     setBar(element('states'), names.map(name => nameButton(name, name === page.shown)).join(''));
     drawn.classList.toggle('stale', isStale);
-    const html = names.length ? typestateHtml(page, page.typestates.get(page.shown)) : hint('No typestate here.');
-    if (page.drawn !== html) drawn.innerHTML = html;
+    const none = page.isJudged() ? hint('No typestate here.') : '';
+    const html = names.length ? typestateHtml(page, page.typestates.get(page.shown)) : none;
+    if (page.drawn !== html) setFolded(drawn, html);
     page.drawn = html;
     lightStates(page);
 }
 // A typestate as a diagram; of one with many states what stands around the place of its object, or around the first.
 function typestateHtml(page, typestate) {
-    if (typestate.states.length <= MOST_STATES) return diagram(typestate);
+    const drawing = it => diagram(it) + diagramWords(it);
+    if (isDrawable(typestate)) return drawing(typestate);
     const here = objectsOf(page, typestate.name)[0]?.step.state ?? typestate.states[0];
     const around = surroundings(typestate, here, 2);
     const line = hint(`${typestate.states.length} states. These are at most two calls away from ${here}:`);
-    return line + (around.states.length <= MOST_STATES ? diagram(around) : hint('They are too many to be drawn.'));
+    return line + (isDrawable(around) ? drawing(around) : hint('They, and their calls, are too many to be drawn.'));
 }
+const isDrawable = ({ states, calls }) => states.length <= MOST_STATES
+    && calls.reduce((sum, call) => sum + call.ends.length, 0) <= MOST_ENDS;
 // The objects of a typestate, each with where it stands at the step that is shown; the one that moved last comes first.
 function objectsOf(page, name) {
     const mine = [...page.objects.values()].filter(object => object.typestate.name === name);
@@ -132,17 +148,15 @@ function intoSight(pane, it) {
 }
 
 // ---- the run ----
-// Runs the program, where it is accepted. A step that was at the end stays at the end.
-function runProgram(page) {
+// Runs the program, where it is accepted.
+async function runProgram(page) {
     const { verdict, program, sources, typestates, classes } = page.judged;
     page.auto = runWords(sources);
-    const words = (page.words ?? page.auto).split(/\s+/).filter(Boolean);
-    const wasAtEnd = !page.run || page.step === page.run.events.length;
-    page.ran = verdict.status === 0 && words.length ? answer(['run', '--trace', ...words, ...program], sources) : null;
+    const words = (page.words ?? page.auto).split(/\s+/).filter(Boolean), isAccepted = verdict.status === 0;
+    page.ran = isAccepted && words.length ? await ask(['run', '--trace', ...words, ...program], sources) : null;
     page.run = page.ran && readRun(readTrace(page.ran.err));
     page.objects = page.run ? follow(page.run.events, typestates, classes) : new Map();
-    const count = page.run?.events.length ?? 0;
-    page.step = wasAtEnd ? count : Math.min(page.step, count);
+    page.step = Math.min(page.step, page.run?.events.length ?? 0);
 }
 function runBody(page) {
     if (document.activeElement !== element('words')) element('words').value = page.words ?? page.auto;
@@ -151,8 +165,9 @@ function runBody(page) {
     const isAccepted = page.judged.verdict.status === 0;
     if (!page.ran) return hint(isAccepted ? 'No class here has a `main`.' : 'A program that is refused isn’t run.');
     const ends = endings(page.ran.err).join('\n') || page.ran.err;
-    const said = [page.ran.out.trimEnd(), ends].filter(Boolean).join('\n');
-    return tag('div', { class: 'columns' }, tag('div', { id: 'lines' }), tag('pre', { class: 'plain' }, escaped(said)));
+    const said = [page.ran.out.trimEnd(), ends].filter(Boolean).map(beginning).join('\n');
+    const cut = page.run.events.length < MOST_EVENTS ? '' : hint(`Of the run the first ${MOST_EVENTS} events are shown.`);
+    return cut + tag('div', { class: 'columns' }, tag('div', { id: 'lines' }), tag('pre', { class: 'plain' }, escaped(said)));
 }
 // Shows the run up to a step: the sequence, and where objects stand. Where `follows` is set the typestate is drawn
 // whose object moved.
@@ -168,7 +183,7 @@ function showStep(page, step, follows) {
     if (follows && moved && moved.typestate.name !== page.shown) {
         page.shown = moved.typestate.name;
         showTypestates(page);
-    } else if (page.typestates.get(page.shown)?.states.length > MOST_STATES) showTypestates(page);
+    } else if (page.typestates.has(page.shown) && !isDrawable(page.typestates.get(page.shown))) showTypestates(page);
     else lightStates(page);
 }
 // Of a long run only the rows around the step are drawn: `page.window` is the first of them.
@@ -178,8 +193,8 @@ function showSequence(page) {
     const isInside = page.window !== null && page.step >= page.window && page.step <= page.window + MOST_ROWS;
     if (!isInside) {
         page.window = Math.max(0, Math.min(count - MOST_ROWS, page.step - MOST_ROWS / 2));
-        lines.innerHTML = sequence(page.run, page.window);
+        setFolded(lines, sequence(page.run, page.window) + sequenceWords(page.run, page.window));
     }
-    markStep(lines.firstChild, page.step);
+    markStep(lines, page.step);
     if (page.step) intoSight(element('view'), lines.querySelector('.row.now')); else element('view').scrollTop = 0;
 }

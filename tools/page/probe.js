@@ -11,9 +11,18 @@ const probe = (() => {
         };
     }
 
+    // Waits until nothing is under way, and all of it has been shown.
+    const isIdle = () => !pause && !later && !work.waiting.size;
+    async function settled() {
+        for (let quiet = 0; quiet < 3;) {
+            await new Promise(then => setTimeout(then, 2));
+            quiet = isIdle() ? quiet + 1 : 0;
+        }
+    }
+
     // A command over the files of the program that is open; the files that it writes are letters of base 64.
-    function answered(words) {
-        const { written, ...said } = answer(words, joinedTexts(page.judged.sources, page.files));
+    async function answered(words) {
+        const { written, ...said } = await ask(words, joinedTexts(page.judged.sources, page.files));
         const letters = bytes => btoa(Array.from(bytes, byte => String.fromCharCode(byte)).join(''));
         return { ...said, written: Object.fromEntries([...written].map(([name, bytes]) => [name, letters(bytes)])) };
     }
@@ -74,10 +83,18 @@ const probe = (() => {
         const rows = [...room.querySelectorAll('tr')].slice(1);
         return rows.map(row => [...row.children].map(it => it.textContent));
     }
-    // What stands beside the lines of the text that is open, by their numbers.
+    // What stands beside the lines of the text that is open, by their numbers, as far as they are drawn, window by window.
     function beside() {
-        const lines = element('beside').textContent.split('\n').map((line, at) => [at + 1, line.trim()]);
-        return Object.fromEntries(lines.filter(([, line]) => line));
+        const found = {}, area = element('text');
+        for (let top = 0; top <= area.scrollHeight; top += area.clientHeight) {
+            area.scrollTop = top;
+            scrollText();
+            const lines = element('beside').textContent.split('\n');
+            for (const [at, line] of lines.entries()) if (line.trim()) found[sheet.first + at + 1] = line.trim();
+        }
+        area.scrollTop = 0;
+        scrollText();
+        return found;
     }
     const lit = () => [...document.querySelectorAll('#drawn .state.on')].map(it => it.dataset.state);
 
@@ -93,7 +110,7 @@ const probe = (() => {
     const nameOf = it => it.id || it.dataset.name || it.dataset.do || it.tagName;
     const focus = () => nameOf(document.activeElement);
     const seen = chosen => [...document.querySelectorAll(chosen)].filter(it => it.getClientRects().length);
-    const controls = () => seen('button, select, input, textarea').map(nameOf);
+    const controls = () => seen('button:enabled, select, input, textarea').map(nameOf);
 
     // What stands outside of a window of a width, or is too small to be used.
     function outside(width) {
@@ -155,22 +172,23 @@ const probe = (() => {
         area.value = edited.toWellFormed();
         area.dispatchEvent(new Event('input'));
     }
-    function edits(count) {
+    async function edits(count) {
         for (let turn = 0; turn < count; turn++) {
             if (!random(40)) openExample(random(examples.length));
             if (!random(4)) openFile([...page.files.keys()][random(page.files.size)]);
             edit();
             if (random(8)) continue;
+            if (random(2)) await settled();
             page.view = Object.keys(views)[random(7)];
-            showRest();
+            showView();
             showStep(page, random(60), true);
+            if (!random(6)) stop();
         }
-        clearTimeout(pause);
-        judgeNow();
-        showRest();
+        filesChanged();
+        await settled();
         return opened();
     }
 
     const seeing = { told, calls, beside, drawn, lit, unfinished };
-    return { answered, opened, covered, ...seeing, focus, controls, outside, heap, edits };
+    return { settled, answered, opened, covered, ...seeing, focus, controls, outside, heap, edits };
 })();

@@ -23,15 +23,12 @@ function seenText(calls) {
     return rows.map(told).join(', ');
 }
 
-// What stands beside a text: behind each line with calls where they lead, as text in which blanks stand for the line.
-function besideText(text, calls) {
-    const rows = grouped(calls, call => call.line), GAP = '   ';
-    const beside = (line, at) => {
-        const here = rows.get(at + 1);
-        return here ? line.replace(/[^\t]/gu, ' ') + GAP + seenText(here) : '';
-    };
-    return text.split('\n').map(beside).join('\n') + '\n';
+// What stands beside the lines of a text that have calls, by their numbers; and such a text behind its line, in which blanks
+// stand for the line.
+function besideLines(calls) {
+    return new Map([...grouped(calls, call => call.line)].map(([line, list]) => [line, seenText(list)]));
 }
+const besideLine = (line, told) => `${line.replace(/[^\t]/gu, ' ')}   ${told}`;
 
 // All calls as a table, each with a button that leads to its place.
 function seenTable(seen) {
@@ -43,6 +40,7 @@ function seenTable(seen) {
         const texts = [`${call.variable}.${call.method}`, setText(call.before), setText(call.after)];
         return tag('tr', {}, tag('td', {}, button(call, at)), ...texts.map(cell));
     };
-    const heads = tag('tr', {}, ...['at', 'call', 'before', 'after'].map(head));
-    return tag('table', { class: 'seen' }, heads, ...[...seen.values()].flat().map(row));
+    const heads = tag('tr', {}, ...['at', 'call', 'before', 'after'].map(head)), calls = [...seen.values()].flat();
+    const rows = calls.slice(0, MOST_LISTED).map(row);
+    return tag('table', { class: 'seen' }, heads, ...rows) + notListed(calls.length);
 }

@@ -64,7 +64,7 @@ function sequence(run, first) {
     }, tag('title', {}, escaped(event.line))));
     return tag('svg', {
         class: 'sequence', width, height, viewBox: `0 0 ${width} ${height}`, role: 'img',
-        'aria-label': 'the run as a sequence',
+        'aria-label': 'the run as a sequence, which stands below in words',
     }, arrowHead('go'), ...[...columns].map(([role, x]) => lifeShape(role, x, height)),
     ...calls.map(call => callShape(scene, call)), ...shown.map(event => eventShape(scene, event)), ...rows);
 }
@@ -116,11 +116,15 @@ function waitingShape(scene, event, x, y) {
 
 // Shows that the first `count` events have been: what comes later is pale, messages that are sent and not yet taken are
 // dashed, and the row of the last event is marked.
-function markStep(svg, count) {
-    for (const it of svg.querySelectorAll('g[data-at]')) {
+function markStep(lines, count) {
+    for (const it of lines.querySelectorAll('g[data-at]')) {
         const isLater = Number(it.dataset.at) > count, isSent = Number(it.dataset.sent) <= count;
         it.classList.toggle('later', isLater && !isSent);
         it.classList.toggle('waiting', !it.dataset.sent && it.classList.contains('waiting') || isLater && isSent);
     }
-    for (const it of svg.querySelectorAll('.row')) it.classList.toggle('now', Number(it.dataset.at) === count);
+    for (const it of lines.querySelectorAll('.row')) it.classList.toggle('now', Number(it.dataset.at) === count);
+    const list = lines.querySelector('ol');
+    for (const [at, it] of [...list.children].entries()) {
+        if (list.start + at === count) it.setAttribute('aria-current', 'step'); else it.removeAttribute('aria-current');
+    }
 }

@@ -1,11 +1,16 @@
 //! The events of a run, read from the lines of its trace, and where its objects stand after each of them.
 'use strict';
 
-// The events of a trace: ROLE KIND WHOM WHAT MORE, as `C send S add 1`. `at` is the number of the event.
+const MOST_EVENTS = 50000, EVENT = /^(\w+) (made|enter|leave|send|look|take) (\S+)(?: (\w+))?(?: ([^]*))?$/;
+
+// The events of a trace: ROLE KIND WHOM WHAT MORE, as `C send S add 1`. `at` is the number of the event. Of a long trace
+// they are the first MOST_EVENTS.
 function readTrace(text) {
     const events = [];
-    for (const line of text.split('\n')) {
-        const found = /^(\w+) (made|enter|leave|send|look|take) (\S+)(?: (\w+))?(?: (.*))?$/.exec(line);
+    for (let from = 0; from < text.length && events.length < MOST_EVENTS;) {
+        const end = text.indexOf('\n', from), line = text.slice(from, end < 0 ? text.length : end);
+        from += line.length + 1;
+        const found = EVENT.exec(line);
         if (!found) continue;
         const [, role, kind, whom, what = '', more = ''] = found;
         events.push({ at: events.length, line, role, kind, whom, what, more });
@@ -13,8 +18,17 @@ function readTrace(text) {
     return events;
 }
 
-// The lines that are no events: how each role stands at the end.
-const endings = text => text.split('\n').filter(line => /^\S+: /.test(line));
+// The lines behind the events: how each role stands at the end.
+function endings(text) {
+    const lines = [];
+    for (let until = text.trimEnd().length; until > 0;) {
+        const from = text.lastIndexOf('\n', until - 1) + 1, line = text.slice(from, until);
+        if (!/^\S+: /.test(line)) break;
+        lines.unshift(line);
+        until = from - 1;
+    }
+    return lines;
+}
 
 // The classes of texts of Java that have a typestate: a map from the class to the typestate's name.
 function classTypestates(texts) {

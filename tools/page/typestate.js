@@ -4,10 +4,10 @@
 // A typestate { name, states, calls }. A call of a state has the text that is shown, and where it leads, by its answer:
 //   { from, method, text, ends: [{ label, to }] }      label is null where there are no answers and one end
 function readTypestate(text) {
-    const plain = text.replace(/\/\*[^]*?\*\/|\/\/[^\n]*/g, ' '), head = /\btypestate\s+(\w+)/.exec(plain);
+    const plain = text.replace(/\/\*[^]*?(?:\*\/|$)|\/\/[^\n]*/g, ' '), head = /\btypestate\s+(\w+)/.exec(plain);
     if (!head) return null;
     const typestate = { name: head[1], states: [], calls: [] };
-    for (const [, state, body] of plain.slice(head.index).matchAll(/(\w+)\s*=\s*\{([^}]*)\}/g)) {
+    for (const [, state, body] of plain.slice(head.index).matchAll(/\b(\w+)\s*=\s*\{([^{}]*)\}/g)) {
         typestate.states.push(state);
         typestate.calls.push(...callsOf(state, body));
     }
@@ -21,13 +21,13 @@ function readTypestate(text) {
 // The calls in the body of a state, and `drop` where it has `drop: end`.
 function callsOf(from, body) {
     const calls = [], trimmed = (list, sign) => list.split(sign).map(it => it.trim());
-    for (const [, method, types, target] of body.matchAll(/(\w+)\s*\(([^)]*)\)\s*:\s*(<[^>]*>|\w+)/g)) {
+    for (const [, method, types, target] of body.matchAll(/\b(\w+)\s*\(([^()]*)\)\s*:\s*(<[^<>]*>|\w+)/g)) {
         const list = target[0] === '<' ? trimmed(target.slice(1, -1), ',') : null;
         const pairs = list ? list.map(pair => trimmed(pair, ':')) : [[null, target]];
         const text = `${method}(${trimmed(types, ',').join(', ')})`;
         calls.push({ from, method, text, ends: pairs.map(([label, to]) => ({ label, to })) });
     }
-    const bare = body.replace(/<[^>]*>|\([^)]*\)/g, ' ');
+    const bare = body.replace(/<[^<>]*>|\([^()]*\)/g, ' ');
     if (/(^|,)\s*drop\s*:\s*end\s*(,|$)/.test(bare)) {
         calls.push({ from, method: '', text: 'drop', ends: [{ label: null, to: 'end' }] });
     }

@@ -126,7 +126,40 @@ TEXT
 changed: low
 low: NOT PROVED
 TEXT
+    # A library that the gate should have isn't taken for an empty one; a crate that the gate hasn't is new.
+    sed -i '/^Wrong$/d; s/Shown.antt two/Shown.antt one/' "$source"
+    mv "$proved/gate/crates/low/out" "$proved/gate/crates/low/away"
+    proves "a library that the gate lacks" 2 <<TEXT
+changed: low
+prove-change: the gate has no library $proved/gate/crates/low/out/rlib/low.rlib: \`rt ci\` there makes it, or --gate names another checkout
+TEXT
+    mv "$proved/gate/crates/low/away" "$proved/gate/crates/low/out"
+    cp -r "$proved/here/crates/high" "$proved/here/crates/added" && echo 'added: low' >>"$proved/here/crates.txt"
+    proves "a crate that the gate hasn't" 0 added <<'TEXT'
+changed: added
+added: proved, 1 of 3 modules anew
+added: its library says something else in 4 places: facade/proofs/Shown, facade/specs/f, lang/antt/proofs/Shown.antt, specs/f
+TEXT
 fi
+
+# tools/documents holds the diagram of the crates to crates.txt.
+mkdir -p "$room/drawn/tools" "$room/drawn/docs" && cp tools/documents "$room/drawn/tools"
+printf 'low:\nside: low\nhigh: low side std\nlost: low\ntop staticlib: high\n' >"$room/drawn/crates.txt"
+printf '# A\n\n## The crates\n\n    top          the top\n    high  side   two\n      |\n    low          the lowest\n\n| a |\n\n    lost\n' >"$room/drawn/docs/ARCHITECTURE.md"
+gives "documents: a crate that the diagram lacks" 1 "$room/drawn/tools/documents" /bin/true docs/ARCHITECTURE.md <<'TEXT'
+docs/ARCHITECTURE.md: 0 passed, not run: line 5 (indented) line 12 (indented)
+docs/ARCHITECTURE.md: in the diagram lost stands nowhere
+4 passed, 1 failed, 2 blocks not run
+TEXT
+printf '# A\n\n## The crates\n\n    low   lost\n    top   lost\n    side  high  two\n' >"$room/drawn/docs/ARCHITECTURE.md"
+gives "documents: crates that stand wrong in the diagram" 1 "$room/drawn/tools/documents" /bin/true docs/ARCHITECTURE.md <<'TEXT'
+docs/ARCHITECTURE.md: 0 passed, not run: line 5 (indented)
+docs/ARCHITECTURE.md: in the diagram high stands below low, which it uses
+docs/ARCHITECTURE.md: in the diagram lost stands below low, which it uses
+docs/ARCHITECTURE.md: in the diagram lost stands twice
+docs/ARCHITECTURE.md: in the diagram side stands below low, which it uses
+2 passed, 4 failed, 1 blocks not run
+TEXT
 
 # tools/reading-list and tools/stale-names, in a repository of three crates and a page.
 if command -v python3 >/dev/null; then

@@ -1,3 +1,6 @@
+import java.io.IOException;
+import java.io.UncheckedIOException;
+import java.math.BigInteger;
 import java.net.InetAddress;
 import java.net.InetSocketAddress;
 import java.net.ServerSocket;
@@ -7,12 +10,16 @@ import java.nio.file.Paths;
 import java.util.Collections;
 import java.util.HashMap;
 import java.util.Map;
+import java.util.concurrent.CompletableFuture;
+import java.util.concurrent.ExecutionException;
+import mungo.lib.Lines;
 import mungo.lib.Session;
 import mungo.lib.Wire;
 
 /** A larger program: plays roles by turns and side by side, and goes on whatever they come to. */
 public final class Plays {
     private static final Map<String, Wire> NONE = Collections.emptyMap();
+    private static final Map<String, InetSocketAddress> NOWHERE = Collections.emptyMap();
 
     private Plays() {}
 
@@ -87,6 +94,98 @@ public final class Plays {
         }
     }
 
+    /** A role that waits for a peer in a thread which is interrupted. */
+    private static void interruptedBefore() throws Exception {
+        Map<String, InetSocketAddress> addresses = addresses("C=" + port(), "S=1");
+        String[] ending = new String[1];
+        Thread thread = new Thread(() -> ending[0] = Session.play("C", NONE, addresses, () -> Session.take("S", "hi")));
+        thread.start();
+        while (!waitsIn(thread, "open")) {
+            Thread.sleep(10);
+        }
+        thread.interrupt();
+        thread.join();
+        System.out.println("interrupted before the peer is there: " + ending[0]);
+    }
+
+    /** What is thrown where the calls of a role are made in another thread than its own, and that the role goes on. */
+    private static void elsewhere() throws Exception {
+        String ending = Session.play("C", Collections.singletonMap("S", new Answers()), NOWHERE, () -> {
+            try {
+                CompletableFuture.runAsync(() -> Session.sendInt("S", "hi", 1)).get();
+            } catch (InterruptedException | ExecutionException wrong) {
+                System.out.println("elsewhere: " + wrong.getCause().getClass().getName());
+            }
+            Session.sendInt("S", "hi", 2);
+            System.out.println("here: " + Session.takeInt("S", "hi"));
+        });
+        System.out.println("elsewhere: " + ending);
+        try {
+            Session.send("S", "hi");
+        } catch (IllegalStateException none) {
+            System.out.println("behind a play: " + none.getMessage());
+        }
+    }
+
+    /** What ends a role where something is divided by zero, in a class that is checked and in others. */
+    private static void zero() {
+        System.out.println(Session.play("C", NONE, NOWHERE, () -> Quotient.of(1, NOWHERE.size())));
+        thrown("a division of one's own", () -> System.out.println(1 / NOWHERE.size()));
+        thrown("a division of Java's", () -> BigInteger.ONE.divide(BigInteger.ZERO));
+        thrown("an overflow", () -> Math.addExact(Integer.MAX_VALUE, 1));
+    }
+
+    private static void thrown(String what, Runnable work) {
+        try {
+            System.out.println(what + ": " + Session.play("C", NONE, NOWHERE, work));
+        } catch (ArithmeticException mine) {
+            System.out.println(what + " is thrown on: " + mine.getMessage());
+        }
+    }
+
+    /** A wire that makes its connection anew for a message, when nobody listens any more. */
+    private static void anew() throws Exception {
+        String text = "limit 1\n\nhi() anew\n> HI\n\nho()\n< HO\n";
+        try (ServerSocket door = new ServerSocket(0, 1, InetAddress.getLoopbackAddress())) {
+            Map<String, Wire> wires = Collections.singletonMap("S", new Lines("w", text));
+            System.out.println("anew: " + Session.play("C", wires, addresses("S=" + door.getLocalPort()), () -> {
+                Session.send("S", "hi");
+                closed(door);
+                Session.send("S", "hi");
+            }));
+        }
+    }
+
+    private static void closed(ServerSocket door) {
+        try {
+            door.accept().close();
+            door.close();
+        } catch (IOException fault) {
+            throw new UncheckedIOException(fault);
+        }
+    }
+
+    /** A peer that says back what it is told. */
+    private static final class Answers implements Wire {
+        private Message last;
+
+        @Override
+        public void open(InetSocketAddress address, long deadline) {}
+
+        @Override
+        public void send(String label, Object value) {
+            last = new Message(label, value, null);
+        }
+
+        @Override
+        public Message receive() {
+            return last;
+        }
+
+        @Override
+        public void close() {}
+    }
+
     private static int deep(int n) {
         return 1 + deep(n + 1);
     }
@@ -108,6 +207,9 @@ public final class Plays {
         }
         both();
         interrupted();
+        interruptedBefore();
+        elsewhere();
+        anew();
         try {
             Session.play("C", NONE, addresses(), () -> {
                 throw new IllegalStateException("mine");
@@ -116,7 +218,7 @@ public final class Plays {
             System.out.println("thrown on: IllegalStateException: " + mine.getMessage());
         }
         System.out.println("nobody: " + Session.play("C", NONE, addresses(), () -> Session.send("S", "hi")));
-        System.out.println(Session.play("C", NONE, addresses(), () -> System.out.println(1 / addresses().size())));
+        zero();
         System.out.println(Session.play("C", NONE, addresses(), () -> deep(0)));
         System.out.println("swallowed: " + Session.play("C", NONE, addresses(), () -> {
             try {

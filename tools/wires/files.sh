@@ -68,6 +68,7 @@ part_settings() {
     wrong "two addresses" 70 "mungo: mungo.roles has two addresses of C" -Dmungo.roles="$here,C=127.0.0.1:2"
     wrong "bad role" 70 'mungo: mungo.role has \x1b, and not the name of a role' -Dmungo.role=$'\x1b'
     wrong "no secret" 70 "mungo: mungo.secret is empty" -Dmungo.secret=
+    wrong "a short secret" 70 "mungo: mungo.secret has 15 letters, and not at least 16" -Dmungo.secret=fifteen-letters
     wrong "no address of one's own" 70 "mungo: C can't listen: no address is known" -Dmungo.role=C -Dmungo.roles=S=127.0.0.1:4
     wrong "no host of one's own" 70 "mungo: C can't listen at 127.0.0.1.1.:4: no host has the name 127.0.0.1.1." -Dmungo.role=C \
         -Dmungo.roles=S=127.0.0.1:4,C=127.0.0.1.1.:4
@@ -82,7 +83,7 @@ part_settings() {
     wrong "no wire file" 70 "mungo: mungo.wire has S=lines:/absent: no file and no resource /absent" -Dmungo.roles=S=127.0.0.1:4 \
         -Dmungo.wire=S=lines:/absent
     wrong "no such wire" 70 "mungo: mungo.wire has S=NoSuch:it: NoSuch" -Dmungo.roles=S=127.0.0.1:4 -Dmungo.wire=S=NoSuch:it
-    wrong "no wire at all" 70 "mungo: mungo.wire has S, and not ROLE=lines:FILE or ROLE=CLASS:WORD" -Dmungo.wire=S
+    wrong "no wire at all" 70 "mungo: mungo.wire has S, and not ROLE=lines:FILE, ROLE=tls:FILE, ROLE=amqp:.. or ROLE=CLASS:WORD" -Dmungo.wire=S
     wrong "no address of a wire" 70 "mungo: mungo.wire has S=lines:$wire: mungo.roles has no address of S" -Dmungo.wire=S="lines:$wire"
     jvm -cp "$room/taker/class:$lib" mungo.lib.Session C=CMain D=DMain >"$room/out" 2>"$room/err"
     is "no main" $? 1 "$room/err"

@@ -107,22 +107,22 @@ part_crowds() {
 
 secrets() {
     local seconds was wasS other="one with this name has come, and it has another secret"
-    options=(-Dmungo.secret=sesame)
-    duel "a secret" 0 "heard there" prove:S,C,sesame text:hi send:S text:there close
+    options=(-Dmungo.secret=sesame-open-thyself)
+    duel "a secret" 0 "heard there" prove:S,C,sesame-open-thyself text:hi send:S text:there close
     says "a secret: the other side" "$room/peer" $'sent\nproof right'
-    shuns "another secret" "$other" prove:S,C,simsim text:hi send:S text:there close
+    shuns "another secret" "$other" prove:S,C,simsim-open-thyself text:hi send:S text:there close
     shuns "a proof that is sent back" "$other" reflect:S,C text:hi send:S text:there close
-    shuns "a proof for another connection" "$other" replay:S,C,sesame wait
+    shuns "a proof for another connection" "$other" replay:S,C,sesame-open-thyself wait
     shuns "no secret" "it hasn't connected" greet:S,C say:sent text:hi send:S text:there close
     options=()
-    shuns "a secret where none is set" "it hasn't connected" prove:S,C,sesame text:hi send:S text:there close
+    shuns "a secret where none is set" "it hasn't connected" prove:S,C,sesame-open-thyself text:hi send:S text:there close
     program giver S 'role C, role S' 'hi(String) to C;' 'r.send_hiStringToC("there");'
-    pair sesame 300 300
+    pair sesame-open-thyself 300 300
     is "two roles, one secret: C" "$was" 0 "$room/err"
     is "two roles, one secret: S" "$wasS" 0 "$room/S.err"
     says "two roles, one secret: what C prints" "$room/out" "heard there"
     for seconds in "${vain[@]}"; do
-        pair simsim "$seconds" $((4 * seconds))
+        pair simsim-open-thyself "$seconds" $((4 * seconds))
         grep -q 'it has another secret$' "$room/S.err" && grep -q 'may have another secret$' "$room/err" && break
     done
     is "two roles, another secret: C" "$was" 7 "$room/err"
@@ -133,7 +133,7 @@ secrets() {
         $'S: C at 127.0.0.1:PORT: it has another secret\nS: no peer C'
 }
 
-# Both roles by mungo, S with the secret SECRET, and C with `sesame`, and how long they wait for each other, C as long as S at
+# Both roles by mungo, S with the secret SECRET, and C with `sesame-open-thyself`, and how long they wait for each other, C as long as S at
 # least: SECRET SECONDS_S SECONDS_C. Their statuses come into `was` and `wasS`.
 pair() {
     local at other
@@ -141,7 +141,7 @@ pair() {
     jvm -Dmungo.role=S -Dmungo.roles=C=127.0.0.1:"$at" -Dmungo.secret="$1" -Dmungo.patience="$2" -cp "$room/giver/class:$lib" SMain \
         >"$room/S.out" 2>"$room/S.err" &
     other=$!
-    MUNGO_SECRET=sesame jvm -Dmungo.role=C -Dmungo.roles=C=127.0.0.1:"$at",S=127.0.0.1:1 -Dmungo.patience="$3" \
+    MUNGO_SECRET=sesame-open-thyself jvm -Dmungo.role=C -Dmungo.roles=C=127.0.0.1:"$at",S=127.0.0.1:1 -Dmungo.patience="$3" \
         -cp "$room/taker/class:$lib" CMain >"$room/out" 2>"$room/err"
     was=$?
     wait $other
@@ -229,17 +229,49 @@ unread() {
 
 # Roles that a larger program plays.
 part_play() {
+    "$mungo" check "$top/tools/wires/Quotient.java" >"$room/said" 2>&1
+    is "play: the class that divides is checked" $? 0 "$room/said"
     jvm "${long[@]}" -cp "$lib" Plays >"$room/out" 2>"$room/err"
     is "play" $? 0 "$room/err"
     says "play: what is answered" "$room/out" "both: done 25 times
 both, no threads are left
 interrupted: waits A
+interrupted before the peer is there: waits S
+elsewhere: java.lang.IllegalStateException
+here: 2
+elsewhere: done
+behind a play: the thread main plays no role: a role is played by the thread that has called Session.play
+anew: waits S
 thrown on: IllegalStateException: mine
 nobody: no peer S
 zero divisor
+a division of one's own is thrown on: / by zero
+a division of Java's is thrown on: BigInteger divide by zero
+an overflow is thrown on: integer overflow
 memory
 swallowed: no peer T
 fault
 wrong name: Session.play has a b, and not the name of a role
 goes on"
+}
+
+# A role that serves sessions of a larger program: seven at once, how they end, and what is told of them.
+part_serve() {
+    jvm "${long[@]}" -Dmungo.sessions=7 -cp "$lib" Serves >"$room/out" 2>"$room/err"
+    is "serve" $? 0 "$room/err"
+    says "serve: what is told" "$room/out" "S: 0 run, 0 wait, 44 have begun; done 40, fault 1, mismatch 1, no peer 1, waits 1
+at once: 7 of 7
+JMX: 1, begun 44, done 40
+JMX: 0, behind the end
+closed: S: 0 run, 1 wait, 1 have begun; done 1
+Session.serve has a b, and not the name of a role
+no threads are left"
+    says "serve: the endings that are lines" <(grep '^S: ' "$room/err" | sort) "S: C: it isn't there
+S: fault
+S: mismatch C other
+S: no peer C
+S: waits C"
+    jvm -Dmungo.sessions=none -cp "$lib" Serves >"$room/out" 2>"$room/err"
+    grep -q 'mungo.sessions has none, and not a number from 1 to 100000' "$room/err"
+    count "serve: a wrong number" $? "$room/err"
 }

@@ -1,13 +1,11 @@
 -- The marks of starts, and the jumps that reach them.
-use Rattle.std.proofs.Common.{◌≡◌, ◌≢◌, ℕ, zero, suc, ◌+◌, ◌<◌, ◌≤◌, List, [], ◌∷◌, length, get_or, set, drop, replicate, Bool, true, false}
-use Rattle.std.proofs.Common.{cond, ◌||◌, not, Some, None, Option, nat_eq, pos, negsuc, ◌+ℤ◌, ℤ, refl, ap, sym, subst, ◌∙◌, arith, add-one}
-use Rattle.std.proofs.Common.{get_or-set_same, get_or-set_other}
+use Rattle.std.proofs.Common.{◌≡◌, ℕ, zero, suc, ◌+◌, ◌<◌, ◌≤◌, List, [], ◌∷◌, length, get_or, drop, replicate, Bool, true, false}
+use Rattle.std.proofs.Common.{cond, ◌||◌, not, Some, None, Option, pos, negsuc, ◌+ℤ◌, ℤ, refl, ap, sym, subst, ◌∙◌, arith, add-one}
 use Rattle.std.specs.List.{list_any, All}
 use Rattle.std.specs.Ordering.{int_eq}
 use Rattle.std.specs.Prelude.{◌==◌}
 use Rattle.std.proofs.lemmas.Int.{ints}
-use Rattle.std.proofs.lemmas.Bool.{eqb-true, eqb-false}
-use Rattle.std.proofs.lemmas.List.{length-set, length-replicate, drop_more, drop_all}
+use Rattle.std.proofs.lemmas.List.{length-replicate, drop_more, drop_all}
 use Rattle.std.proofs.lemmas.Bool.Decides.{same_from_decides, Decides-eqb, Decides-like, Decides-int_eq}
 use lib.Signed.{◌<ℤ◌}
 use Rattle.cls_tree.specs.Jumps.{is_start}
@@ -26,43 +24,6 @@ pub record Marking (starts : List ℕ) (marks : List Bool) (len k : ℕ) : Type 
 pub marking_first : (starts : List ℕ) (len : ℕ) → Marking starts (replicate len false) len 0
 marking_first starts len =
     record { long = length-replicate len false; marked = λ at. ap (λ b. b || list_any (λ s. s == at) starts) (none_marked len at) }
-
-mark_one : (marks : List Bool) (s i : ℕ) (rest : Bool) → s < length marks
-    → (get_or (set marks s true) i false || rest) ≡ (get_or marks i false || ((s == i) || rest))
-mark_one marks s i rest lt = go (nat_eq s i) refl
-  where
-    both : (b r : Bool) → true ≡ (b || (true || r))
-    both true r = refl
-    both false r = refl
-
-    go : (b : Bool) → nat_eq s i ≡ b → (get_or (set marks s true) i false || rest) ≡ (get_or marks i false || (nat_eq s i || rest))
-    go true e = let k : s ≡ i = eqb-true s i e in rw (e, ← k, get_or-set_same marks s true false lt) (both (get_or marks s false) rest)
-    go false e = let ne : i ≢ s = λ k. eqb-false s i e (sym k) in rw (e, get_or-set_other marks s i true false ne) refl
-
-pub marking_on : (starts : List ℕ) (marks : List Bool) (len k : ℕ) → k < length starts → get_or starts k 0 < len →
-    Marking starts marks len k
-    → Marking starts (set marks (get_or starts k 0) true) len (k + 1)
-marking_on starts marks len k below within m =
-    let s = get_or starts k 0 in
-    let e : drop k starts ≡ s ∷ drop (k + 1) starts = drop_more starts k 0 below in
-    let lt : s < length marks = let l = m.long in omega arith in
-    record {
-      long = length-set marks s true ∙ m.long;
-      marked = λ at. mark_one marks s at (list_any (λ t. t == at) (drop (k + 1) starts)) lt
-          ∙ ap (λ ts. get_or marks at false || list_any (λ t. t == at) ts) (sym e) ∙ m.marked at;
-    }
-
-pub marking_last : (starts : List ℕ) (marks : List Bool) (len k : ℕ) → length starts ≤ k → Marking starts marks len k →
-    IsMarked starts marks
-marking_last starts marks len k le m =
-    record {
-      marked = λ at. sym (nothing (get_or marks at false)) ∙ ap (λ ts. get_or marks at false || list_any (λ t. t == at) ts)
-          (sym (drop_all k starts le)) ∙ m.marked at;
-    }
-  where
-    nothing : (b : Bool) → (b || false) ≡ b
-    nothing true = refl
-    nothing false = refl
 
 pos_same : (s n : ℕ) → pos s ≡ pos n → s ≡ n
 pos_same s n e = cc

@@ -3,7 +3,7 @@ use Rattle.std.proofs.Common.{◌≡◌, ℕ, ◌+◌, ◌<◌, ◌≤◌, Bool,
 use Rattle.std.proofs.Common.{refl, sym, ap, ap₂, ◌∙◌, arith}
 use Rattle.std.specs.Prelude.{if◌then◌else◌, ◌==◌, nat_eq}
 use Rattle.std.proofs.lemmas.Bool.Decides.{nat_tests}
-use Rattle.std.proofs.lemmas.List.{append_assoc, append-nil, length_push, drop_more, drop_all, take_more, reverse-append}
+use Rattle.std.proofs.lemmas.List.{append_assoc, append-nil, length_push, drop_more, drop_all, reverse-append}
 use Rattle.cls_kinds.specs.declared.kind.Kind.{Kind}
 use Rattle.cls_kinds.specs.Numbers.{is_plain, joined_number, joined, joined_all, room_of, room_in, is_raised}
 
@@ -150,16 +150,6 @@ never_back (k ∷ ks) (l ∷ ls) =
     let n = joined_number k.0 l.0 in
     ap₂ (λ a b. not a || b) (equal_is (joined_number n k.0) n (joined_number_either n k.0 ∙ number_again k.0 l.0)) (never_back ks ls)
 
--- one more element of two lists
-pub raised_more : (xs ys : List Kind) (i : ℕ) (d e : Kind) → i < length xs → length xs ≡ length ys →
-    is_raised (drop i xs) (drop i ys) ≡ (not (joined_number (get_or xs i d).0 (get_or ys i e).0 == (get_or xs i d).0) || is_raised
-    (drop (i + 1) xs) (drop (i + 1) ys))
-raised_more xs ys i d e h n =
-    ap₂ is_raised (drop_more xs i d h) (drop_more ys i e (omega (arith, h, n)))
-
-pub raised_none : (xs ys : List Kind) (i : ℕ) → length xs ≤ i → is_raised (drop i xs) (drop i ys) ≡ false
-raised_none xs ys i h = ap (λ l. is_raised l (drop i ys)) (drop_all i xs h)
-
 pub joined_more : (row xs ys : List Kind) (i : ℕ) (d e : Kind) → i < length xs → length xs ≡ length ys →
     row ++ joined_all (drop i xs) (drop i ys) ≡ joined_all xs ys →
     (row ++ joined (get_or xs i d) (get_or ys i e) ∷ []) ++ joined_all (drop (i + 1) xs) (drop (i + 1) ys) ≡ joined_all xs ys
@@ -196,9 +186,6 @@ joined_on_top [] [] x y n = refl
 joined_on_top [] (l ∷ ys) x y n = absurd (omega (arith, n))
 joined_on_top (k ∷ xs) [] x y n = absurd (omega (arith, n))
 joined_on_top (k ∷ xs) (l ∷ ys) x y n = ap (λ l'. joined k l ∷ l') (joined_on_top xs ys x y (omega (arith, n)))
-
-pub reverse_more : (ks : List Kind) (i : ℕ) (d : Kind) → i < length ks → reverse (take (i + 1) ks) ≡ get_or ks i d ∷ reverse (take i ks)
-reverse_more ks i d h = ap reverse (take_more ks i d h) ∙ reverse-append (take i ks) (get_or ks i d ∷ [])
 
 -- Each raise takes room.
 
@@ -292,16 +279,6 @@ room_falls (k ∷ ks) (l ∷ ls) n e = go (λ g. room_falls ks ls (omega (arith,
 pub stopped_same : (stacks : List (List Kind)) (a b : ℕ) → a ≡ b → is_raised (get_or stacks a []) (get_or stacks b []) ≡ false
 stopped_same stacks a b e = ap (λ x. is_raised (get_or stacks a []) (get_or stacks x [])) (sym e) ∙ never_raised (get_or stacks a [])
 
-pub stopped_first : (ks ls : List Kind) → ks ≡ [] → is_raised ks ls ≡ false
-stopped_first ks ls e = ap (λ x. is_raised x ls) e
-
-pub stopped_second : (ks ls : List Kind) → ls ≡ [] → is_raised ks ls ≡ false
-stopped_second ks ls e = ap (λ x. is_raised ks x) e ∙ none ks
-  where
-    none : (xs : List Kind) → is_raised xs [] ≡ false
-    none [] = refl
-    none (x ∷ xs) = refl
-
 -- a step down two lists
 pub raised_step : (ks ls xs ys : List Kind) (x y : Kind) → ks ≡ xs ++ x ∷ [] → ls ≡ ys ++ y ∷ [] → length ks ≡ length ls →
     (joined x y).0 ≡ x.0 → is_raised xs ys ≡ is_raised ks ls
@@ -341,13 +318,6 @@ pub even_step : (ks ls xs ys : List Kind) (x y : Kind) → ks ≡ xs ++ x ∷ []
     length xs ≡ length ys
 even_step ks ls xs ys x y e f n =
     let a = length_push xs x in let b = length_push ys y in let c = ap length e in let d = ap length f in omega (arith, a, b, c, d, n)
-
-pub none_joined : (ks ls : List Kind) → ks ≡ [] → ks ≡ joined_all ks ls
-none_joined ks ls e = e ∙ sym (ap (λ x. joined_all x ls) e)
-
-pub nothing_joined : (ks ls : List Kind) → ls ≡ [] → length ks ≡ length ls → ks ≡ joined_all ks ls
-nothing_joined [] ls e n = refl
-nothing_joined (k ∷ ks) ls e n = absurd (let z = ap length e in omega (arith, n, z))
 
 pub itself_joined : (stacks : List (List Kind)) (a b : ℕ) → a ≡ b → get_or stacks a [] ≡ joined_all (get_or stacks a [])
     (get_or stacks b [])

@@ -147,9 +147,6 @@ are_more nodes n a few within deep = record {
 
 -- ---- what is noted of raised lists
 
-pub none_raised : (stacks : List (List Kind)) (raised : List ℕ) → raised ≡ [] → AreRaised stacks raised
-none_raised stacks raised e i h = absurd (let n : 0 < get_or [] i 0 = subst (λ (r : List ℕ). 0 < get_or r i 0) e h in omega (arith, n))
-
 pub raised_more_lists : (a b : List (List Kind)) (raised : List ℕ) → Grows a b → AreRaised a raised → AreRaised b raised
 raised_more_lists a b raised g r i h =
     let long = grows_long a b g in
@@ -192,14 +189,6 @@ set_at (r ∷ raised) zero to zero = inl (refl, refl)
 set_at (r ∷ raised) zero to (suc i) = inr refl
 set_at (r ∷ raised) (suc k) to zero = inr refl
 set_at (r ∷ raised) (suc k) to (suc i) = ⊎_elim (λ e. inl (ap suc e.0, e.1)) (λ e. inr e) (set_at raised k to i)
-
-pub raised_set : (stacks : List (List Kind)) (raised : List ℕ) (k to : ℕ) → AreRaised stacks raised → IsRaised stacks (k + 1) to →
-    AreRaised stacks (set raised k to)
-raised_set stacks raised k to r new i h =
-    ⊎_elim
-    (λ e. subst (λ n. IsRaised stacks (n + 1) (get_or (set raised k to) i 0)) (sym e.0) (subst (IsRaised stacks (k + 1)) (sym e.1) new))
-    (λ e. subst (IsRaised stacks (i + 1)) (sym e) (r i (subst (λ n. 0 < n) e h)))
-    (set_at raised k to i)
 
 pub set_past : (xs : List ℕ) (i y : ℕ) → length xs ≤ i → set xs i y ≡ xs
 set_past [] i y h = refl

@@ -78,12 +78,6 @@ module _ (names : List Name) where
   all_alike (w ∷ ws) (v ∷ vs) a [] = no_it false refl (λ f. f)
   all_alike (w ∷ ws) (v ∷ vs) a (k ∷ ks) = both_say (passes_in w k) (all_pass ws ks) (a.0 k) (all_alike ws vs a.1 ks)
 
-  pub alike_many : (ws : List Want) (vs : List tests.Want) → AllAlike ws vs → length ws ≡ length vs
-  alike_many [] [] a = refl
-  alike_many [] (v ∷ vs) a = absurd a
-  alike_many (w ∷ ws) [] a = absurd a
-  alike_many (w ∷ ws) (v ∷ vs) a = ap suc (alike_many ws vs a.1)
-
   pub any_alike : Alike wants.Any tests.Any
   any_alike k = yes_it true refl tt
 

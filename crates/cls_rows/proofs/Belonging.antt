@@ -1,16 +1,15 @@
 -- What instructions come to that name classes, fields and methods, by how these are kept.
 use Rattle.std.proofs.Common.{◌≡◌, ℕ, zero, suc, ◌<◌, ◌≤◌, Bool, true, false, not, ◌&&◌, List, [], ◌∷◌, ◌++◌, length, map, get_or, Option}
-use Rattle.std.proofs.Common.{Some, None, option_map, is_some, refl, sym, ap, ap₂, subst, ◌∙◌, arith}
+use Rattle.std.proofs.Common.{Some, None, option_map, refl, sym, ap, ap₂, subst, ◌∙◌, arith}
 use Rattle.std.specs.Prelude.{if◌then◌else◌, Result, Ok, Err, IfOk, MatchOption, slice_get, option_to_list}
 use Rattle.std.proofs.lemmas.List.{length-map}
 use Rattle.mg_text.specs.Call.{Name}
 use Rattle.mg_text.specs.declared.memory.Memory.{Memory}
 use Rattle.vm_model.specs.Program.{Program, MethodOf, ClassOf, class_at, method_at, class_name, fields_in, methods_in, name_in}
-use Rattle.vm_model.specs.Types.{FieldType, signature_of}
+use Rattle.vm_model.specs.Types.{signature_of}
 use Rattle.vm_model.specs.Linked.{is_built_in}
 use Rattle.vm_model.specs.Actions.{Action, Telling, Silent, Static, Return, Read, Write, Make, Call}
-use Rattle.vm_model.specs.Actions as actions
-use Rattle.vm_model.specs.Tests.{Typed, result_in, params_in, descriptor_in, max_locals_in, is_sort, call_takes}
+use Rattle.vm_model.specs.Tests.{Typed, result_in, params_in, descriptor_in, max_locals_in, call_takes}
 use Rattle.vm_actions.specs.declared.action.Sort.{Sort}
 use Rattle.vm_actions.specs.declared.action.Calling.{Calling as Called}
 use Rattle.vm_actions.specs.declared.action.Calling.TheVariants as callings
@@ -30,11 +29,11 @@ use Rattle.cls_rows.specs.declared.frame.Scene.{Scene}
 use Rattle.cls_rows.specs.declared.want.Want.TheVariants as wants
 use Rattle.cls_rows.specs.Wants.{IsTaken, CanTake}
 use Rattle.cls_rows.specs.Settling.{Settles, CanSettle, GoesOn}
-use Rattle.cls_rows.specs.Frames.{kinds_at, IsScene}
+use Rattle.cls_rows.specs.Frames.{IsScene}
 use Rattle.cls_rows.specs.Coming.{Comes, suits_in}
 use Rattle.cls_rows.proofs.Settled.{IsPlain, row_settles}
 use Rattle.cls_rows.proofs.Coming.{stays_settled, settled_comes, settles_come, went_settles}
-use Rattle.cls_rows.proofs.Members.{not_text, takes_typed, return_none, return_some, return_wrong, read_plain, write_plain, make_plain}
+use Rattle.cls_rows.proofs.Members.{not_text, takes_typed, return_none, return_some, read_plain, write_plain, make_plain}
 use Rattle.cls_rows.proofs.Members.{MayCall, call_types, call_plain, map_get, get_map}
 
 get_within : {A : Type 0} (xs : List A) (i : ℕ) (a : A) → slice_get xs i ≡ Some a → i < length xs
@@ -131,14 +130,6 @@ method_kept p names c i x y k e =
       there = ap (λ o. slice_get (methods_in o) i) k.there ∙ at;
       kinds = subst (λ name. IsMethod names name m y) (sym (ap name_in k.there)) is;
     }
-
-pub method_missed : (p : Program) (names : List Name) (c i : ℕ) (x : ClassKinds) (m : MethodOf) → IsKept p names c x →
-    slice_get x.methods.items i ≡ None →
-    method_at p c i ≡ Some m → ⊥
-method_missed p names c i x m k e h =
-    let at : slice_get k.class_is.methods i ≡ Some m = sym (ap (λ o. slice_get (methods_in o) i) k.there) ∙ h in
-    let (y, s) = methods_there names k.class_is.name k.class_is.methods x.methods.items k.kinds.methods i m at in
-    let no : Some y ≡ None = sym s ∙ e in cc no
 
 -- a class of a method is there
 pub class_of_method : (p : Program) (c i : ℕ) (m : MethodOf) → method_at p c i ≡ Some m → c < length p
@@ -246,22 +237,6 @@ module _ (s : Scene) where
       let t = some_of (kind_of here) kind_of_type s.result (result_in (signature_of m.descriptor)) w i.result e in
       return_some here i.kinds.names p class method m i.there sort w t.0 (result_at p class method m i ∙ t.1.0) t.1.1)
       h
-
-  pub wrongly_returned : (stacks : List (List Kind)) (f : Frame) (sort : Option actions.Sort) → ((r : Option FieldType) →
-      option_map (kind_of here) s.result ≡ option_map kind_of_type r → is_sort sort r ≡ false) → Comes s stacks stacks f (Return sort) None
-  wrongly_returned stacks f sort h = λ p class method m rest b left r.
-      return_wrong here b.scene.kinds.names p class method m b.scene.there sort (kinds_at here rest stacks f) left
-      (ap (is_sort sort) (result_at p class method m b.scene) ∙ h (result_in (signature_of m.descriptor)) b.scene.result) r
-
-  pub wrong_some : (o : Option Kind) (sort : actions.Sort) → o ≡ None → (r : Option FieldType) → option_map (kind_of here) o
-      ≡ option_map kind_of_type r →
-      is_sort (Some sort) r ≡ false
-  wrong_some o sort e r h = ap is_some (none_of (kind_of here) kind_of_type o r h e)
-
-  pub wrong_none : (o : Option Kind) (w : Kind) → o ≡ Some w → (r : Option FieldType) → option_map (kind_of here) o
-      ≡ option_map kind_of_type r →
-      is_sort None r ≡ false
-  wrong_none o w e r h = let t = some_of (kind_of here) kind_of_type o r w h e in ap (λ (x : Option FieldType). not (is_some x)) t.1.0
 
   -- Where there is no such class, field or method.
 

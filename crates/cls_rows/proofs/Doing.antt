@@ -157,11 +157,6 @@ pub no_load : (old : List (List Kind)) (limit : ℕ) (sort : Sort) (local : ℕ)
     ((k : Kind) → slice_get row local ≡ Some k → sorted sort k ≡ true → ⊥) → CanLoad old limit sort local f → ⊥
 no_load old limit sort local f row e never can = never can.read.kind (ap (λ ks. slice_get ks local) e ∙ can.read.held) can.read.is
 
-pub no_read : (sort : Sort) (local : ℕ) (f : Frame) (row : List Kind) → row ≡ locals_of f →
-    ((k : Kind) → slice_get row local ≡ Some k → sorted sort k ≡ true → ⊥) →
-    CanRead sort local f → ⊥
-no_read sort local f row e never can = never can.kind (ap (λ ks. slice_get ks local) e ∙ can.held) can.is
-
 pub is_read : (sort : Sort) (local : ℕ) (f : Frame) (row : List Kind) (k : Kind) → row ≡ locals_of f → slice_get row local ≡ Some k →
     sorted sort k ≡ true →
     CanRead sort local f

@@ -10,8 +10,7 @@ use Rattle.vm_model.specs.Program.{Program, FieldOf, MethodOf, ClassOf, class_at
 use Rattle.vm_model.specs.Types.{FieldType, Named, signature_of, type_of}
 use Rattle.vm_model.specs.Linked.{is_built_in}
 use Rattle.vm_model.specs.Actions.{Calling, Telling, Silent, Static, Return, Read, Write, Make, Call}
-use Rattle.vm_model.specs.Actions as actions
-use Rattle.vm_model.specs.Tests.{Needs, Typed, Returned, result_in, params_in, descriptor_in, max_stack_in, max_locals_in, is_sort}
+use Rattle.vm_model.specs.Tests.{Needs, Typed, Returned, result_in, params_in, descriptor_in, max_stack_in, max_locals_in}
 use Rattle.vm_model.specs.Tests.{receiver, call_takes, type_in}
 use Rattle.vm_model.specs.Tests as tests
 use Rattle.vm_actions.specs.declared.action.Sort.{Sort}
@@ -20,7 +19,6 @@ use Rattle.cls_verify.specs.Kinds.{Instance, kind_of_type, kind_named, HasSort, 
 use Rattle.cls_verify.specs.Kinds as model
 use Rattle.cls_verify.specs.Rows.{IsOwn, NamesMethod, kinds_of_field}
 use Rattle.cls_verify.specs.Typing.{Kinds}
-use Rattle.cls_verify.specs.BlockRows.{Row}
 use Rattle.cls_kinds.specs.declared.kind.Kind.{Kind}
 use Rattle.cls_kinds.specs.Numbers.{fits_in}
 use Rattle.cls_kinds.specs.Named.{AreNames, kind_of, kinds_of}
@@ -100,10 +98,6 @@ module _ (names : List Name) (n : AreNames names) (p : Program) (class method : 
     gives_are = λ l t. refl;
     stays = λ l t. refl;
   }
-
-  pub return_wrong : (sort : Option actions.Sort) (k left : Kinds) → is_sort sort result_here ≡ false →
-      Row p class method m k (Return sort) left → ⊥
-  return_wrong sort k left e r = let t = r.meets.returns in cc (t, e)
 
   -- Fields and new objects.
 

@@ -6,7 +6,7 @@ use Rattle.mg_text.specs.declared.memory.Memory.{Memory}
 use Rattle.std.proofs.lemmas.Bool.{cases_lt, cases_eq, cases_Bool}
 use Rattle.std.proofs.lemmas.Bool.Decides.{nat_tests}
 use Rattle.std.specs.List.{HoldsAt}
-use Rattle.std.proofs.lemmas.Option.{slice_get_within, slice_get-get_or, slice_get_past}
+use Rattle.std.proofs.lemmas.Option.{slice_get_within, slice_get-get_or}
 use Rattle.std.proofs.lemmas.List.{get_or_default}
 use Rattle.std.proofs.lemmas.List.Elements.{Contains-append_right, Contains-append_cases}
 use Rattle.cls_verify.specs.Typing.{Kinds, LeadsTo}
@@ -109,12 +109,6 @@ same_fits s stacks f g e h = record {
   width = ap length e.locals ∙ h.width;
   room = subst (λ o. length (stack_at stacks o) ≤ s.m.max_stack) (sym e.operands) h.room;
 }
-
-pub no_frame_kept : (o : Option Frame) → o ≡ None → SameOr o None
-no_frame_kept o e = subst (λ x. SameOr x None) (sym e) tt
-
-pub frame_kept : (o : Option Frame) (f g : Frame) → o ≡ Some f → AreSame f g → SameOr o (Some g)
-frame_kept o f g e h = subst (λ x. SameOr x (Some g)) (sym e) h
 
 -- what is kept, by an equal one
 pub kept_some : (o : Option Frame) (g : Frame) → SameOr o (Some g) → (f : Frame) × ((o ≡ Some f) × AreSame f g)
@@ -291,13 +285,6 @@ module _ (s : Setting) (old : Found) (g : Frame) where
 
 pub item_read : {A : Type 0} (xs : List A) (i : ℕ) (x : A) → (i < length xs) × HoldsAt (λ y. x ≡ y) xs i → slice_get xs i ≡ Some x
 item_read xs i x h = slice_get-get_or xs i x h.0 ∙ ap Some (sym (h.1 x))
-
-pub frame_read : (f : Found) (place : ℕ) (x : Option Frame) → (place < length f.frames.items) × HoldsAt (λ y. x ≡ y) f.frames.items place →
-    frame_at f place ≡ x
-frame_read f place x h = ap or_none (item_read f.frames.items place x h)
-
-pub frame_past : (f : Found) (place : ℕ) → length f.frames.items ≤ place → frame_at f place ≡ None
-frame_past f place h = ap or_none (slice_get_past f.frames.items place h)
 
 -- Results that are answered as they are.
 

@@ -1,9 +1,9 @@
 -- Marks that are added.
-use Rattle.std.proofs.Common.{◌≡◌, ℕ, zero, suc, ◌+◌, ◌<◌, ◌≤◌, ◌⊎◌, inl, inr, Bool, true, List, [], ◌∷◌, ◌++◌, length, take, drop, get_or}
+use Rattle.std.proofs.Common.{◌≡◌, ℕ, ◌+◌, ◌<◌, ◌≤◌, ◌⊎◌, inl, inr, Bool, List, ◌++◌, length, take, drop, get_or}
 use Rattle.std.proofs.Common.{Some, refl, sym, ap, subst, ◌∙◌, arith}
-use Rattle.std.specs.Prelude.{slice_get, slice_set}
+use Rattle.std.specs.Prelude.{slice_get}
 use Rattle.std.proofs.lemmas.Bool.{cases_lt}
-use Rattle.std.proofs.lemmas.List.{append-nil, drop_all, take_all, get_or_default}
+use Rattle.std.proofs.lemmas.List.{append-nil, drop_all, take_all}
 use Rattle.std.proofs.lemmas.Option.{slice_get_within}
 use Rattle.vm_model.specs.Program.{Instr}
 use Rattle.vm_model.specs.Actions.{Action, action}
@@ -15,36 +15,6 @@ keeps_all marks = record { many = refl; marked = λ place h. h }
 
 pub keeps_on : (a b c : List Bool) → KeepsMarks a b → KeepsMarks b c → KeepsMarks a c
 keeps_on a b c f g = record { many = g.many ∙ f.many; marked = λ place h. g.marked place (f.marked place h) }
-
--- one place is marked
-pub mark_keeps : (marks : List Bool) (place : ℕ) → KeepsMarks marks (slice_set marks place true)
-mark_keeps marks place = record { many = many marks place; marked = λ i h. marked marks place i h }
-  where
-    many : (xs : List Bool) (i : ℕ) → length (slice_set xs i true) ≡ length xs
-    many [] i = refl
-    many (x ∷ xs) zero = refl
-    many (x ∷ xs) (suc i) = ap suc (many xs i)
-
-    marked : (xs : List Bool) (i j : ℕ) → IsMarked xs j → IsMarked (slice_set xs i true) j
-    marked [] i j h = h
-    marked (x ∷ xs) zero zero h = refl
-    marked (x ∷ xs) zero (suc j) h = h
-    marked (x ∷ xs) (suc i) zero h = h
-    marked (x ∷ xs) (suc i) (suc j) h = marked xs i j h
-
-pub mark_marks : (marks : List Bool) (place : ℕ) → IsMarked (slice_set marks place true) place
-mark_marks [] place = refl
-mark_marks (x ∷ xs) zero = refl
-mark_marks (x ∷ xs) (suc i) = mark_marks xs i
-
-pub past_marks : (marks : List Bool) (place : ℕ) → length marks ≤ place → IsMarked marks place
-past_marks [] place h = refl
-past_marks (x ∷ xs) zero h = absurd (omega (arith, h))
-past_marks (x ∷ xs) (suc i) h = past_marks xs i (omega (arith, h))
-
-pub past_or_marked : (marks : List Bool) (places : List ℕ) → ((i : ℕ) → i < length places → IsMarked marks (get_or places i 0)) →
-    AllMarked marks places
-past_or_marked marks places h place c = subst (IsMarked marks) (get_or_default places c.0 0 place c.1 ∙ c.2) (h c.0 c.1)
 
 pub marked_more : (marks new : List Bool) (places : List ℕ) (i : ℕ) → ((j : ℕ) → j < i → IsMarked marks (get_or places j 0)) →
     KeepsMarks marks new →
@@ -58,14 +28,6 @@ marked_more marks new places i h keeps here j b = by (cases_lt j i)
 -- all of a list, or one more before them
 pub all_kept : (marks new : List Bool) (places : List ℕ) → KeepsMarks marks new → AllMarked marks places → AllMarked new places
 all_kept marks new places keeps h place c = keeps.marked place (h place c)
-
-pub one_and_all : (marks : List Bool) (target : ℕ) (places : List ℕ) → IsMarked marks target → AllMarked marks places →
-    AllMarked marks (target ∷ places)
-one_and_all marks target places one all place c = at c.0 c.1 c.2
-  where
-    at : (i : ℕ) → i < length (target ∷ places) → get_or (target ∷ places) i place ≡ place → IsMarked marks place
-    at zero h e = subst (IsMarked marks) e one
-    at (suc i) h e = all place (i, omega (arith, h), e)
 
 -- The joins of the instructions so far.
 

@@ -332,9 +332,6 @@ module _ (cs : List LinkedClass) (k : ProgramKinds) (a : AreKinds (classes_of cs
   abbrev program : Program
   program = classes_of cs
 
-  pub classes_many : length k.classes.items ≡ length cs
-  classes_many = a.classes ∙ length-map cs class_of
-
   pub class_is : (class : ℕ) (d : LinkedClass) (e : ClassKinds) → class < length cs → ClassIs program class k (class_of (get_or cs class d))
       (get_or k.classes.items class e)
   class_is class d e h = record {
@@ -358,9 +355,6 @@ module _ (cs : List LinkedClass) (k : ProgramKinds) (a : AreKinds (classes_of cs
 
   abbrev pub Earlier : ℕ → Type 0
   Earlier class = (c m : ℕ) (other : MethodOf) → c < class → method_at program c m ≡ Some other → Typing program c m other
-
-  pub earlier_none : Earlier 0
-  earlier_none c m other h e = absurd (omega (arith, h))
 
   pub earlier_more : (class : ℕ) → Earlier class → FirstOr program class None → Earlier (class + 1)
   earlier_more class b f c m other h e = by (cases_lt c class)

@@ -5,7 +5,7 @@ use crate::Instr;
 use mg_text::{Bytes, List, Text};
 
 /// A constant of the pool (JVMS 4.4). Numbers are those of other constants, which count from 1.
-#[derive(Debug, Drop)]
+#[derive(Drop)]
 pub enum Const {
     Utf8(Text),
     /// A number that code may push.
@@ -56,7 +56,6 @@ pub struct Member {
 }
 
 /// A class file of version 49.0 (JVMS 4.1), with no interfaces.
-#[derive(Debug)]
 pub struct Class {
     pub pool: List<Const>,
     pub access: u16,

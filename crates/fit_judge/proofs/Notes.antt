@@ -38,12 +38,6 @@ module _ (core : Program) (mains : List RoleMain) where
     pub right : (name : Name) (place : Place) → has name ≡ Some place → (m : Method) × Contains ms m × IsNone m name place
     pub all : (name : Name) (place : Place) (m : Method) → Contains ms m → IsNone m name place → has name ≡ None → ⊥
 
-  pub notes_none : (has : Name → Option Place) → ((q : Name) → has q ≡ None) → Notes [] has
-  notes_none has e = record {
-    right = λ name place h. absurd (none-some place (sym (e name) ∙ h));
-    all = λ name place m c is n. Contains-nil m c;
-  }
-
   module _ (ms : List Method) (m : Method) (has : Name → Option Place) (h : Notes ms has) where
     -- a method that is none of them changes nothing
     pub notes_same : ((name : Name) (place : Place) → IsNone m name place → ⊥) → Notes (ms ++ m ∷ []) has

@@ -24,9 +24,9 @@ use Rattle.scr_global.specs.Systems.{Parcel, System, Moved, Reaches, initial, wa
 use Rattle.scr_global.specs.Laws as global_law
 use Rattle.scr_global.specs.Laws.{AreProjections}
 use Rattle.scr_global.proofs.Stuck.{messages_are_taken, none_is_stuck}
-use Rattle.fit_next.specs.Next.{Alike}
-use Rattle.fit_next.proofs.Next.{next_is_alike, finished_stops}
-use Rattle.fit_next.proofs.Inside.{Says, IsPeer, says_projected, peer_at}
+use Rattle.fit_law.specs.Next.{Alike}
+use Rattle.fit_law.proofs.Next.{next_is_alike, finished_stops}
+use Rattle.fit_law.proofs.Inside.{Says, IsPeer, says_projected, peer_at}
 use Rattle.ts_tree.specs.Typestate.{Typestate}
 use Rattle.stm_api.specs.Doings.{Doing, Passes}
 use Rattle.stm_acts.specs.Acts.{unnumbered, kind_of, acts}

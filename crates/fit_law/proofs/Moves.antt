@@ -16,7 +16,7 @@ use Rattle.scr_tree.specs.Steps.{Act, Moves, Looks, Position}
 use Rattle.scr_global.specs.Alone.{Step}
 use Rattle.scr_global.specs.Systems.{Parcel, parcel, System, Moved, Reaches, initial, waits_for}
 use Rattle.scr_global.specs.Systems as systems
-use Rattle.fit_next.specs.Next.{Alike, same, both_send, both_look}
+use Rattle.fit_law.specs.Next.{Alike, same, both_send, both_look}
 use Rattle.jv_values.specs.Messages.{takes_from, taken}
 use Rattle.vm_model.specs.Program.{Program}
 use Rattle.vm_model.specs.Messages.{Messages, on_way}

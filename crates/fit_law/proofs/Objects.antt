@@ -16,7 +16,7 @@ use Rattle.scr_tree.specs.CallNames as names
 use Rattle.scr_tree.specs.CallNames.{label_call}
 use Rattle.scr_tree.specs.Traces.{Trace, Complete}
 use Rattle.scr_global.specs.Alone.{Step, Run, Finished}
-use Rattle.fit_next.proofs.Inside.{Says, SaysAt, silent_says, step_says, run_says, peer_at}
+use Rattle.fit_law.proofs.Inside.{Says, SaysAt, silent_says, step_says, run_says, peer_at}
 use Rattle.ts_tree.specs.Typestate.{Typestate}
 use Rattle.ts_tree.specs.Calls.{Path, Ends}
 use Rattle.jv_tree.specs.Source.{Class}

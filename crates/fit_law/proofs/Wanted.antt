@@ -6,7 +6,7 @@ use Rattle.scr_tree.specs.declared.syntax.Payload.{Payload}
 use Rattle.scr_tree.specs.Protocol.{Parts, Send, Take}
 use Rattle.scr_tree.specs.Steps.{Act, Moves, Looks}
 use Rattle.scr_global.specs.Systems.{waits_for}
-use Rattle.fit_next.proofs.Inside.{peer_at}
+use Rattle.fit_law.proofs.Inside.{peer_at}
 use Rattle.stm_api.specs.Doings.{Doing, Passes, Asks}
 use Rattle.stm_acts.specs.Ends.{peer_in, Wants, IsOther, IsCut, IsBusy, IsDoneByOne, not_yet, by_one}
 use Rattle.stm_acts.proofs.Standing.{Of}

@@ -1,2 +1,5 @@
 pub mod Fit
 pub mod Conversed
+pub mod Next
+pub mod Same
+pub mod Play

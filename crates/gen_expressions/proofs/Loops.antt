@@ -67,11 +67,6 @@ slots_all kind slots slot = ap (λ xs. local_of kind (reverse xs) slot) (take_al
 
 pub ruleset scopes = (slot_found, slot_passed, slots_all)
 
--- arguments
-pub argument_at : {X : Type 0} (F : List CoreExpr → X) (es : List CoreExpr) (i : ℕ) (e : CoreExpr) → i < length es → e ≡ get_or es i e →
-    F (drop i es) ≡ F (e ∷ drop (i + 1) es)
-argument_at F es i e within is = ap F (drop_at es i e within is)
-
 module _ (p : Program) (m : Method) (scope : List ℕ) (es : List CoreExpr) (i : ℕ) (d : Draft) (total : Draft)
     (h : arguments p m scope (exprs_of (map expr_of (drop i es))) d ≡ total) where
   pub argument_more : (e : CoreExpr) (d' : Draft) → i < length es → e ≡ get_or es i e → d' ≡ value p m scope (expr_of e) d →

@@ -66,10 +66,6 @@ fine name is = record {
       IsUtf8-from_ascii name (passing_ascii is_word_byte name word_low is.bytes);
 }
 
-pub all_fine : (names : List Name) → AllByRecursion IsNamed names → AllByRecursion IsFine names
-all_fine [] h = tt
-all_fine (n ∷ ns) h = (fine n h.0, all_fine ns h.1)
-
 -- numbers of the text
 pub int_fits : (z : ℤ) → IsPrinted z → FitsSigned w32 z
 int_fits z (inl (n, h, e)) = subst (FitsSigned w32) (sym e) (up n h)

@@ -75,9 +75,6 @@ keeps_then {pool = pool} {m = m} {f = f} first kept go = record {
   good = λ g. (go (m pool).0 (m pool).1 first.grows first.holds).good (kept.good g);
 }
 
-pub keeps_now : {A : Type 0} (a : A) (pool : List Const) → Keeps pool (give a)
-keeps_now a pool = record { good = λ g. g }
-
 found_good : (c : Const) (pool : List Const) (at : Option ℕ) → Stands pool c → Good pool → Good (found_or_added c pool at).1
 found_good c pool (Some k) s g = g
 found_good c pool None s g =

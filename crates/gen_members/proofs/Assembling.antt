@@ -219,21 +219,6 @@ module _ (starts : List ℕ) (p : Program) (all : List file.Instr) where
       ∙ sym (append_assoc done (j ∷ []) (finals starts places (instrs_of p is) ks))
       ∙ ap (λ x. x ++ finals starts places (instrs_of p is) ks) (sym m)
 
-  pub one_more_at : (places : List ℕ) (is : List Symbolic) (ks : List ℕ) (n : ℕ) (i : Symbolic) (here k : ℕ)
-      (done new : List file.Instr) (j : file.Instr) →
-      n < length places → n < length is → n < length ks → i ≡ get_or is n i → here ≡ get_or places n 0 → k ≡ get_or ks n 0 →
-      j ≡ final starts here (instr_of p i) k → new ≡ done ++ j ∷ [] →
-      AreLeft (drop n places) (drop n is) (drop n ks) done → AreLeft (drop (n + 1) places) (drop (n + 1) is) (drop (n + 1) ks) new
-  one_more_at places is ks n i here k done new j hp hi hk ei eh ek e m l =
-      let cut : drop n is ≡ i ∷ drop (n + 1) is = at_drop_more (λ ys. ys) is n i hi ∙ ap (λ y. y ∷ drop (n + 1) is) (sym ei) in
-      let cut_place : drop n places ≡ here ∷ drop (n + 1) places
-      = at_drop_more (λ ys. ys) places n 0 hp ∙ ap (λ y. y ∷ drop (n + 1) places) (sym eh) in
-      let cut_number : drop n ks ≡ k ∷ drop (n + 1) ks = at_drop_more (λ ys. ys) ks n 0 hk ∙ ap (λ y. y ∷ drop (n + 1) ks) (sym ek) in
-      one_more here k i (drop (n + 1) places) (drop (n + 1) is) (drop (n + 1) ks) done new j e m
-      (l ∙ ap (λ ys. done ++ finals starts ys (instrs_of p (drop n is)) (drop n ks)) cut_place
-      ∙ ap (λ ys. done ++ finals starts (here ∷ drop (n + 1) places) (instrs_of p ys) (drop n ks)) cut
-      ∙ ap (λ ys. done ++ finals starts (here ∷ drop (n + 1) places) (instrs_of p (i ∷ drop (n + 1) is)) ys) cut_number)
-
   -- all are made
   pub all_made : (places : List ℕ) (is : List Symbolic) (ks : List ℕ) (n : ℕ) (done : List file.Instr) → length is ≤ n →
       AreLeft (drop n places) (drop n is) (drop n ks) done → done ≡ all

@@ -1,13 +1,10 @@
 -- The constant of a member of a built-in class is that of its row of the table.
-use Rattle.std.proofs.Common.{◌≡◌, ℕ, Bool, List, if◌then◌else◌, sym, ap, ◌∙◌}
-use Rattle.std.specs.Prelude.{◌==◌}
-use Rattle.cls_tree.specs.declared.opcodes.TheConstants.{GETSTATIC}
+use Rattle.std.proofs.Common.{ℕ, Bool, List, if◌then◌else◌}
 use Rattle.cls_tree.specs.declared.class.Const.{Const}
 use Rattle.cls_tree.specs.Pool.{Reference}
 use Rattle.vm_model.specs.declared.linked.Built.{Built}
-use Rattle.vm_model.specs.BuiltIns.{BuiltMember, built_member}
+use Rattle.vm_model.specs.BuiltIns.{BuiltMember}
 use Rattle.gen_rules.specs.Symbolic.{Field, Method}
-use Rattle.gen_expressions.specs.View.{built_in_of}
 use Rattle.gen_members.specs.Constants.{constant_of}
 
 abbrev named : BuiltMember → Reference
@@ -16,7 +13,3 @@ named m = record { class = m.class; member = record { name = m.name; descriptor 
 -- what is made for a row: a field where it is read
 abbrev pub made : BuiltMember → Bool → List Const → ℕ × List Const
 made m is_read pool = constant_of (if is_read then Field (named m) else Method (named m)) pool
-
-pub row_made : (b : Built) (m : BuiltMember) (is_read : Bool) (pool : List Const) → m ≡ built_member b → (m.op == GETSTATIC) ≡ is_read →
-    made m is_read pool ≡ constant_of (built_in_of b) pool
-row_made b m is_read pool row test = ap (λ t. made m t pool) (sym test) ∙ ap (λ k. made k (k.op == GETSTATIC) pool) row

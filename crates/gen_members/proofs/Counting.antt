@@ -37,17 +37,6 @@ counted_more size n chars c is few low l =
       past = λ h. omega (arith, e, s, is, h);
     }
 
--- or it isn't looked at
-pub counted_past : (size : ℕ) (chars : List ℕ) (c : ℕ) → 65535 < size → IsCounted size chars → IsCounted size (chars ++ c ∷ [])
-counted_past size chars c past l =
-    let e = one_more chars c in
-    let s = l.past past in
-    record {
-      few = l.few;
-      exact = λ h. absurd (omega (arith, h, past));
-      past = λ h. omega (arith, e, s);
-    }
-
 -- the test of the count is that of the size
 pub told_by : (size : ℕ) (chars : List ℕ) → IsCounted size chars → nat_lt 65535 size ≡ nat_lt 65535 (sized chars)
 told_by size chars l = go (nat_lt 65535 size) refl

@@ -17,23 +17,6 @@ use Rattle.gen_members.specs.declared.faults.GenFault.TheVariants as faults
 use Rattle.gen_members.specs.Told.{Tells}
 use Rattle.gen_members.specs.Parts.{part_excess}
 
--- two steps, one after another, and what is put together
-module _ {A : Type 0} (f g : List Const → ℕ × List Const) (put : ℕ → ℕ → A) (pool p1 p2 : List Const) (n m : ℕ)
-    (first : IsMade n p1 (f pool)) (second : IsMade m p2 (g p1)) where
-  pub two_made : IsMade (put n m) p2 (put (f pool).0 (g (f pool).1).0, (g (f pool).1).1)
-  two_made = record {
-    value = ap (λ x. put x m) first.value ∙ ap (put (f pool).0) (second.value ∙ ap (λ q. (g q).0) first.left);
-    left = second.left ∙ ap (λ q. (g q).1) first.left;
-  }
-
-  pub two_behind : p2 ≡ (g (f pool).1).1
-  two_behind = second.left ∙ ap (λ q. (g q).1) first.left
-
--- a part without code is judged by its pool alone
-pub plain_judged : (behind p2 pool : List Const) (old : ℕ) → p2 ≡ behind → old ≡ length pool →
-    exceeded 0 0 p2 (drop old p2) ≡ exceeded 0 0 behind (drop (length pool) behind)
-plain_judged behind p2 pool old e o = ap₂ (λ q n. exceeded 0 0 q (drop n q)) e o
-
 -- what tells one excess tells another that is the same where it is one
 pub told_on : (one other : Option Excess) (e : GenFault) → ((excess : Excess) → one ≡ Some excess → other ≡ Some excess) →
     Tells one e → Tells other e

@@ -1,6 +1,6 @@
 -- The loop over the fields.
-use Rattle.std.proofs.Common.{◌≡◌, ℕ, suc, ◌+◌, ◌<◌, ◌≤◌, List, ◌∷◌, ◌++◌, length, map, drop, get_or, sym, ap, ◌∙◌, append_assoc, add-one}
-use Rattle.std.proofs.lemmas.List.{append-nil, at_drop_more, drop_all}
+use Rattle.std.proofs.Common.{◌≡◌, ℕ, suc, ◌+◌, ◌<◌, List, ◌∷◌, ◌++◌, length, map, drop, get_or, sym, ap, ◌∙◌, append_assoc, add-one}
+use Rattle.std.proofs.lemmas.List.{at_drop_more}
 use Rattle.jv_core.specs.declared.program.CoreField.{CoreField}
 use Rattle.jv_core.specs.Tree.{Program}
 use Rattle.jv_core.specs.View.{field_of}
@@ -22,8 +22,3 @@ module _ (p : Program) (class n : ℕ) (kept : List CoreField) where
       ∙ ap (λ is. is ++ left (suc n) (drop (n + 1) kept)) put
       ∙ append_assoc old (initialised p class n (field_of x).value) (left (suc n) (drop (n + 1) kept))
       ∙ ap (λ fields. old ++ left n fields) (sym cut) ∙ l
-
-  -- all are set
-  pub all_put : (done all : List Instr) → length kept ≤ n → done ++ all_initialised p class n (map field_of (drop n kept)) ≡ all →
-      done ≡ all
-  all_put done all past l = sym (append-nil done) ∙ ap (λ fields. done ++ left n fields) (sym (drop_all n kept past)) ∙ l

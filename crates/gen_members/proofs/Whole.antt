@@ -9,7 +9,6 @@ use Rattle.gen_rules.specs.Limits.{Part, Names, OfField, OfMethod, parts_in, or_
 use Rattle.gen_pool.specs.Made.{IsMade}
 use Rattle.gen_members.specs.declared.faults.GenFault.{GenFault}
 use Rattle.gen_members.specs.Told.{Tells}
-use Rattle.gen_members.specs.Parts.{part_excess}
 use Rattle.gen_members.proofs.Filing.{told_on}
 
 abbrev pub file_with : List Const → (this_class super_class : ℕ) → (fields methods : List file.Member) → file.Class
@@ -73,7 +72,3 @@ module _ (p : Program) (k : Class) (all : List Compiled) (p1 p2 p3 : List Const)
         Tells (first_in_parts p k (parts_in k all) []) e
     fields_fail e tells = told_on (first_in_parts p k (fields_part ++ methods_part) p1) (first_in_parts p k (parts_in k all) []) e
         (λ excess is. behind_header ∙ is) (tells methods_part)
-
-  pub header_fails : (e : GenFault) → Tells (part_excess p k Names []) e → Tells (first_in_parts p k (parts_in k all) []) e
-  header_fails e tells = told_on (part_excess p k Names []) (first_in_parts p k (parts_in k all) []) e
-      (λ excess is. ap (λ r. or_else r (first_in_parts p k (fields_part ++ methods_part) (header p k []).1)) is) tells

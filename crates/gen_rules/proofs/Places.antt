@@ -133,10 +133,6 @@ module _ (code : List Instr) where
     pub unless : (l : ℕ) → Stands (aiming (a.unless) l) (F.unless l)
     pub when : (l : ℕ) → Stands (aiming (a.when) l) (F.when l)
 
-  -- the same list, under another size that is the same
-  pub resized : (a : Piece) (n : ℕ) (R : Span) → a.size ≡ n → Stands a R → Stands (record { size = n; list = a.list }) R
-  resized a n R e h = subst (λ k. Stands (record { size = k; list = a.list }) R) e h
-
   pub stands_testing : (v : Piece) (R : Span) (test : (target : ℕ) → Instr) → Stands v R →
       (l : ℕ) → Stands (aiming (testing v test) l) (R then one code (test l))
   stands_testing v R test h l = stands_and v (single (test l)) R (one code (test l)) h (stands_single (test l))

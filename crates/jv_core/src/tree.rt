@@ -19,7 +19,7 @@ pub struct CoreVar {
 }
 
 /// A statement, with the place of the statement that it comes from.
-#[derive(Debug, Drop)]
+#[derive(Drop)]
 #[cycle(stmt)]
 pub struct CoreStmt {
     pub place: Place,
@@ -27,7 +27,7 @@ pub struct CoreStmt {
 }
 
 /// What a statement is. The place of a block and of a `switch` is that of the closing brace.
-#[derive(Debug, Drop)]
+#[derive(Drop)]
 #[cycle(stmt)]
 pub enum CoreStmtKind {
     Block(List<CoreStmt>, Place),
@@ -55,7 +55,7 @@ pub enum CoreStmtKind {
 
 /// A group of a `switch`: its labels, where a number is the position of an enum's constant and
 /// none is `default`, its statements, and the place of the token after it.
-#[derive(Debug, Drop)]
+#[derive(Drop)]
 #[cycle(stmt)]
 pub struct CoreGroup {
     pub labels: List<Option<u32>>,

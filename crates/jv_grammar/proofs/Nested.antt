@@ -91,22 +91,6 @@ local_depth (Return p e) us h = absurd h
 local_depth (Print p e) us h = absurd h
 local_depth (Eval p e) us h = absurd h
 
-local_closed : (s : Stmt) (us : List Token) → IsLocal s us → takes_else s ≡ false
-local_closed (Block p body end) us h = absurd h
-local_closed (Empty p) us h = absurd h
-local_closed (Local p ty n e) us h = refl
-local_closed (Assign p t e) us h = absurd h
-local_closed (If p c s) us h = absurd h
-local_closed (IfElse p c s r) us h = absurd h
-local_closed (While p l c s) us h = absurd h
-local_closed (Do p l s c) us h = absurd h
-local_closed (Switch p e gs end) us h = absurd h
-local_closed (Break p l) us h = absurd h
-local_closed (Continue p l) us h = absurd h
-local_closed (Return p e) us h = absurd h
-local_closed (Print p e) us h = absurd h
-local_closed (Eval p e) us h = absurd h
-
 -- where a loop stops its test says no
 pub many_stops : {A : Type 0} (go : List Token → Bool) (g : Reader Token A) (n : ℕ) (ts : List Token) (x : List A × List Token) →
     many go g n ts ≡ Some x → go x.1 ≡ false

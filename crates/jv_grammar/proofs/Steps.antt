@@ -70,9 +70,6 @@ pub word_is : (w : Name) (ts : List Token) (x : Place × List Token) → word_at
 word_is w [] x e = absurd (none_is_not x e)
 word_is w (t ∷ ts) x e = word_in_is w t.place t.kind ts x e
 
-pub word_self : (w : Name) → bytes_eq w w ≡ true
-word_self w = (bytes_eq-Decides w w).1 refl
-
 -- a name is no word of the language
 pub name_is_not : (n w : Name) → IsName n → is_name w ≡ false → bytes_eq n w ≡ false
 name_is_not n w h k = by_cases (bytes_eq n w) refl where

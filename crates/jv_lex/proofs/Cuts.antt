@@ -10,7 +10,7 @@ use Rattle.jv_lex.specs.declared.fault.Cause.TheVariants as causes
 use Rattle.jv_lex.specs.Written.{spelled}
 use Rattle.jv_lex.specs.Outcome.{Lexing, Outcome, too_large, refused, lexed}
 use Rattle.jv_lex.specs.Pieces.{Piece, spell, Cut, tokens_from, AreTokens}
-use Rattle.jv_lex.specs.Faults.{Stops, open_comment, open_text, bad_escape, bad_number, bad_byte, IsFault, stop, ill_formed, IsFirst, told}
+use Rattle.jv_lex.specs.Faults.{Stops, open_comment, open_text, bad_escape, bad_number, bad_byte, line_unicode, block_unicode, IsFault, stop, ill_formed, IsFirst, told}
 use Rattle.jv_lex.specs.inner.Front.{front_at}
 use Rattle.jv_lex.specs.inner.Scan.{IsStopped}
 use Rattle.jv_lex.proofs.Utf8.{ill_not_ascii, digit_low}
@@ -84,6 +84,8 @@ record AsciiAt (rest : List ℕ) (n : ℕ) : Type 0 where
 stop_ascii : (rest : List ℕ) {cause : Cause} {n : ℕ} → Stops rest cause n → (cause ≡ causes.BadByte) ⊎ AsciiAt rest n
 stop_ascii rest (open_comment body parts none) =
     inr (record { before = []; byte = 47; after = 42 ∷ body; parts = parts; long = refl; low = omega arith })
+stop_ascii rest (line_unicode body after n parts passes stops first) = inl refl
+stop_ascii rest (block_unicode body after n parts closes first) = inl refl
 stop_ascii rest (open_text body parts none) =
     inr (record { before = []; byte = 34; after = body; parts = parts; long = refl; low = omega arith })
 stop_ascii rest (bad_escape good more c after parts fine bad in_line strokes) =

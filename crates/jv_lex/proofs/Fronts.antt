@@ -9,24 +9,26 @@ use Rattle.std.proofs.lemmas.Bool.{eqb-true}
 use Rattle.std.proofs.lemmas.Bool.Decides.{nat_tests}
 use Rattle.std.proofs.lemmas.Fmt.{decimal_nonempty, digits_decimal}
 use Rattle.std.proofs.lemmas.List.{take_at, drop_at}
-use Rattle.mg_read.specs.Letters.{not_line_end}
 use Rattle.mg_read.specs.Passes.{AllPasses, StopsAt, StartsWith, span}
+use Rattle.mg_read.specs.Pieces.{HasNoClose}
 use Rattle.mg_read.specs.inner.Fronts.{is_close, close_at}
 use Rattle.mg_read.proofs.Steps.{none_is_not, chosen}
 use Rattle.mg_read.proofs.Spans.{either, span_is, span_again, close_is, close_again}
 use Rattle.jv_lex.specs.declared.fault.Cause.{Cause}
 use Rattle.jv_lex.specs.declared.fault.Cause.TheVariants as causes
-use Rattle.jv_lex.specs.Letters.{is_blank, is_word_start, is_word_byte}
+use Rattle.jv_lex.specs.Letters.{is_blank, is_word_start, is_word_byte, is_in_line}
 use Rattle.jv_tree.specs.declared.token.Sign.{Sign}
 use Rattle.jv_tree.specs.declared.token.Sign.TheVariants as signs
+use Rattle.jv_lex.specs.Comments.{HasNoUnicode, FirstUnicode}
 use Rattle.jv_lex.specs.Signs.{written}
 use Rattle.jv_lex.specs.Written.{Written, escaped, spelled, IsStroke}
 use Rattle.jv_lex.specs.Pieces.{Piece, blank, line, block, word, number, text, sign, spell, MayStand}
-use Rattle.jv_lex.specs.Faults.{Stops, open_comment, open_text, bad_escape, bad_number, bad_byte, is_start}
+use Rattle.jv_lex.specs.Faults.{Stops, open_comment, line_unicode, block_unicode, open_text, bad_escape, bad_number, bad_byte, is_start}
 use Rattle.jv_lex.specs.inner.Front.{Front, closing_at, bad_at, whole_text, closed_text, text_at, numbered, number_of, number_at}
-use Rattle.jv_lex.specs.inner.Front.{closed_block, line_at, sign_from, sign_at, slash_at, the_word, front_at}
+use Rattle.jv_lex.specs.inner.Front.{unicode_at, comment, closed_block, line_at, sign_from, sign_at, slash_at, the_word, front_at}
 use Rattle.jv_lex.proofs.Texts.{neither, Closed, closing_is, closing_again, characters_again, spelled_append, FirstBad, bad_is, text_closed}
 use Rattle.jv_lex.proofs.Texts.{text_again, text_bad, text_open}
+use Rattle.jv_lex.proofs.Comments.{none_found, first_found, none_again, first_again}
 use Rattle.jv_lex.proofs.Right.{Stands, Right, right_if}
 use Rattle.jv_lex.proofs.Longest.{sign_right, sign_again, single_none}
 use Rattle.jv_lex.proofs.Numbers.{own, number_right, number_again}
@@ -63,6 +65,17 @@ close_there (c ∷ u) v e = elim (chosen (is_close (c ∷ (u ++ 42 ∷ 47 ∷ v)
       unmapped None e = refl
       unmapped (Some n) e = absurd (none_is_not (n + 1) (sym e))
 
+-- a comment, where its body may stand and where it may not
+comment_right : (bytes body after : List ℕ) (p : Piece) → (HasNoUnicode body → Stands bytes (p, after))
+    → ((n : ℕ) → FirstUnicode body n → Stops bytes causes.BadByte (suc (suc n))) → Right bytes (comment p after (unicode_at false body))
+comment_right bytes body after p fine bad = go (unicode_at false body) refl where
+  go : (o : Option ℕ) → unicode_at false body ≡ o → Right bytes (comment p after o)
+  go None e = fine (none_found body e)
+  go (Some n) e =
+      let f = first_found body n e in
+      let at : suc (suc f.behind) ≡ n + 1 = omega (arith, f.at) in
+      subst (Stops bytes causes.BadByte) at (bad f.behind f.first)
+
 block_right : (body : List ℕ) → Right (47 ∷ 42 ∷ body) (closed_block body (close_at body))
 block_right body = go (close_at body) refl where
   go : (o : Option ℕ) → close_at body ≡ o → Right (47 ∷ 42 ∷ body) (closed_block body o)
@@ -70,13 +83,22 @@ block_right body = go (close_at body) refl where
   go (Some n) e =
       let r = close_is body n e in
       let two : suc (suc n) ≡ n + 2 = omega arith in
-      let parts : body ≡ (take n body ++ 42 ∷ 47 ∷ []) ++ drop (n + 2) body =
-      subst (λ (k : ℕ). body ≡ (take n body ++ 42 ∷ 47 ∷ []) ++ drop k body) two
-      (r.parts ∙ sym (append_assoc (take n body) (42 ∷ 47 ∷ []) (drop (suc (suc n)) body))) in
-      (ap (λ (z : List ℕ). 47 ∷ 42 ∷ z) parts, r.first)
+      let parts : body ≡ take n body ++ 42 ∷ 47 ∷ drop (n + 2) body =
+      subst (λ (k : ℕ). body ≡ take n body ++ 42 ∷ 47 ∷ drop k body) two r.parts in
+      comment_right (47 ∷ 42 ∷ body) (take n body) (drop (n + 2) body) (block (take n body))
+      (λ none. (
+        ap (λ (z : List ℕ). 47 ∷ 42 ∷ z) (parts ∙ sym (append_assoc (take n body) (42 ∷ 47 ∷ []) (drop (n + 2) body))),
+        (r.first, none),
+      ))
+      (λ k first. block_unicode (take n body) (drop (n + 2) body) k (ap (λ (z : List ℕ). 47 ∷ 42 ∷ z) parts) r.first first)
 
 line_right : (body : List ℕ) → Right (47 ∷ 47 ∷ body) (line_at body)
-line_right body = let r = span_is not_line_end body in (ap (λ (z : List ℕ). 47 ∷ 47 ∷ z) r.parts, (r.passes, r.stops))
+line_right body =
+    let r = span_is is_in_line body in
+    let n : ℕ = span is_in_line body in
+    let parts = ap (λ (z : List ℕ). 47 ∷ 47 ∷ z) r.parts in
+    comment_right (47 ∷ 47 ∷ body) (take n body) (drop n body) (line (take n body)) (λ none. (parts, (r.passes, r.stops, none)))
+    (λ k first. line_unicode (take n body) (drop n body) k parts r.passes r.stops first)
 
 slash_right : (cs : List ℕ) → Right (47 ∷ cs) (slash_at cs)
 slash_right [] = sign_right 47 [] refl (λ _. tt)
@@ -155,18 +177,31 @@ number_front n rest h = go (decimal n) refl (decimal_nonempty n (omega (arith, h
       let parts : decimal n ++ rest ≡ c ∷ (cs ++ rest) = ap (λ (z : List ℕ). z ++ rest) e in
       ap front_at parts ∙ digit_front c (cs ++ rest) passes.0 ∙ ap number_at (sym parts) ∙ number_again n rest h
 
-pub front_again : (p : Piece) (rest : List ℕ) → MayStand p rest → front_at (spell p ++ rest) ≡ Ok (p, rest)
-front_again (blank c) rest h = rw h refl
-front_again (line body) rest (passes, stops) =
-    let n = span_again not_line_end body rest passes stops in
+-- a comment is found, and then whether an escape of Unicode begins in it
+line_again : (body rest : List ℕ) → AllPasses is_in_line body → StopsAt is_in_line rest → line_at (body ++ rest) ≡
+    comment (line body) rest (unicode_at false body)
+line_again body rest passes stops =
+    let n = span_again is_in_line body rest passes stops in
     rw (n, take_at body rest (length body) refl, drop_at body rest (length body) refl) refl
-front_again (block body) rest h =
+
+block_again : (body rest : List ℕ) → HasNoClose body → slash_at (42 ∷ (body ++ 42 ∷ 47 ∷ rest)) ≡
+    comment (block body) rest (unicode_at false body)
+block_again body rest h =
     let n = close_again body rest h in
     let two : length body + 2 ≡ suc (suc (length body)) = omega arith in
-    rw (append_assoc, n, two, take_at body (42 ∷ 47 ∷ rest) (length body) refl) (ap (λ (z : List ℕ). Ok (block body, z)) (past body)) where
+    rw (n, two, take_at body (42 ∷ 47 ∷ rest) (length body) refl)
+    (ap (λ (z : List ℕ). comment (block body) z (unicode_at false body)) (past body)) where
       past : (xs : List ℕ) → drop (suc (suc (length xs))) (xs ++ 42 ∷ 47 ∷ rest) ≡ rest
       past [] = refl
       past (x ∷ xs) = past xs
+
+pub front_again : (p : Piece) (rest : List ℕ) → MayStand p rest → front_at (spell p ++ rest) ≡ Ok (p, rest)
+front_again (blank c) rest h = rw h refl
+front_again (line body) rest (passes, stops, none) =
+    line_again body rest passes stops ∙ ap (comment (line body) rest) (none_again body none)
+front_again (block body) rest (closes, none) =
+    ap (λ (z : List ℕ). slash_at (42 ∷ z)) (append_assoc body (42 ∷ 47 ∷ []) rest) ∙ block_again body rest closes
+    ∙ ap (comment (block body) rest) (none_again body none)
 front_again (word []) rest (starts, passes, stops) = absurd starts
 front_again (word (c ∷ cs)) rest (starts, passes, stops) =
     second_way (is_blank c) (is_word_start c) _ _ _ (blank_apart c starts) starts ∙ ap (λ (x : Piece × List ℕ). Ok x)
@@ -214,8 +249,17 @@ byte_none c cs start none =
     last_way (is_blank c) (is_word_start c) (is_ascii_digit c) (eqb c 34) (eqb c 47) _ _ _ _ _ _ b.0 w.0 d.0 d.1 slash ∙ ap (sign_from c cs)
     (single_none c cs none)
 
+unicode_stops : (p : Piece) (after : List ℕ) (n : ℕ) {o : Option ℕ} → o ≡ Some (suc n) → comment p after o ≡ Err (causes.BadByte, suc (suc n))
+unicode_stops p after n e =
+    let one : suc n + 1 ≡ suc (suc n) = omega arith in
+    ap (comment p after) e ∙ ap (λ (k : ℕ). Err (causes.BadByte, k)) one
+
 pub front_stops : (rest : List ℕ) {cause : Cause} {k : ℕ} → Stops rest cause k → front_at rest ≡ Err (cause, k)
 front_stops rest (open_comment body parts none) = ap front_at parts ∙ ap (closed_block body) (close_none body none)
+front_stops rest (line_unicode body after n parts passes stops first) =
+    ap front_at parts ∙ line_again body after passes stops ∙ unicode_stops (line body) after n (first_again body n first)
+front_stops rest (block_unicode body after n parts closes first) =
+    ap front_at parts ∙ block_again body after closes ∙ unicode_stops (block body) after n (first_again body n first)
 front_stops rest (open_text body parts none) = ap front_at parts ∙ text_open body none
 front_stops rest (bad_escape good more c after parts fine bad in_line strokes) = ap front_at parts ∙ text_bad good more c after fine bad
     in_line strokes
@@ -226,6 +270,8 @@ front_stops rest (bad_byte c cs parts start none) = ap front_at parts ∙ byte_n
 -- where it ends, some byte stands
 pub stops_long : (rest : List ℕ) {cause : Cause} {k : ℕ} → Stops rest cause k → 0 < length rest
 stops_long rest (open_comment body parts none) = omega (arith, ap length parts)
+stops_long rest (line_unicode body after n parts passes stops first) = omega (arith, ap length parts)
+stops_long rest (block_unicode body after n parts closes first) = omega (arith, ap length parts)
 stops_long rest (open_text body parts none) = omega (arith, ap length parts)
 stops_long rest (bad_escape good more c after parts fine bad in_line strokes) = omega (arith, ap length parts)
 stops_long rest (bad_number c cs parts digit none) = omega (arith, ap length parts)

@@ -1,4 +1,5 @@
 pub mod Texts
+pub mod Comments
 pub mod Right
 pub mod Longest
 pub mod Numbers

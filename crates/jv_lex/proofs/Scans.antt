@@ -18,11 +18,12 @@ use Rattle.jv_lex.specs.declared.fault.Cause.TheVariants as causes
 use Rattle.jv_lex.specs.declared.front.FrontPiece.{FrontPiece}
 use Rattle.jv_lex.specs.declared.front.Stop.{Stop}
 use Rattle.jv_lex.specs.Letters.{is_word_byte}
+use Rattle.jv_lex.specs.Comments.{FirstUnicode}
 use Rattle.jv_lex.specs.Signs.{written}
 use Rattle.jv_lex.specs.Written.{Written, spelled, meant, IsCharacter}
 use Rattle.jv_lex.specs.Pieces.{Piece, blank, line, block, word, number, text, sign, spell, MayStand, Cut, tokens_of, tokens_from}
 use Rattle.jv_lex.specs.Pieces.{AreTokens}
-use Rattle.jv_lex.specs.Faults.{Stops, open_comment, open_text, bad_escape, bad_number, bad_byte, told}
+use Rattle.jv_lex.specs.Faults.{Stops, open_comment, line_unicode, block_unicode, open_text, bad_escape, bad_number, bad_byte, told}
 use Rattle.jv_lex.specs.declared.fault.LexFault.{LexFault}
 use Rattle.jv_lex.specs.declared.fault.LexFault.TheVariants as faults
 use Rattle.jv_lex.specs.Outcome.{Lexing, Outcome, Answers}
@@ -123,9 +124,16 @@ readable (text ws) after h u = (
 )
 readable (sign s) after h u = tt
 
+unicode_within : (body : List ℕ) (n : ℕ) → FirstUnicode body n → n < length body
+unicode_within body n f = omega (arith, f.long, ap length f.parts, length-append f.before (92 ∷ 117 ∷ f.after))
+
 -- a cause stands within what is left
 stops_within : (rest : List ℕ) {cause : Cause} {n : ℕ} → Stops rest cause n → n < length rest
 stops_within rest (open_comment body parts none) = omega (arith, ap length parts)
+stops_within rest (line_unicode body after n parts passes stops first) =
+    omega (arith, ap length parts, length-append body after, unicode_within body n first)
+stops_within rest (block_unicode body after n parts closes first) =
+    omega (arith, ap length parts, length-append body (42 ∷ 47 ∷ after), unicode_within body n first)
 stops_within rest (open_text body parts none) = omega (arith, ap length parts)
 stops_within rest (bad_escape good more c after parts fine bad in_line strokes) =
     omega (arith, ap length parts, length-append (spelled good) (92 ∷ c ∷ (spelled more ++ 34 ∷ after)))
@@ -225,10 +233,6 @@ reached_start bytes = record { pieces = []; cut = refl; here = omega arith }
 pub so_far_start : (file : ℕ) (bytes : List ℕ) → SoFar file bytes [] (start_of file) 0 bytes
 unfolding reached_start
 so_far_start file bytes = record { reached = reached_start bytes; tokens = refl; at = refl }
-
-pub reached_whole : (bytes : List ℕ) (offset : ℕ) (rest : List ℕ) → length rest ≡ 0 → Reached bytes offset rest → IsWhole bytes
-reached_whole bytes offset [] e h = (h.pieces, h.cut)
-reached_whole bytes offset (c ∷ cs) e h = absurd (omega arith)
 
 pub so_far_whole : (file : ℕ) (bytes : List ℕ) (ts : List Token) (place : Place) (offset : ℕ) (rest : List ℕ) → length rest ≡ 0 →
     IsUtf8 bytes

@@ -1,14 +1,14 @@
 -- What the code is told of the piece at the front.
-use Rattle.std.proofs.Common.{◌≡◌, ℕ, ◌+◌, ◌<◌, ◌≤◌, ◌^◌, List, [], ◌∷◌, ◌++◌, length, take, drop, true, false, Some, None, Result, Ok, Err}
+use Rattle.std.proofs.Common.{◌≡◌, ℕ, suc, ◌+◌, ◌<◌, ◌≤◌, ◌^◌, List, [], ◌∷◌, ◌++◌, length, take, drop, true, false, Some, None, Result, Ok, Err}
 use Rattle.std.proofs.Common.{refl, sym, ap, ◌∙◌, subst, length-append, arith}
-use Rattle.std.specs.Prelude.{nat_lt, slice_index, MatchResult, IsOk}
+use Rattle.std.specs.Prelude.{Option, nat_lt, slice_index, MatchResult, IsOk}
 use Rattle.std.specs.Char.{is_ascii_digit}
 use Rattle.std.specs.Fmt.{decimal}
 use Rattle.std.specs.Str.{IsUtf8}
 use Rattle.std.specs.Str.Parse.{digits_value, ParsesUnsigned}
 use Rattle.std.proofs.lemmas.Bool.Decides.{nat_tests}
 use Rattle.std.proofs.lemmas.Fmt.{IsAscii-from_digits}
-use Rattle.std.proofs.lemmas.List.{take_at}
+use Rattle.std.proofs.lemmas.List.{take_at, length-take-le}
 use Rattle.std.proofs.lemmas.Str.{IsUtf8-from_ascii}
 use Rattle.std.proofs.lemmas.Str.Parse.{parse_digits}
 use Rattle.mg_read.specs.Passes.{AllPasses, span}
@@ -16,12 +16,15 @@ use Rattle.mg_read.proofs.Spans.{span_is}
 use Rattle.jv_tree.specs.declared.token.Sign.{Sign}
 use Rattle.jv_lex.specs.declared.front.FrontPiece.{FrontPiece}
 use Rattle.jv_lex.specs.declared.front.Stop.{Stop}
+use Rattle.jv_lex.specs.declared.front.PieceKind.{PieceKind}
 use Rattle.jv_lex.specs.declared.front.PieceKind.TheVariants as kinds
 use Rattle.jv_lex.specs.Signs.{written}
 use Rattle.jv_lex.specs.inner.Front.{closing_at, bad_at, small, is_tailed, has_leading_zero, number_of, numbered, number_at, single, pair}
-use Rattle.jv_lex.specs.inner.Front.{sign_from, sign_at, or_alone, whole_text, text_at, shown}
+use Rattle.jv_lex.specs.inner.Front.{sign_from, sign_at, or_alone, whole_text, text_at, unicode_at, comment, line_at}
+use Rattle.jv_lex.specs.inner.Front.{kind_of, comment_shown, shown}
 use Rattle.jv_lex.specs.Written.{Written, spelled}
-use Rattle.jv_lex.specs.Pieces.{text}
+use Rattle.jv_lex.specs.Letters.{is_in_line}
+use Rattle.jv_lex.specs.Pieces.{Piece, line, text, spell}
 use Rattle.jv_lex.proofs.Texts.{Closed, closing_is, characters_again, text_closed}
 use Rattle.jv_lex.proofs.Longest.{single_is, pair_is}
 use Rattle.jv_lex.proofs.Numbers.{own, same_digits}
@@ -90,3 +93,22 @@ text_shown cs n closed fine =
     ∙ ap (λ (ws : List Written). Ok (text ws, k.after)) (characters_again k.ws k.strokes) in
     let size : n + 2 ≡ length (34 ∷ (spelled k.ws ++ 34 ∷ [])) = omega (arith, k.long, length-append (spelled k.ws) (34 ∷ [])) in
     ap (λ (z : ℕ). Ok (record { kind = kinds.Text; len = z })) size ∙ sym (ap shown at)
+
+-- ---- comments
+
+-- a comment of which the code is told its length
+told_comment : (p : Piece) (after : List ℕ) (len : ℕ) (o : Option ℕ) → kind_of p ≡ kinds.Gap → len ≡ length (spell p)
+    → comment_shown len o ≡ shown (comment p after o)
+told_comment p after len None gap long =
+    ap (λ (n : ℕ). Ok (record { kind = kinds.Gap; len = n })) long ∙ ap (λ (k : PieceKind). Ok (record { kind = k; len = length (spell p) }))
+    (sym gap)
+told_comment p after len (Some n) gap long = refl
+
+-- the comment to the end of its line
+pub line_shown : (bytes : List ℕ) (len : ℕ) → len ≡ span is_in_line bytes → len ≤ length bytes
+    → comment_shown (len + 2) (unicode_at false (take len bytes)) ≡ shown (line_at bytes)
+line_shown bytes len is within =
+    let long : length (take len bytes) ≡ len = length-take-le len bytes within in
+    let two : len + 2 ≡ suc (suc (length (take len bytes))) = omega (arith, long) in
+    told_comment (line (take len bytes)) (drop len bytes) (len + 2) (unicode_at false (take len bytes)) refl two
+    ∙ ap (λ (n : ℕ). shown (comment (line (take n bytes)) (drop n bytes) (unicode_at false (take n bytes)))) is

@@ -12,11 +12,10 @@ use Rattle.std.proofs.lemmas.Fmt.{digits_decimal}
 use Rattle.std.proofs.lemmas.Str.{IsUtf8-append, IsUtf8-take, IsUtf8-drop, IsUtf8-nil, IsUtf8-from_ascii, IsCharBoundary-before_ascii}
 use Rattle.std.proofs.lemmas.Str.{IsCharBoundary-after_ascii}
 use Rattle.std.proofs.lemmas.Str.Ascii.{IsAscii-nil, IsAscii-cons}
-use Rattle.mg_read.specs.Letters.{not_line_end}
 use Rattle.mg_read.specs.Passes.{AllPasses}
 use Rattle.jv_tree.specs.declared.token.Sign.{Sign}
 use Rattle.jv_tree.specs.declared.token.Sign.TheVariants as signs
-use Rattle.jv_lex.specs.Letters.{is_blank, is_word_byte, is_escape, escaped_byte}
+use Rattle.jv_lex.specs.Letters.{is_blank, is_word_byte, is_in_line, is_escape, escaped_byte}
 use Rattle.jv_lex.specs.Signs.{written}
 use Rattle.jv_lex.specs.Written.{Written, plain, escaped, spelled, meant, IsCharacter}
 use Rattle.jv_lex.specs.Pieces.{Piece, blank, line, block, word, number, text, sign, spell, MayStand}
@@ -95,10 +94,10 @@ sign_low s = refl
 pub after_piece : (p : Piece) (after : List ℕ) → MayStand p after → IsUtf8 (spell p ++ after) → IsUtf8 after
 after_piece (blank c) after h u = (split_ascii [] after c u (blank_low c h)).1
 after_piece (line body) [] h u = IsUtf8-nil
-after_piece (line body) (c ∷ after) (passes, stops) u =
+after_piece (line body) (c ∷ after) (passes, stops, none) u =
     let low : c < 128 = end_low c stops in
     IsUtf8-append (c ∷ []) after (ascii_one c low) (split_ascii (47 ∷ 47 ∷ body) after c u low).1 where
-      end_low : (c : ℕ) → not_line_end c ≡ false → c < 128
+      end_low : (c : ℕ) → is_in_line c ≡ false → c < 128
       end_low c h = grind (arith, nat_tests)
 after_piece (block body) after h u =
     let parts : (body ++ 42 ∷ 47 ∷ []) ++ after ≡ (body ++ 42 ∷ []) ++ 47 ∷ after =

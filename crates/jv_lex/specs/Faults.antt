@@ -4,12 +4,15 @@ use Rattle.std.specs.List.{AllByRecursion}
 use Rattle.std.specs.Char.{is_ascii_digit}
 use Rattle.std.specs.Str.{IsValidUpTo}
 use Rattle.mg_text.specs.declared.place.Place.{Place}
+use Rattle.mg_read.specs.Passes.{AllPasses, StopsAt}
+use Rattle.mg_read.specs.Pieces.{HasNoClose}
 use Rattle.jv_tree.specs.declared.token.Sign.{Sign}
 use Rattle.jv_lex.specs.declared.fault.Cause.{Cause}
 use Rattle.jv_lex.specs.declared.fault.Cause.TheVariants as causes
 use Rattle.jv_lex.specs.declared.fault.LexFault.{LexFault}
 use Rattle.jv_lex.specs.declared.fault.LexFault.TheVariants as faults
-use Rattle.jv_lex.specs.Letters.{is_blank, is_word_start, is_line_end, is_escape}
+use Rattle.jv_lex.specs.Letters.{is_blank, is_word_start, is_line_end, is_in_line, is_escape}
+use Rattle.jv_lex.specs.Comments.{FirstUnicode}
 use Rattle.jv_lex.specs.Signs.{written}
 use Rattle.jv_lex.specs.Written.{Written, spelled, IsCharacter, IsStroke}
 use Rattle.jv_lex.specs.Pieces.{Piece, number, spell, MayStand, Cut}
@@ -22,6 +25,12 @@ is_start c = is_blank c || (is_word_start c || (is_ascii_digit c || c == 34))
 pub data Stops (rest : List ℕ) : Cause → ℕ → Type 0 where
   -- no "*/" follows
   open_comment : (body : List ℕ) → rest ≡ 47 ∷ 42 ∷ body → ((u v : List ℕ) → body ≡ u ++ 42 ∷ 47 ∷ v → ⊥) → Stops rest causes.OpenComment 0
+  -- in a comment to the end of its line, this backslash is the first that begins an escape of Unicode
+  line_unicode : (body after : List ℕ) (n : ℕ) → rest ≡ 47 ∷ 47 ∷ (body ++ after) → AllPasses is_in_line body → StopsAt is_in_line after
+      → FirstUnicode body n → Stops rest causes.BadByte (suc (suc n))
+  -- and in a comment up to the first "*/"
+  block_unicode : (body after : List ℕ) (n : ℕ) → rest ≡ 47 ∷ 42 ∷ (body ++ 42 ∷ 47 ∷ after) → HasNoClose body → FirstUnicode body n
+      → Stops rest causes.BadByte (suc (suc n))
   -- no quote closes the text before its line ends
   open_text : (body : List ℕ) → rest ≡ 34 ∷ body
       → ((ws : List Written) (after : List ℕ) → AllByRecursion IsStroke ws → body ≡ spelled ws ++ 34 ∷ after → ⊥) →

@@ -18,9 +18,12 @@ is_word_byte c = is_word_start c || is_ascii_digit c
 abbrev pub is_number_tail : ℕ → Bool
 is_number_tail c = is_word_byte c || c == 46
 
--- a text stands on one line
+-- a line feed or a carriage return ends a line, and with it a text or a comment
 abbrev pub is_line_end : ℕ → Bool
 is_line_end c = c == 10 || c == 13
+
+abbrev pub is_in_line : ℕ → Bool
+is_in_line c = not (is_line_end c)
 
 -- what stands for itself in a text
 abbrev pub is_plain : ℕ → Bool

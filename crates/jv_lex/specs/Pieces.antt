@@ -6,13 +6,13 @@ use Rattle.std.specs.Str.{IsUtf8}
 use Rattle.mg_text.specs.Call.{Name}
 use Rattle.mg_text.specs.Places.{start_of, place_after}
 use Rattle.mg_text.specs.declared.place.Place.{Place}
-use Rattle.mg_read.specs.Letters.{not_line_end}
 use Rattle.mg_read.specs.Passes.{AllPasses, StopsAt, StartsWith}
 use Rattle.mg_read.specs.Pieces.{HasNoClose}
 use Rattle.jv_tree.specs.declared.token.Sign.{Sign}
 use Rattle.jv_tree.specs.declared.token.Token.{Token}
 use Rattle.jv_tree.specs.Tokens as tokens
-use Rattle.jv_lex.specs.Letters.{is_blank, is_word_start, is_word_byte, is_number_tail}
+use Rattle.jv_lex.specs.Letters.{is_blank, is_word_start, is_word_byte, is_number_tail, is_in_line}
+use Rattle.jv_lex.specs.Comments.{HasNoUnicode}
 use Rattle.jv_lex.specs.Signs.{written, goes_on}
 use Rattle.jv_lex.specs.Written.{Written, spelled, meant, IsCharacter}
 
@@ -37,12 +37,12 @@ spell (number n) = decimal n
 spell (text body) = 34 ∷ (spelled body ++ 34 ∷ [])
 spell (sign s) = written s
 
--- Whether the piece may stand in front of rest. A comment runs to the end of its line, or to the first "*/". A word, a number and a sign
--- are as long as they can be.
+-- Whether the piece may stand in front of rest. A comment runs to the end of its line, or to the first "*/", and no escape of Unicode
+-- begins in it. A word, a number and a sign are as long as they can be.
 abbrev pub MayStand : Piece → List ℕ → Type 0
 MayStand (blank c) rest = is_blank c ≡ true
-MayStand (line body) rest = AllPasses not_line_end body × StopsAt not_line_end rest
-MayStand (block body) rest = HasNoClose body
+MayStand (line body) rest = AllPasses is_in_line body × StopsAt is_in_line rest × HasNoUnicode body
+MayStand (block body) rest = HasNoClose body × HasNoUnicode body
 MayStand (word name) rest = StartsWith is_word_start name × AllPasses is_word_byte name × StopsAt is_word_byte rest
 MayStand (number n) rest = (n ≤ 2147483648) × StopsAt is_number_tail rest
 MayStand (text body) rest = AllByRecursion IsCharacter body

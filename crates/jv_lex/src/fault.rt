@@ -9,7 +9,8 @@ use mg_text::{Memory, Place};
 pub enum LexFault {
     /// The file holds over 1,048,576 bytes. The place is the file's start.
     TooLarge { place: Place },
-    /// A byte starts no token and nothing between tokens, or the bytes stop to be UTF-8 here.
+    /// A byte starts no token and nothing between tokens, a backslash begins an escape of Unicode
+    /// in a comment, or the bytes stop to be UTF-8 here.
     BadByte { place: Place },
     /// No `*/` closes the comment that begins here.
     OpenComment { place: Place },
@@ -38,7 +39,7 @@ impl From<Memory> for LexFault {
 /// What is wrong where no piece of a text stands.
 #[derive(Clone, Copy)]
 pub(crate) enum Cause {
-    /// Nothing begins with the byte.
+    /// Nothing begins with the byte, or in a comment an escape of Unicode.
     BadByte,
     /// A comment isn't closed.
     OpenComment,

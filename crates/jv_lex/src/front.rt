@@ -1,13 +1,14 @@
 //! The piece at the front of a text: a gap between tokens, a word, a number, a text or a sign.
-//! Where none stands, the cause and how many bytes behind the front it stands.
+//! Where none stands, the cause and how many bytes behind the front it stands. Java reads escapes
+//! of Unicode before it tells pieces apart, so that none may stand in a comment.
 
 ghost use Rattle.std.specs.Prelude.{◌≡◌, ◌≤◌, ◌<◌, length, false, IfSome};
 ghost use Rattle.std.specs.Char.{is_ascii_digit};
 ghost use Rattle.std.specs.Str.Parse.{digits_value};
 ghost use Rattle.mg_read.specs.Passes.{span, AllPasses};
-ghost use Rattle.jv_lex.specs.Letters.{is_blank, is_word_start, is_word_byte, is_number_tail, is_line_end, is_escape};
+ghost use Rattle.jv_lex.specs.Letters.{is_blank, is_word_start, is_word_byte, is_number_tail, is_line_end, is_in_line, is_escape};
 ghost use Rattle.jv_lex.specs.inner.Front.{closing_at, bad_at, text_at, is_tailed, has_leading_zero, small, number_at, sign_at, slash_at};
-ghost use Rattle.jv_lex.specs.inner.Front.{front_at, shown};
+ghost use Rattle.jv_lex.specs.inner.Front.{unicode_at, comment_shown, line_at, front_at, shown};
 
 use crate::fault::Cause;
 use crate::signs::{pair, single};
@@ -80,6 +81,12 @@ fn is_line_end(byte: u8) -> bool
     byte == b'\n' || byte == b'\r'
 }
 
+fn is_in_line(byte: u8) -> bool
+    ensures { result ≡ is_in_line byte }
+{
+    !is_line_end(byte)
+}
+
 fn is_escape(byte: u8) -> bool
     ensures { result ≡ is_escape byte }
 {
@@ -108,6 +115,13 @@ fn digits_len(bytes: &[u8]) -> usize
         .iter()
         .take_while(|byte| byte.is_ascii_digit())
         .count()
+}
+
+fn line_len(bytes: &[u8]) -> usize
+    ensures value { result ≡ span is_in_line bytes.now }
+    ensures within { result ≤ length bytes.now }
+{
+    bytes.iter().take_while(|byte| is_in_line(**byte)).count()
 }
 
 // How many bytes stand before the quote that closes a text on its line.
@@ -256,16 +270,57 @@ fn sign_of(first: u8, rest: &[u8]) -> Result<FrontPiece, Stop>
     })
 }
 
+// How many bytes stand before the "u" of the first escape of Unicode.
+fn unicode_of(body: &[u8]) -> Option<usize>
+    ensures place { result ≡ unicode_at false body.now }
+    ensures within { IfSome result (λ n. n < length body.now) }
+{
+    let mut after_backslash = false;
+    let mut n = 0;
+    let mut rest = body;
+    'bytes: while let Some((byte, after)) = rest.split_first() {
+        if after_backslash && *byte == b'u' {
+            return Some(n);
+        }
+        after_backslash = !after_backslash && *byte == b'\\';
+        n += 1;
+        rest = after;
+    }
+    None
+}
+
+// The comment of this body and length, unless an escape of Unicode begins in it.
+fn comment_with(body: &[u8], len: usize) -> Result<FrontPiece, Stop>
+    ensures { result ≡ comment_shown len (unicode_at false body.now) }
+{
+    match unicode_of(body) {
+        Some(n) => Err(Stop {
+            cause: Cause::BadByte,
+            at: n + 1,
+        }),
+        None => Ok(FrontPiece {
+            kind: PieceKind::Gap,
+            len,
+        }),
+    }
+}
+
+// The comment to the end of its line, whose "//" stands before the bytes.
+fn line_of(bytes: &[u8]) -> Result<FrontPiece, Stop>
+    ensures { result ≡ shown (line_at bytes.now) }
+{
+    let len = line_len(bytes);
+    comment_with(&bytes[..len], len + 2)
+}
+
 // The comment or the sign at the front, whose "/" stands before the bytes.
 fn slash_of(rest: &[u8]) -> Result<FrontPiece, Stop>
     ensures { result ≡ shown (slash_at rest.now) }
 {
     match rest {
-        [b'/' | b'*', ..] => match comment_of(rest) {
-            Some(comment) => Ok(FrontPiece {
-                kind: PieceKind::Gap,
-                len: comment.len,
-            }),
+        [b'/', bytes @ ..] => line_of(bytes),
+        [b'*', bytes @ ..] => match comment_of(rest) {
+            Some(comment) => comment_with(&bytes[..comment.len - 4], comment.len),
             None => Err(Stop {
                 cause: Cause::OpenComment,
                 at: 0,

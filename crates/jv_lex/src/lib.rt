@@ -22,8 +22,8 @@ const MOST_BYTES: usize = 1_048_576;
 ///
 /// # Errors
 /// `TooLarge` for over 1,048,576 bytes. Else the first fault in the text: `BadByte` where nothing
-/// begins or the bytes stop to be UTF-8, `OpenComment`, `OpenText`, `BadEscape` or `BadNumber`.
-/// `Memory` where memory is wanted.
+/// begins, an escape of Unicode begins in a comment, or the bytes stop to be UTF-8; `OpenComment`,
+/// `OpenText`, `BadEscape` or `BadNumber`. `Memory` where memory is wanted.
 pub fn tokens(alloc: Global, file: u32, bytes: &[u8]) -> Result<mg_text::List<Token>, LexFault>
     // What is answered is so, want of memory aside.
     ensures found { Answers result (Outcome file bytes.now) }

@@ -6,7 +6,7 @@ use Rattle.mg_text.specs.declared.place.Place.{Place}
 use Rattle.jv_tree.specs.Source.{Expr, Int, Truth, Text, Null, This, Variable, Member, Neg, Not, Binary, Call, MethodCall, New, place_of}
 use Rattle.jv_resolve_law.specs.Tables.{◌>>=◌, Tables}
 use Rattle.jv_resolve_law.specs.Expressions.{Known, Standing, Resolved, OnThis, OnValue, found, own_found, variable_at, constant_at}
-use Rattle.jv_resolve_law.specs.Expressions.{constant, member, named_receiver, receiver, initial}
+use Rattle.jv_resolve_law.specs.Expressions.{constant, member, named_receiver, receiver}
 use Rattle.jv_resolve.specs.inner.Heads.{Head, ThisHead, NameHead, OtherHead, head_of}
 
 -- a test of heads, to tell them apart
@@ -132,35 +132,3 @@ module _ (tables : Tables) (at : Standing) (locals : List Known) where
     receiver-other (Call q f args) is = refl
     receiver-other (MethodCall q e f args) is = refl
     receiver-other (New q c) is = refl
-
-module _ (tables : Tables) (p : Place) (name : Name) where
-  pub initial-name : (e : Expr) (x : Name) → head_of e ≡ NameHead x → initial tables (Member p e name) ≡ option_map (λ r. r.expr)
-      (constant tables p x name)
-  initial-name (Variable q y) x is = ap (λ z. option_map (λ r. r.expr) (constant tables p z name)) (ap name_in is)
-  initial-name (This q) x is = not_name ThisHead x refl is
-  initial-name (Int q z) x is = not_name OtherHead x refl is
-  initial-name (Truth q b) x is = not_name OtherHead x refl is
-  initial-name (Text q t) x is = not_name OtherHead x refl is
-  initial-name (Null q) x is = not_name OtherHead x refl is
-  initial-name (Member q e y) x is = not_name OtherHead x refl is
-  initial-name (Neg q e) x is = not_name OtherHead x refl is
-  initial-name (Not q e) x is = not_name OtherHead x refl is
-  initial-name (Binary q o l r) x is = not_name OtherHead x refl is
-  initial-name (Call q f args) x is = not_name OtherHead x refl is
-  initial-name (MethodCall q e f args) x is = not_name OtherHead x refl is
-  initial-name (New q c) x is = not_name OtherHead x refl is
-
-  pub initial-no_name : (e : Expr) → is_name (head_of e) ≡ false → initial tables (Member p e name) ≡ None
-  initial-no_name (Variable q x) no_name = absurd (true≢false no_name)
-  initial-no_name (This q) no_name = refl
-  initial-no_name (Int q z) no_name = refl
-  initial-no_name (Truth q b) no_name = refl
-  initial-no_name (Text q t) no_name = refl
-  initial-no_name (Null q) no_name = refl
-  initial-no_name (Member q e x) no_name = refl
-  initial-no_name (Neg q e) no_name = refl
-  initial-no_name (Not q e) no_name = refl
-  initial-no_name (Binary q o l r) no_name = refl
-  initial-no_name (Call q f args) no_name = refl
-  initial-no_name (MethodCall q e f args) no_name = refl
-  initial-no_name (New q c) no_name = refl

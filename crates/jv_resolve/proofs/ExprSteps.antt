@@ -1,5 +1,5 @@
 -- What an expression is resolved to, from what its parts are.
-use Rattle.std.proofs.Common.{◌≡◌, ℕ, List, [], ◌∷◌, ◌++◌, Bool, Option, Some, None, refl, sym, ap, ◌∙◌, append_assoc, append-nil}
+use Rattle.std.proofs.Common.{◌≡◌, ℕ, List, [], ◌∷◌, ◌++◌, Bool, Option, Some, None, refl, sym, ap, ◌∙◌, append_assoc}
 use Rattle.std.specs.Prelude.{ℤ, map}
 use Rattle.std.specs.Option.{option_map}
 use Rattle.std.specs.declared.boxed.Box.{Box}
@@ -167,8 +167,3 @@ module _ (tables : Tables) (at : Standing) (locals : List Known) where
         fails_as err _ _ opened
         (fails_map err (meant (expr_of x) >>= λ r. all_meant (exprs_of (map expr_of rest)) >>= λ es. Some (r.expr ∷ es)) (λ es. done ++ es)
         (fails_then err (meant (expr_of x)) (λ r. all_meant (exprs_of (map expr_of rest)) >>= λ es. Some (r.expr ∷ es)) h))
-
-  pub args_done : (args : List KeptExpr) (done : List Core.Expr) (total : Option (List Core.Expr)) →
-      total ≡ behind done (all_meant (exprs_of (map expr_of args))) → args ≡ [] → total ≡ Some done
-  args_done args done total so_far end = so_far ∙ ap (λ xs. behind done (all_meant (exprs_of (map expr_of xs)))) end ∙
-      ap Some (append-nil done)

@@ -9,9 +9,9 @@ use Rattle.jv_resolve_law.specs.Expressions.{Known, Standing}
 use Rattle.jv_resolve_law.specs.Statements.{Counted, Counting, Around, Item, stmt, local, declared}
 use Rattle.jv_resolve.specs.declared.given.Unresolved.{Unresolved}
 use Rattle.jv_resolve.specs.inner.Counted.{counting, itemed, item_at}
-use Rattle.jv_resolve.specs.inner.Gives.{Fails, Gives}
+use Rattle.jv_resolve.specs.inner.Gives.{Gives}
 use Rattle.jv_resolve.specs.inner.WrittenLocal.{WrittenLocal, written_in, local_item}
-use Rattle.jv_resolve.proofs.Chains.{fails_map, fails_then, fails_as}
+use Rattle.jv_resolve.proofs.Chains.{fails_map}
 
 abbrev same_scope : List Known → Option (Counting Core.Stmt) → Option Item
 same_scope locals r = option_map (λ a. itemed a.it locals a.so_far) r
@@ -68,15 +68,3 @@ module _ (tables : Tables) (at : Standing) (w : WrittenLocal) (locals : List Kno
 
   abbrev in_scope : Counting Known × Core.Stmt → Option Item
   in_scope k = declared k.0.it locals >>= λ more. Some (itemed k.1 more k.0.so_far)
-
-  pub local_item_made : (k : Counting Known) (made : Core.Stmt) (more : List Known) → kept ≡ Some (k, made) →
-      declared k.it locals ≡ Some more → local_item tables at w locals s ≡ Some (itemed made more k.so_far)
-  local_item_made k made more h new = ap (λ o. o >>= in_scope) h ∙ ap (λ o. o >>= λ ls. Some (itemed made ls k.so_far)) new
-
-  pub local_item_fails : (err : Unresolved) → Fails err kept → Fails err (local_item tables at w locals s)
-  local_item_fails err h = fails_then err kept in_scope h
-
-  pub scope_fails : (err : Unresolved) (k : Counting Known) (made : Core.Stmt) → kept ≡ Some (k, made) → Fails err (declared k.it locals) →
-      Fails err (local_item tables at w locals s)
-  scope_fails err k made h new = fails_as err _ _ (ap (λ o. o >>= in_scope) h)
-      (fails_then err (declared k.it locals) (λ ls. Some (itemed made ls k.so_far)) new)

@@ -34,10 +34,6 @@ labels_first enum (Some name) ls = label_first (constant_position enum name) (la
 abbrev pub with_labels : List (Option ℕ) → Option (List (Option ℕ)) → Option (List (Option ℕ))
 with_labels done rest = option_map (λ ns. done ++ ns) rest
 
-pub labels_start : (o : Option (List (Option ℕ))) → o ≡ with_labels [] o
-labels_start None = refl
-labels_start (Some ns) = refl
-
 labels_moved : (done : List (Option ℕ)) (n : Option ℕ) (rest : Option (List (Option ℕ))) → with_labels done (rest >>= λ ns. Some (n ∷ ns)) ≡
     with_labels (done ++ n ∷ []) rest
 labels_moved done n None = refl

@@ -1,5 +1,5 @@
 -- Types that are given, variables that are found, and what stands where code stands.
-use Rattle.std.proofs.Common.{◌≡◌, ℕ, suc, ◌<◌, Bool, true, false, cond, true≢false, List, [], ◌∷◌, map, length, Option, Some, None}
+use Rattle.std.proofs.Common.{◌≡◌, ℕ, ◌<◌, Bool, true, false, cond, true≢false, List, [], ◌∷◌, map, length, Option, Some, None}
 use Rattle.std.proofs.Common.{option_map, position, nat_lt, slice_get, refl, sym, ap, ◌∙◌, subst, arith}
 use Rattle.std.specs.Prelude.{find, if◌then◌else◌}
 use Rattle.std.specs.List.{list_any, position_or_len}
@@ -74,10 +74,6 @@ module _ (program : Program) (core : Core.Program) where
 abbrev pub Falls : ℕ → List Known → Type 0
 Falls n [] = Unit {0}
 Falls n (l ∷ ls) = (l.it.slot < n) × Falls l.it.slot ls
-
-pub falls_under : (n m : ℕ) (ls : List Known) → n < suc m → Falls n ls → Falls m ls
-falls_under n m [] h f = tt
-falls_under n m (l ∷ ls) h f = (omega (arith, h, f.0), f.1)
 
 abbrev pub slots_in : List Known → List ℕ
 slots_in ls = map (λ l. l.it.slot) ls

@@ -15,7 +15,4 @@ mod TotalExpressions
 mod TotalStatements
 mod TotalMembers
 mod TotalWhole
-pub mod Elaboration
-pub mod StatementElaboration
-pub mod MethodElaboration
 mod Shaped

@@ -4,7 +4,4 @@ pub mod Statements
 pub mod Members
 pub mod Targets
 pub mod Laws
-pub mod Elaboration
-pub mod StatementElaboration
-pub mod MethodElaboration
 pub mod ShapedLaws

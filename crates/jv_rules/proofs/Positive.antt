@@ -11,14 +11,13 @@ use Rattle.mg_read.proofs.Judging.{judged-clean}
 use Rattle.jv_tree.specs.Source.{Expr, Exprs, Variable, Member, Call, MethodCall, place_of}
 use Rattle.jv_rules.specs.declared.condition.Condition.{Condition}
 use Rattle.jv_rules.specs.declared.condition.Condition.TheVariants as conditions
-use Rattle.jv_rules.specs.Program.{Program}
 use Rattle.jv_rules.specs.Types.{ValueType, Signature}
 use Rattle.jv_rules.specs.Scope.{Scope, variable_type}
 use Rattle.jv_rules.specs.Typing.{type_of, called, called_on}
-use Rattle.jv_rules.specs.Spots.{Spot, AtNode, Value, spots}
+use Rattle.jv_rules.specs.Spots.{Spot, AtNode, Value}
 use Rattle.jv_rules.specs.Taking.{Taken, Takes, Suits, taken_at, count_of}
 use Rattle.jv_rules.specs.Conditions as says
-use Rattle.jv_rules.specs.Faults.{AtSpot, on_methods, IsAtFault, IsFault}
+use Rattle.jv_rules.specs.Faults.{AtSpot, on_methods, IsAtFault}
 use Rattle.jv_rules.specs.inner.Deciding.{suits, fault_at, first_kind, answer, told}
 use Rattle.jv_rules.proofs.Tests.{nothing_in, in_cases, in_first, in_later}
 use Rattle.jv_rules.proofs.Deciding.{Answers, answer-right, fault_at-right, suits-Decides}
@@ -28,11 +27,6 @@ pub clean_at : {X C : Type 0} (At : X → C → Type 0) (xs : List X) → Clean 
 clean_at At [] h x has c a = nothing_in x has
 clean_at At (y ∷ xs) h x has c a =
     ⊎_elim (λ same. h.0 c (subst (λ z. At z c) (sym same) a)) (λ more. clean_at At xs h.1 x more c a) (in_cases xs y x has)
-
--- A spot of a program without a fault has none.
-pub no_fault_at : (program : Program) → IsFault program None → (s : Spot) → Contains (spots program) s → (f : Condition × Culprit) →
-    IsAtFault s f → ⊥
-no_fault_at program fine s has = clean_at IsAtFault (spots program) (judged-clean fine) s has
 
 -- nothing is told at a spot without a fault
 pub fault_at-None : (s : Spot) → ((f : Condition × Culprit) → IsAtFault s f → ⊥) → fault_at s ≡ None

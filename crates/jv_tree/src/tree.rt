@@ -6,7 +6,6 @@ use mg_text::{List, Place, Text};
 use ts_tree::TypeName;
 
 /// A file: its declarations, in the order of the text.
-#[derive(Debug)]
 pub struct File {
     pub decls: List<Decl>,
 }
@@ -18,7 +17,6 @@ impl Drop for File {
 }
 
 /// A declaration of a file.
-#[derive(Debug)]
 pub enum Decl {
     Class(Class),
     Enum(Enum),
@@ -34,7 +32,6 @@ impl Drop for Decl {
 }
 
 /// An enum with its constants, and the place of its name.
-#[derive(Debug)]
 pub struct Enum {
     pub place: Place,
     pub name: Text,
@@ -52,7 +49,6 @@ impl Drop for Enum {
 }
 
 /// A class, and the place of its name. `typestate` is the text of its annotation.
-#[derive(Debug)]
 pub struct Class {
     pub place: Place,
     pub name: Text,
@@ -74,7 +70,6 @@ impl Drop for Class {
 }
 
 /// A field, and the place of its name.
-#[derive(Debug)]
 pub struct Field {
     pub place: Place,
     pub ty: TypeName,
@@ -95,7 +90,6 @@ impl Drop for Field {
 
 /// A method, with the place of its name and that of its closing brace. `takes_args` says that
 /// its one parameter is the `String[]` of `main`, which is not among `params`.
-#[derive(Debug)]
 pub struct MethodDecl {
     pub place: Place,
     pub end: Place,
@@ -123,7 +117,6 @@ impl Drop for MethodDecl {
 }
 
 /// A parameter, and the place of its name.
-#[derive(Debug)]
 pub struct Param {
     pub place: Place,
     pub ty: TypeName,
@@ -141,7 +134,7 @@ impl Drop for Param {
 }
 
 /// A statement. A declaration has the place of its name, another one that of its first token.
-#[derive(Debug, Drop)]
+#[derive(Drop)]
 #[cycle(stmt)]
 pub struct Stmt {
     pub place: Place,
@@ -149,7 +142,7 @@ pub struct Stmt {
 }
 
 /// What a statement is. The place of a block and of a `switch` is that of the closing brace.
-#[derive(Debug, Drop)]
+#[derive(Drop)]
 #[cycle(stmt)]
 pub enum StmtKind {
     Block(List<Stmt>, Place),
@@ -175,7 +168,7 @@ pub enum StmtKind {
 
 /// A group of a `switch`: its labels, where none stands for `default`, its statements, and the
 /// place of the token after it.
-#[derive(Debug, Drop)]
+#[derive(Drop)]
 #[cycle(stmt)]
 pub struct Group {
     pub labels: List<Option<Text>>,
@@ -184,7 +177,7 @@ pub struct Group {
 }
 
 /// An expression, with the place of its first token that is no `(`.
-#[derive(Debug, Drop)]
+#[derive(Drop)]
 #[cycle(expr)]
 pub struct Expr {
     pub place: Place,
@@ -192,7 +185,7 @@ pub struct Expr {
 }
 
 /// What an expression is.
-#[derive(Debug, Drop)]
+#[derive(Drop)]
 #[cycle(expr)]
 pub enum ExprKind {
     Int(i32),

@@ -126,10 +126,6 @@ module _ (program : Program) (origins : List ℕ) where
 
 -- ---- entries and classes
 
-first_by-map : {X Y C : Type 0} (f : Y → Option C) (g : X → Y) (xs : List X) → first_by f (map g xs) ≡ first_by (λ x. f (g x)) xs
-first_by-map f g [] = refl
-first_by-map f g (x ∷ xs) = ap (option_or (f (g x))) (first_by-map f g xs)
-
 by_typestate : (program : Program) (f : Option protocols.Typestate → Class → Option Culprit) (es : List ClassEntry) →
     map typestate_in es ≡ map (λ e. typestate_of program (class_in e)) es →
     first_by (λ e. f (typestate_in e) (class_in e)) es ≡ first_by (λ c. f (typestate_of program c) c) (map class_in es)

@@ -13,7 +13,7 @@ use Rattle.jv_meaning.specs.Program.{enum_named}
 use Rattle.jv_rules.specs.declared.condition.Condition.{Condition}
 use Rattle.jv_rules.specs.declared.condition.Condition.TheVariants as conditions
 use Rattle.jv_rules.specs.Types.{ValueType, EnumType}
-use Rattle.jv_rules.specs.Scope.{Scope, field_type, variable_type}
+use Rattle.jv_rules.specs.Scope.{Scope, variable_type}
 use Rattle.jv_rules.specs.Typing.{member_type, constant_type}
 use Rattle.jv_rules.specs.Spots.{Value, nodes}
 use Rattle.jv_rules.specs.inner.Deciding.{told, when, has_constant, names_class}
@@ -30,37 +30,6 @@ abbrev by_type : Place → Name → Option ValueType → Option (Condition × Cu
 by_type p x o = told conditions.UnknownName (when (not (is_some o)) (culprit p x)) None
 
 module _ (s : Scope) (p : Place) (n : Name) where
-  pub own_known : (e : Expr) → is_this e ≡ true → (ty : KeptType) → Some (type_seen ty) ≡ field_type s n →
-      IsChecked s (Member p e n) (record { ty = ty; helper = false })
-  own_known (This q) t ty e = record { fine = ap (λ o. option_or (by_type p n o) None) (sym e); typed = sym e; helper = refl }
-  own_known (Int q z) t ty e = absurd (true≢false (sym t))
-  own_known (Truth q b) t ty e = absurd (true≢false (sym t))
-  own_known (Text q t') t ty e = absurd (true≢false (sym t))
-  own_known (Null q) t ty e = absurd (true≢false (sym t))
-  own_known (Variable q x') t ty e = absurd (true≢false (sym t))
-  own_known (Member q r m) t ty e = absurd (true≢false (sym t))
-  own_known (Neg q r) t ty e = absurd (true≢false (sym t))
-  own_known (Not q r) t ty e = absurd (true≢false (sym t))
-  own_known (Binary q o l r) t ty e = absurd (true≢false (sym t))
-  own_known (Call q m args) t ty e = absurd (true≢false (sym t))
-  own_known (MethodCall q r m args) t ty e = absurd (true≢false (sym t))
-  own_known (New q m) t ty e = absurd (true≢false (sym t))
-
-  pub own_unknown : (e : Expr) → is_this e ≡ true → None ≡ field_type s n → expr_fault s (Member p e n) ≡ unknown p n
-  own_unknown (This q) t e = ap (λ o. option_or (by_type p n o) None) (sym e)
-  own_unknown (Int q z) t e = absurd (true≢false (sym t))
-  own_unknown (Truth q b) t e = absurd (true≢false (sym t))
-  own_unknown (Text q t') t e = absurd (true≢false (sym t))
-  own_unknown (Null q) t e = absurd (true≢false (sym t))
-  own_unknown (Variable q x') t e = absurd (true≢false (sym t))
-  own_unknown (Member q r m) t e = absurd (true≢false (sym t))
-  own_unknown (Neg q r) t e = absurd (true≢false (sym t))
-  own_unknown (Not q r) t e = absurd (true≢false (sym t))
-  own_unknown (Binary q o l r) t e = absurd (true≢false (sym t))
-  own_unknown (Call q m args) t e = absurd (true≢false (sym t))
-  own_unknown (MethodCall q r m args) t e = absurd (true≢false (sym t))
-  own_unknown (New q m) t e = absurd (true≢false (sym t))
-
   -- behind a name: that of a variable, of an enum, of a class, or of nothing
   answers : Place → Name → Option ValueType → Option Enum → Bool → Option (Condition × Culprit)
   answers q x v o b =

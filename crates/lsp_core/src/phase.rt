@@ -6,7 +6,7 @@ ghost use Rattle.lsp_core.specs.Phases.{call_phase, notice_phase};
 use lsp_messages::{Call, Notice};
 
 /// Where a server stands between its start and its end.
-#[derive(Clone, Copy, Debug, PartialEq, Eq)]
+#[derive(Clone, Copy, PartialEq, Eq)]
 pub enum Phase {
     /// Before `initialize`.
     Fresh,

@@ -9,7 +9,7 @@ use lsp_text::Encoding;
 use mg_text::Text;
 
 /// What a message comes to.
-#[derive(Debug, Drop)]
+#[derive(Drop)]
 pub enum Step {
     /// Nothing is to be told.
     Quiet,

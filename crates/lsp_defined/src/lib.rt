@@ -18,6 +18,3 @@ mod spots;
 pub use calls::definitions;
 pub use hovers::hover;
 pub use laws::{each_call_stands, rows_hold};
-
-#[cfg(test)]
-mod tests;

@@ -8,6 +8,3 @@ mod laws;
 pub use arrows::diagram;
 pub use drawings::drawing;
 pub use laws::rows_hold;
-
-#[cfg(test)]
-mod tests;

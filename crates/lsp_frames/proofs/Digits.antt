@@ -1,9 +1,8 @@
 -- A number that is read digit by digit, up to a limit.
-use Rattle.std.proofs.Common.{◌≡◌, ℕ, ◌+◌, ◌-◌, ◌*◌, ◌<◌, ◌≤◌, List, [], ◌∷◌, length, get_or, drop, true, false, refl}
+use Rattle.std.proofs.Common.{◌≡◌, ℕ, ◌+◌, ◌-◌, ◌*◌, ◌<◌, ◌≤◌, List, [], ◌∷◌, length, get_or, drop, true, refl}
 use Rattle.std.proofs.Common.{sym, ap, ◌∙◌, subst, arith}
 use Rattle.std.proofs.lemmas.Bool.Decides.{nat_tests}
 use Rattle.std.proofs.lemmas.List.{drop_more, drop_all}
-use Rattle.std.proofs.lemmas.Str.Parse.{digit_from_value}
 use Rattle.std.proofs.lemmas.Str.Ascii.{trim_ascii_is}
 use Rattle.std.specs.Char.{digit_value, is_ascii_digit}
 use Rattle.std.specs.Str.{IsTrimAscii}
@@ -19,9 +18,6 @@ pub record Left (number index : ℕ) (digits : List ℕ) (limit : ℕ) : Type 0 
 
 digit_is : (c : ℕ) → is_ascii_digit c ≡ true → (digit_value c ≡ c - 48) × (digit_value c < 10)
 digit_is c h = (grind (arith, nat_tests), grind (arith, nat_tests))
-
-not_digit : (c : ℕ) → is_ascii_digit c ≡ false → digit_value c < 10 → ⊥
-not_digit c h less = let range = digit_from_value c less in grind (arith, nat_tests)
 
 grows : (n : ℕ) (ds : List ℕ) → n ≤ digits_value_after 10 n ds
 grows n [] = omega arith
@@ -52,12 +48,6 @@ step limit n i m digits less l is e small =
       rest = λ h. (o.1 h).1;
       small = small;
     }
-
--- a byte that is no digit
-pub no_numeral : {A : Type 0} (limit n i : ℕ) (digits : List ℕ) → i < length digits → Left n i digits limit →
-    is_ascii_digit (get_or digits i 0) ≡ false → IsNumeral 10 digits → A
-no_numeral limit n i digits less l is h =
-    absurd (not_digit (get_or digits i 0) is ((opened limit n i digits less l).1 h.1).0)
 
 -- a number above the limit stays above it
 pub too_much : (limit n i m : ℕ) (digits : List ℕ) → i < length digits → Left n i digits limit → is_ascii_digit (get_or digits i 0) ≡ true →

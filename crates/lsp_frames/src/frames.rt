@@ -8,14 +8,14 @@ use std::alloc::Global;
 use std::marker::Model;
 
 /// The bytes that have come and aren't read yet. Contracts see them as the list of them.
-#[derive(Debug, Drop)]
+#[derive(Drop)]
 pub struct Frames {
     bytes: Bytes,
     passed: usize,
 }
 
 /// Why no body is given.
-#[derive(Clone, Copy, Debug, PartialEq, Eq)]
+#[derive(Clone, Copy, PartialEq, Eq)]
 pub enum FrameFault {
     /// What has come is no frame, and never becomes one.
     Refused {

@@ -12,7 +12,7 @@ use crate::lines::{Cut, Said, begin, say};
 pub const HEAD_LIMIT: usize = 4096;
 
 /// Why bytes are no frame, and never become one, whatever follows them.
-#[derive(Clone, Copy, Debug, PartialEq, Eq)]
+#[derive(Clone, Copy, PartialEq, Eq)]
 pub enum Fault {
     /// A line of the head ends with a line feed that has no carriage return before it.
     NoReturn,
@@ -29,7 +29,7 @@ pub enum Fault {
 }
 
 /// What stands at the front of bytes.
-#[derive(Clone, Copy, Debug, PartialEq, Eq)]
+#[derive(Clone, Copy, PartialEq, Eq)]
 pub enum Taken {
     /// A frame.
     Frame {

@@ -5,7 +5,7 @@ ghost use Rattle.std.specs.Prelude.{◌≡◌, IfOk};
 use mg_text::{Memory, Text};
 
 /// By what a client tells its requests apart.
-#[derive(Debug, Drop)]
+#[derive(Drop)]
 pub enum Id {
     /// A whole number.
     Number(i64),

@@ -5,7 +5,7 @@ use lsp_text::{Change, Position, Range};
 use mg_text::Text;
 
 /// What one frame of a client holds.
-#[derive(Debug, Drop)]
+#[derive(Drop)]
 pub enum Incoming {
     /// A request, which gets one response.
     Request {
@@ -28,7 +28,7 @@ pub enum Incoming {
 }
 
 /// A position in a document.
-#[derive(Debug, Drop)]
+#[derive(Drop)]
 pub struct Point {
     /// The document's name.
     pub document: Text,
@@ -37,7 +37,7 @@ pub struct Point {
 }
 
 /// What a request asks for.
-#[derive(Debug, Drop)]
+#[derive(Drop)]
 pub enum Call {
     /// `initialize`.
     Initialize {
@@ -55,7 +55,7 @@ pub enum Call {
 }
 
 /// What is asked about a document.
-#[derive(Debug, Drop)]
+#[derive(Drop)]
 pub enum Question {
     /// `textDocument/hover`.
     Hover(Point),
@@ -77,7 +77,7 @@ pub enum Question {
 }
 
 /// What a notification tells.
-#[derive(Debug, Drop)]
+#[derive(Drop)]
 pub enum Notice {
     /// `initialized`.
     Initialized,

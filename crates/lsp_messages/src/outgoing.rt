@@ -5,7 +5,7 @@ use lsp_text::{Encoding, Position, Range};
 use mg_text::Text;
 
 /// What one frame of the server holds.
-#[derive(Debug, Drop)]
+#[derive(Drop)]
 pub enum Outgoing {
     /// The response to a request that is answered.
     Answered {
@@ -33,7 +33,7 @@ pub enum Outgoing {
 }
 
 /// Why something isn't answered: the protocol's error codes.
-#[derive(Clone, Copy, Debug, PartialEq, Eq)]
+#[derive(Clone, Copy, PartialEq, Eq)]
 pub enum Code {
     /// -32700: no JSON.
     ParseError,
@@ -48,7 +48,7 @@ pub enum Code {
 }
 
 /// What a request is answered.
-#[derive(Debug, Drop)]
+#[derive(Drop)]
 pub enum Answer {
     /// `null`.
     Nothing,
@@ -74,7 +74,7 @@ pub enum Answer {
 }
 
 /// What is wrong at a place. Each is an error.
-#[derive(Debug, Drop)]
+#[derive(Drop)]
 pub struct Diagnostic {
     /// Where it shows.
     pub range: Range,
@@ -85,7 +85,7 @@ pub struct Diagnostic {
 }
 
 /// A method that may be called.
-#[derive(Debug, Drop)]
+#[derive(Drop)]
 pub struct Item {
     /// Its name, which is put.
     pub name: Text,
@@ -96,7 +96,7 @@ pub struct Item {
 }
 
 /// A text that is shown between the characters of a document.
-#[derive(Debug, Drop)]
+#[derive(Drop)]
 pub struct Hint {
     /// Where it is shown.
     pub position: Position,
@@ -105,7 +105,7 @@ pub struct Hint {
 }
 
 /// A range of a document.
-#[derive(Debug, Drop)]
+#[derive(Drop)]
 pub struct Location {
     /// The document's name.
     pub document: Text,
@@ -114,7 +114,7 @@ pub struct Location {
 }
 
 /// What a document declares: the protocol's `SymbolInformation`.
-#[derive(Debug, Drop)]
+#[derive(Drop)]
 pub struct Symbol {
     /// Its name.
     pub name: Text,
@@ -127,7 +127,7 @@ pub struct Symbol {
 }
 
 /// What a symbol is.
-#[derive(Clone, Copy, Debug, PartialEq, Eq)]
+#[derive(Clone, Copy, PartialEq, Eq)]
 pub enum SymbolKind {
     /// A class (5).
     Class,

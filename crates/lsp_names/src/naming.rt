@@ -10,7 +10,7 @@ use percent_encoding::{
 use std::alloc::Global;
 
 /// What the name of a document says of a file.
-#[derive(Debug, Drop)]
+#[derive(Drop)]
 pub enum Named {
     /// A file of this machine, by its path, which begins with a slash.
     Path(Text),

@@ -22,12 +22,6 @@ use Rattle.lsp_offers.proofs.Meeting.{any_noted}
 
 -- what elements offer
 
-pub methods_low : (states : List State) (e : ℕ) → e < 3 → methods_at states e ≡ []
-methods_low states zero h = refl
-methods_low states (suc zero) h = refl
-methods_low states (suc (suc zero)) h = refl
-methods_low states (suc (suc (suc q))) h = absurd (omega (arith, h))
-
 abbrev pub methods_of_state : List State → ℕ → List Method
 methods_of_state states q = elim (slice_get states q) [ None ↦ [] | Some s ↦ s.methods ]
 

@@ -17,6 +17,3 @@ mod typing;
 
 pub use laws::rows_hold;
 pub use offering::offers;
-
-#[cfg(test)]
-mod tests;

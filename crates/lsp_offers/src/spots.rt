@@ -5,7 +5,7 @@ ghost use Rattle.lsp_spans.specs.Words.{is_run_byte, is_word_byte, run_len};
 ghost use Rattle.lsp_offers.specs.Spots.{begins_name, begin_of, is_spot, spot_before, spot_at};
 
 /// Where a method is being typed: where the path of its variable begins, and where the dot behind it stands.
-#[derive(Clone, Copy, Debug, PartialEq, Eq)]
+#[derive(Clone, Copy, PartialEq, Eq)]
 pub struct Spot {
     /// Where the path begins.
     pub start: usize,

@@ -1,5 +1,5 @@
 -- Serving, turn by turn.
-use Rattle.std.proofs.Common.{◌≡◌, ◌≢◌, ℕ, ◌<◌, List, [], ◌∷◌, ◌++◌, length, take, Bool, Option}
+use Rattle.std.proofs.Common.{◌≡◌, ◌≢◌, ℕ, ◌<◌, List, [], ◌∷◌, ◌++◌, length, take, Option}
 use Rattle.std.proofs.Common.{Some, refl, sym, ap, ◌∙◌, subst, arith, ◌+◌, length-append}
 use Rattle.std.specs.Prelude.{Result, Err, MatchOption}
 use Rattle.std.proofs.lemmas.List.{append-nil}
@@ -63,11 +63,6 @@ module _ (folders : Folders) where
     put = put_one is.told before after is.put;
     goes = on;
   }
-
-  -- at the end
-  exit_put : (clean : Bool) (told : List Outgoing) (before after : Option (List ℕ)) → after ≡ appended (spoken told) before →
-      IsPut (Exit clean) (spoken told) before after
-  exit_put clean told before after e = e
 
   pub exits : (session new : Session) (bytes body rest : List ℕ) (before after : Option (List ℕ)) (ending : Ending) → GoesOn session →
       IsFrame body_limit bytes body rest → IsAnswered folders session body new before after → IsExit new ending →

@@ -8,7 +8,7 @@ use crate::positions::{Position, offset_of};
 use mg_text::Memory;
 
 /// What stands between two positions: the protocol's `Range`.
-#[derive(Clone, Copy, Debug, PartialEq, Eq)]
+#[derive(Clone, Copy, PartialEq, Eq)]
 pub struct Range {
     /// Where it begins.
     pub start: Position,
@@ -17,7 +17,7 @@ pub struct Range {
 }
 
 /// A change of a text: the protocol's `TextDocumentContentChangeEvent`.
-#[derive(Debug, Drop)]
+#[derive(Drop)]
 pub struct Change {
     /// What is replaced. None is the whole text.
     pub range: Option<Range>,

@@ -7,7 +7,7 @@ use std::alloc::Global;
 use std::collections::{BTreeMap, btree_map};
 
 /// A document as it stands in the editor.
-#[derive(Debug, Drop)]
+#[derive(Drop)]
 pub struct Document {
     /// Its version: the number that the editor told last.
     pub version: i64,
@@ -22,7 +22,7 @@ pub struct Documents {
 }
 
 /// Why a change isn't made.
-#[derive(Clone, Copy, Debug, PartialEq, Eq)]
+#[derive(Clone, Copy, PartialEq, Eq)]
 pub enum ChangeFault {
     /// No document of this name is open. Nothing has changed.
     NotOpen,

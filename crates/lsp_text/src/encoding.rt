@@ -1,7 +1,7 @@
 //! The encodings in which a client counts the characters of a line, and what a character counts in each.
 
 /// In what a client counts the characters of a line: the protocol's `PositionEncodingKind`.
-#[derive(Clone, Copy, Debug, PartialEq, Eq)]
+#[derive(Clone, Copy, PartialEq, Eq)]
 pub enum Encoding {
     /// Bytes of UTF-8.
     Utf8,

@@ -13,7 +13,7 @@ use mg_text::Memory;
 use std::alloc::Global;
 
 /// A place in a text, between two characters: the protocol's `Position`. Both numbers count from 0.
-#[derive(Clone, Copy, Debug, PartialEq, Eq)]
+#[derive(Clone, Copy, PartialEq, Eq)]
 pub struct Position {
     /// How many lines end before it.
     pub line: usize,

@@ -188,8 +188,5 @@ tail_is line end = let e = length-drop (end + 1) line in take_all (length line -
 pub within_is : (end n : ℕ) → end ≤ n → (end ≡ n → ⊥) → end < n
 within_is end n low isnt = omega (arith, low, isnt)
 
-pub not_begun : (b : Bool) → b ≡ false → b ≡ true → ⊥
-not_begun b e f = let no : false ≡ true = sym e ∙ f in cc
-
 pub filled_is : (bytes : List ℕ) (r : Bool) → r ≡ false → r ≡ (length bytes == 0) → length bytes ≡ 0 → ⊥
 filled_is bytes r e is none = let no : false ≡ true = sym e ∙ is ∙ eq-eqb (length bytes) 0 none in cc

@@ -32,10 +32,10 @@ use Rattle.stm_acts.specs.Held.{HoldsApi}
 use Rattle.stm_acts.specs.Played.{role_class, HasRole}
 use Rattle.vm_world_law.specs.declared.role.RoleMain.{RoleMain}
 use Rattle.fit_law.specs.Fit.{AreLocals, IsHad}
-use Rattle.fit_same.proofs.Sameness.{same_are_locals}
-use Rattle.fit_play.specs.Play.{PlayIn, AllKeep}
-use Rattle.fit_play.proofs.Had.{api_is_had}
-use Rattle.fit_play.proofs.Play.{none_gets_stuck_in, runs_end_well, turns_are_reached, turns_converse}
+use Rattle.fit_law.proofs.Sameness.{same_are_locals}
+use Rattle.fit_law.specs.Play.{PlayIn, AllKeep}
+use Rattle.fit_law.proofs.Had.{api_is_had}
+use Rattle.fit_law.proofs.Play.{none_gets_stuck_in, runs_end_well, turns_are_reached, turns_converse}
 use Rattle.fit_uses.specs.declared.usage.Use.{Use}
 use Rattle.fit_uses.specs.declared.usage.Use.TheVariants.{Talks, Makes}
 use Rattle.mg_sources.specs.Files.{Source}

@@ -11,7 +11,7 @@ use Rattle.vm_world_law.specs.Turns.{IsRun, counted}
 use Rattle.vm_world_law.specs.World.{Role, World, turns, Rests}
 use Rattle.fit_law.specs.Fit.{IsWell}
 use Rattle.fit_law.specs.Conversed.{IsConfiguration, IsPartOfConversation}
-use Rattle.fit_play.specs.Play.{NoZero, ZeroIn, HasEndedWell}
+use Rattle.fit_law.specs.Play.{NoZero, ZeroIn, HasEndedWell}
 
 -- these sources, the roles of a global protocol with their local protocols, and the roles that run with their classes
 module _ (j : Sources) (roles : List Name) (g : Global) (locals : Name → LocalTree) (mains : List RoleMain) (program : Program) where

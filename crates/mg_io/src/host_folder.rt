@@ -6,15 +6,15 @@ ghost use Rattle.std.specs.Io.KnownBytes.{Appends};
 ghost use Rattle.mg_io.specs.Outside.{name_if_failed, Writes};
 ghost use Rattle.mg_io.specs.Fakes.{counted_if_failed};
 
+use crate::beside::write_file;
 use crate::front::read_front;
 use crate::refusal::Refusals;
 use crate::refused_names::RefusedNames;
-use crate::whole::write_whole;
 use crate::{Folder, IoFault};
 use mg_text::{Bytes, Text};
 use std::alloc::Global;
 use std::fs;
-use std::io::{self, Read, Write};
+use std::io::{self, Read};
 use std::marker::Model;
 use std::rt::Files;
 
@@ -88,7 +88,8 @@ impl<'a, R: Files> Folder for HostFolder<'a, R> {
         self.failed_reads.noted(kept, &refusals, result)
     }
 
-    /// Hands all bytes to a file that was made. `Failed` exactly where the system refuses that.
+    /// Hands all bytes to a file that was made. `Failed` exactly where the system refuses that, or to give it the name:
+    /// it is made beside, but for a link, a device or a file of several names.
     fn write(&mut self, alloc: Global, name: &str, bytes: &[u8]) -> Result<(), IoFault>
         ensures files { Writes name.now bytes.now result None None }
         ensures handed { IsOk result → (made : R.File) × (file : R.File)
@@ -99,10 +100,8 @@ impl<'a, R: Files> Folder for HostFolder<'a, R> {
         let kept = Text::of(alloc, name)?;
         self.failed_writes.reserve()?;
         let mut refusals = Refusals::none();
-        let made = fs::create(self.rt, name);
-        let written = write_opened(made, &mut refusals, bytes);
-        self.failed_writes.noted(kept, &refusals, written)?;
-        Ok(())
+        let written = write_file(alloc, self.rt, &mut refusals, name, bytes);
+        self.failed_writes.noted(kept, &refusals, written)
     }
 }
 
@@ -121,22 +120,4 @@ fn read_opened<F: Read + Drop>(
 {
     let mut reader = refusals.noted(opened)?;
     read_front(alloc, &mut reader, refusals, limit)
-}
-
-/// Hands these bytes to a file that was to be made, and answers it where it took them all.
-/// `Failed` where it can't be made, or refuses a write.
-fn write_opened<F: Write + Drop>(
-    opened: io::Result<F>,
-    refusals: &mut Refusals,
-    bytes: &[u8],
-) -> Result<F, IoFault>
-    ensures handed { IfOk opened
-        (λ made. IfOk result (λ file. Appends (F.contents made) (F.contents file) bytes.now)) }
-    ensures refused { IsErr opened → IsErrOf result IoFault.Failed }
-    ensures memory { IsErrOf result IoFault.Memory → ⊥ }
-    ensures counted { refusals.new ≡ counted_if_failed result refusals.old }
-{
-    let mut file = refusals.noted(opened)?;
-    write_whole(&mut file, refusals, bytes)?;
-    Ok(file)
 }

@@ -2,6 +2,7 @@
 //! Two fakes in memory tell what they hold; two adapters reach the real files and streams.
 #![tactic(auto)]
 
+mod beside;
 mod fault;
 mod file_list;
 mod folder;

@@ -9,7 +9,7 @@ use mg_text::{List, Memory, Text};
 use std::alloc::Global;
 
 /// Why there is no answer.
-#[derive(Clone, Copy, Debug, PartialEq, Eq)]
+#[derive(Clone, Copy, PartialEq, Eq)]
 pub enum AskFault {
     /// The bytes ask nothing: they are no pieces, or a word or a name is no UTF-8.
     Form,

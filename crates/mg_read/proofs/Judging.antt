@@ -1,7 +1,7 @@
 -- Judging by parts.
-use Rattle.std.proofs.Common.{◌≡◌, Result, Ok, Err, List, [], ◌∷◌, ◌++◌, map, Option, Some, None, refl, ap, subst}
+use Rattle.std.proofs.Common.{◌≡◌, List, [], ◌∷◌, ◌++◌, map, Option, Some, None, refl, ap, subst}
 use Rattle.std.specs.Option.{option_or}
-use Rattle.mg_read.specs.First.{Judged, clean, here, later, FirstOf, none, this, next, Clean, found, and_then}
+use Rattle.mg_read.specs.First.{Judged, clean, here, later, FirstOf, none, this, next, Clean, found}
 use Rattle.mg_read.specs.FirstLaws.{IsSingle, Splits}
 
 module _ {X C : Type 0} {At : X → C → Type 0} where
@@ -31,10 +31,6 @@ module _ {X C : Type 0} {At : X → C → Type 0} where
   pub clean-judged : (xs : List X) → Clean At xs → Judged At xs None
   clean-judged [] h = clean
   clean-judged (x ∷ xs) h = later h.0 (clean-judged xs h.1)
-
-  -- one element alone
-  pub judged-one : (x : X) (c : C) → At x c → Judged At (x ∷ []) (Some c)
-  judged-one x c a = here a
 
   -- there is one answer
   pub one_answer : {xs : List X} {r s : Option C} → IsSingle At → Judged At xs r → Judged At xs s → r ≡ s
@@ -131,8 +127,3 @@ no_both_first {K} {C} {Of} never {ks} {f} p q = go ks ks None (Some f) p q refl 
     go ks ls r s (next {k = k} x p) (this {k = j} {c = c} b) e n m = let same : j ≡ k = cc in never k c x
         (subst (λ z. Of z (Some c)) same b)
     go ks ls r s (next {ks = as'} x p) (next {ks = bs'} y q) e n m = let same : as' ≡ bs' = cc in go _ _ r s p q same n m
-
-pub judged-then : {X A B F : Type 0} {At : X → F → Type 0} {xs ys : List X} (r : Result A F) (f : A → Result B F) → Judged At xs (found r) →
-    ((a : A) → r ≡ Ok a → Judged At ys (found (f a))) → Judged At (xs ++ ys) (found (and_then r f))
-judged-then (Ok a) f p q = judged-append p (q a refl)
-judged-then {ys = ys} (Err e) f p q = judged-found ys p

@@ -4,7 +4,7 @@ use Rattle.std.proofs.Common.{refl, sym, ap, ◌∙◌, subst, arith, ⊎_elim, 
 use Rattle.std.specs.Prelude.{◌/◌, ◌%◌, ◌^◌, nat_eq, MatchOption}
 use Rattle.std.specs.Int.{bit_at, w64, trailing_zeros}
 use Rattle.std.proofs.lemmas.Bool.{cases_lt}
-use Rattle.std.proofs.lemmas.List.{get_or_past, at_drop_more, at_drop_all}
+use Rattle.std.proofs.lemmas.List.{at_drop_more, at_drop_all}
 use Rattle.std.proofs.lemmas.Nat.{shr-shr}
 use Rattle.std.proofs.Math.Nat.{div-le_self}
 use Rattle.std.proofs.lemmas.Nat.Bits.{bit_at-zero, bit_at-trailing_zeros}
@@ -94,17 +94,6 @@ module _ (ws : List ℕ) (width from : ℕ) (are : AreWords width ws) where
       subst (λ n. IsNext ws width from (n + trailing_zeros w64 (word ws k))) at
       (word_some k 0 (word ws k) (sym (div-one (word ws k))) some fits (omega arith) (omega (arith, le))
       (subst (Passed ws from) (sym at) passed))
-
-  -- past the last word
-  pub words_end : (k : ℕ) → length ws ≤ k → Passed ws from (k * 64) → NoneFrom ws from
-  words_end k le passed = record {
-    none = λ i a. ⊎_elim (λ lt. passed.each i a lt) (λ past. beyond i past) (cases_lt i (k * 64));
-  }
-    where
-      beyond : (i : ℕ) → k * 64 ≤ i → bit ws i ≡ false
-      beyond i past =
-          let high : length ws ≤ i / 64 = omega (arith, past, le) in
-          ap (λ x. nat_eq (bit_at x (i % 64)) 1) (get_or_past ws (i / 64) 0 high) ∙ ap (λ x. nat_eq x 1) (bit_at-zero (i % 64))
 
 -- The set behind the words.
 module _ (ws : List ℕ) (width from : ℕ) (are : AreWords width ws) where

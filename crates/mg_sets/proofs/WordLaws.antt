@@ -337,9 +337,6 @@ below_width w ws s i v lt = let a : length (values w ws) ≡ w = values_length w
 pub below_now : (w : ℕ) (ws : List ℕ) (s : List Bool) (i : ℕ) → AreWords w ws → values w ws ≡ s → i < length s → i / 64 < length ws
 below_now w ws s i a v lt = within_words w i ws a (below_width w ws s i v lt)
 
-pub blank_words_of : (w : ℕ) (ws : List ℕ) → ws ≡ replicate (w / 64 + 1) 0 → AreWords w ws
-blank_words_of w ws e = subst (AreWords w) (sym e) (blank_words w)
-
 pub blank_values_of : (w : ℕ) (ws : List ℕ) → ws ≡ replicate (w / 64 + 1) 0 → values w ws ≡ replicate w false
 blank_values_of w ws e = ap (values w) e ∙ blank_values w
 

@@ -1,7 +1,7 @@
 -- What reading the program of a command answers.
-use Rattle.std.proofs.Common.{◌≡◌, ℕ, List, [], ◌∷◌, ◌++◌, map, length, Some, None, Result, Ok, Err, sym, ap, ◌∙◌, subst}
+use Rattle.std.proofs.Common.{◌≡◌, ℕ, List, [], ◌∷◌, ◌++◌, map, Some, None, Result, Ok, Err, sym, ap, ◌∙◌, subst}
 use Rattle.std.specs.Prelude.{OnOk}
-use Rattle.std.proofs.lemmas.List.{length-map, append-nil, map-append}
+use Rattle.std.proofs.lemmas.List.{append-nil, map-append}
 use Rattle.mg_text.specs.Row.{Row}
 use Rattle.mg_text.specs.declared.memory.Memory.{Memory}
 use Rattle.mg_read.specs.First.{Judged, with_earlier}
@@ -26,7 +26,6 @@ use Rattle.mg_refusal.specs.declared.stop.Stop.{Stop}
 use Rattle.mg_refusal.proofs.Orders.{refused_by, unless_refused, never_ok}
 use Rattle.mg_sources.specs.Parts.{part_of}
 use Rattle.mg_sources.specs.inner.Answers.{Make, Appends}
-use Rattle.mg_sources.proofs.PartLemmas.{same_length, sources_length}
 use Rattle.mg_sources.proofs.Together.{spelled_from, not_both, one_program}
 
 -- ---- the ways out
@@ -46,15 +45,6 @@ module _ (files : List Source) (stop : Stop) (answer : Result KeptSources Stop) 
   roles_failed parts each h =
       refused_by (λ (done : Unit {0}). Judged SharesRole (with_earlier files) None) (λ r. Judged SharesRole (with_earlier files) (Some r))
       (λ s. AreProgram files (sourced_of s)) (FirstRefusal files) (λ r j. at_next parts each j) stop h answer is
-
--- as many parts as names
-pub part_count : (names contents : List (List ℕ)) (parts slice : List KeptPart) → length names ≡ length contents →
-    EachSpells (sources names contents) (map part_of parts)
-    → slice ≡ parts → length names ≡ length slice
-part_count names contents parts slice same each e =
-    let files = sources_length 0 names contents same in
-    let trees = same_length (sources names contents) (map part_of parts) each in
-    same ∙ sym files ∙ trees ∙ length-map parts part_of ∙ ap length (sym e)
 
 pub of_slice : (files : List Source) (parts slice : List KeptPart) → slice ≡ parts → EachSpells files (map part_of parts) →
     EachSpells files (map part_of slice)

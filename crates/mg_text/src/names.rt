@@ -7,8 +7,8 @@ ghost use Rattle.std.specs.Str.{bytes_eq};
 ghost use Rattle.mg_text.specs.Interned.{with_text};
 
 use crate::Memory;
-use indexmap::IndexSet;
 use std::alloc::Global;
+use std::collections::BTreeMap;
 use std::marker::Model;
 
 /// The number of a text in its table, from 0, in the order of first adding.
@@ -17,25 +17,31 @@ pub struct Name(pub u32);
 
 /// A table of texts, each once. Contracts see it as the list of them, in the order of first adding.
 pub struct Names {
-    texts: IndexSet<String>,
+    texts: Vec<String>,
+    // The number of each text. A tree: a find takes some comparisons of texts, whatever the texts are. A table of hashes
+    // is quicker at most texts, and slow at texts that are chosen to collide.
+    numbers: BTreeMap<String, u32>,
 }
 
 // One call lets go of it, wherever a function ends.
 impl Drop for Names {
     fn drop(self) {
-        let Names { texts: _ } = self;
+        let Names {
+            texts: _,
+            numbers: _,
+        } = self;
     }
 }
 
 impl Model for Names {
-    ghost use Rattle.std.specs.Prelude.{List, ℕ, map, string_bytes, ◌≤◌, ◌^◌};
-    ghost use Rattle.indexmap.specs.IndexSet.{index_set_len};
+    ghost use Rattle.std.specs.Prelude.{List, ℕ, map, string_bytes, ◌≤◌, ◌^◌, vec_len};
+    ghost use Rattle.mg_text.specs.Interned.{HasNumbers};
 
     ghost Value = { List (List ℕ) };
 
-    ghost view = { λ n. map string_bytes n.texts.keys };
+    ghost view = { λ n. map string_bytes n.texts.items };
 
-    ghost invariant = { λ n. index_set_len n.texts ≤ 2 ^ 32 };
+    ghost invariant = { λ n. (vec_len n.texts ≤ 2 ^ 32) × HasNumbers (map string_bytes n.texts.items) n.numbers };
 }
 
 impl Names {
@@ -44,7 +50,8 @@ impl Names {
         ensures { result ≡ [] }
     {
         Names {
-            texts: IndexSet::new(alloc),
+            texts: Vec::new(alloc),
+            numbers: BTreeMap::new(alloc),
         }
     }
 
@@ -81,9 +88,15 @@ impl Names {
         ensures name { IfOk result (λ n. n.0 ≡ length self.old) }
         ensures err { OnErr result (self.new ≡ self.old) }
     {
-        let owned = String::from_str(*self.texts.allocator(), text)?;
-        let (index, _) = self.texts.insert_full(owned)?;
-        Ok(Name(index as u32))
+        let alloc = *self.texts.allocator();
+        let owned = String::from_str(alloc, text)?;
+        let key = String::from_str(alloc, text)?;
+        // Room comes first: after the map has the text, nothing fails.
+        self.texts.reserve(1)?;
+        let end = self.texts.len();
+        self.numbers.insert(key, end as u32)?;
+        self.texts.push(owned).unwrap();
+        Ok(Name(end as u32))
     }
 
     /// The number of a text. None comes exactly where the table does not have it.
@@ -91,8 +104,8 @@ impl Names {
     pub fn find(&self, text: &str) -> Option<Name>
         ensures { option_map (λ n. n.0) result ≡ position (bytes_eq text.now) self.now }
     {
-        match self.texts.get_index_of(text) {
-            Some(index) => Some(Name(index as u32)),
+        match self.numbers.get(text) {
+            Some(number) => Some(Name(*number)),
             None => None,
         }
     }
@@ -102,9 +115,6 @@ impl Names {
         requires { name.0 < length self.now }
         ensures { slice_get self.now name.0 ≡ Some result.now }
     {
-        match self.texts.get_index(name.0 as usize) {
-            Some(text) => text.as_str(),
-            None => unreachable!(),
-        }
+        self.texts[name.0 as usize].as_str()
     }
 }

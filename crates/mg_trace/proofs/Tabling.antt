@@ -1,7 +1,7 @@
 -- The tables of results grow as their methods and classes are added.
 use Rattle.std.proofs.Common.{◌≡◌, ℕ, Bool, true, false, cond, List, [], ◌∷◌, ◌++◌, String, string_bytes, Option, None, Some, Decides, refl}
 use Rattle.std.proofs.Common.{sym, ap, ◌∙◌, subst, append-nil}
-use Rattle.std.specs.Prelude.{option_and_then, slice_get}
+use Rattle.std.specs.Prelude.{slice_get}
 use Rattle.std.specs.Option.{option_or, is_some}
 use Rattle.std.specs.HashMap.{HashMap, get_by_text, UpdatesBy}
 use Rattle.std.specs.Str.{bytes_eq}
@@ -13,9 +13,8 @@ use Rattle.mg_text.specs.Call.{Name}
 use Rattle.jv_core.specs.declared.program.CoreType.{CoreType}
 use Rattle.jv_core.specs.Tree.{Class, Method, Program}
 use Rattle.jv_core.specs.Lookup.{text_at}
-use Rattle.mg_trace.specs.declared.results.Results.{Results}
-use Rattle.mg_trace.specs.Trace.{methods_of, result_in, class_in, result_named}
-use Rattle.mg_trace.specs.inner.Tabled.{AreMethods, IsOwn, AreClasses, AreResults, result_by}
+use Rattle.mg_trace.specs.Trace.{methods_of, result_in, class_in}
+use Rattle.mg_trace.specs.inner.Tabled.{AreMethods, IsOwn, AreClasses}
 
 or_none : {X : Type 0} (o : Option X) → o ≡ option_or o None
 or_none None = refl
@@ -158,14 +157,3 @@ module _ (p : Program) where
         go true d = own_new c own is (class_in p before q) (get_by_text old q)
             (ap (λ (z : Name). is_some (get_by_text old z)) (sym (d.0 refl)) ∙ has) (h q)
         go false d = own_none (class_in p before q) (get_by_text old q) (h q)
-
-  -- what is found in the tables
-  pub found_result : (r : Results) → AreResults p r → (class method : Name) → result_by r class method ≡ result_named p class method
-  found_result r h class method = go (class_in p p.classes class) (get_by_text r.by_class class) (h class)
-    where
-      go : {A S : Type 0} (c : Option Class) (t : Option (HashMap (String A) CoreType S)) → IsOwn p c t →
-          option_and_then (λ own. get_by_text own method) t ≡ option_and_then (λ k. result_in p (methods_of p k.methods) method) c
-      go (Some c) (Some t) h = h method
-      go (Some c) None h = absurd h
-      go None (Some t) h = absurd h
-      go None None h = refl

@@ -50,10 +50,6 @@ up_to_seen events k e is =
     let next : k + 1 ≡ suc k = omega arith in
     ap (λ n. take n events) next ∙ up_to_more events k e is
 
--- nothing is kept at first
-pub none_known : AreKnown [] []
-none_known = record { each = λ r o. refl }
-
 -- what is kept of each object behind one event more
 pub are_known_more : (before after : List (Vec Tracked Global)) (events : List RoleEvent) (e : RoleEvent) → AreKnown before events →
     KeepMore before after e → AreKnown after (events ++ e ∷ [])

@@ -6,7 +6,7 @@ use Rattle.mg_words.specs.Words.{Word, Command, Load, IsWorkload, IsBehind}
 use Rattle.mg_words.specs.Words.{IsCommand, AreCommand, CanBegin, AreWrong}
 use Rattle.mg_words.specs.inner.Judging.{IsNumber, IsUpTo}
 use Rattle.mg_words.proofs.Verbs.{load, mark}
-use Rattle.mg_words.proofs.WordsLemmas.{head_is, tail_is, filled, empty_is, few, wrong_at}
+use Rattle.mg_words.proofs.WordsLemmas.{head_is, tail_is, filled, few, wrong_at}
 
 -- ---- what can begin the command
 
@@ -88,14 +88,6 @@ wrong_surplus rest first second word more more' more'' n seed e e' e'' h h' =
     (wrong_at (load ∷ first ∷ second ∷ []) more' word more'' e''
     ([], (Load n seed, (first ∷ second ∷ [], refl, two_numbers first second n seed h h')))
     (λ b. filled (sym (second_word b.1.0 first second (word ∷ b.0) b.1.1).3)))
-
-pub known_load : (rest : List Word) (first second : Word) (more more' : List Word) (n seed : ℕ) → rest ≡ first ∷ more →
-    more ≡ second ∷ more'
-    → length more' ≡ 0 → IsUpTo 400 first (Some n) → IsNumber second (Some seed) → IsCommand (Load n seed) (load ∷ rest)
-known_load rest first second more more' n seed e e' none h h' =
-    let two : rest ≡ first ∷ second ∷ [] = e ∙ ap (λ (z : List Word). first ∷ z)
-    (e' ∙ ap (λ (z : List Word). second ∷ z) (empty_is more' none)) in
-    (rest, refl, subst (IsBehind (Load n seed)) (sym two) (two_numbers first second n seed h h'))
 
 pub same_load : (command : Command) (n seed : ℕ) (rest : List Word) → IsBehind (Load n seed) rest → IsCommand command (load ∷ rest)
     → Load n seed ≡ command

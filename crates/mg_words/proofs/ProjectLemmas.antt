@@ -133,10 +133,6 @@ pub one_protocol : (files : List Word) (file : Word) (more : List Word) → file
     IsFileOf (codes ".scr") file → IsOneProtocol files
 one_protocol files file more e n h = record { file = file; one = e ∙ ap (λ (z : List Word). file ∷ z) (empty_is more n); scribble = h }
 
-pub known_project : (folder : Option Word) (files : List Word) → IfSome folder IsFileName → IsOneProtocol files
-    → IsCommand (Project folder files) (project ∷ (out_words folder ++ files))
-known_project folder files name one = (out_words folder ++ files, refl, (refl, name, one))
-
 pub same_project : (command : Command) (folder : Option Word) (files rest : List Word) → IsBehind (Project folder files) rest
     → IsCommand command (project ∷ rest) → Project folder files ≡ command
 same_project command folder files rest (e, name, one) is =

@@ -2,12 +2,9 @@
 use Rattle.std.proofs.Common.{◌≡◌, List, [], ◌∷◌, All, length, Some, None, codes, refl, sym, ap, ◌∙◌, subst, arith}
 use Rattle.mg_sources.specs.Files.{EndsWith}
 use Rattle.mg_words.specs.Words.{Word, Command, Refine, IsFileOf}
-use Rattle.mg_words.specs.Words.{AreTwoTypestates, IsBehind, IsCommand, AreCommand, CanBegin, AreWrong}
+use Rattle.mg_words.specs.Words.{IsBehind, IsCommand, AreCommand, CanBegin, AreWrong}
 use Rattle.mg_words.proofs.Verbs.{refine, mark}
-use Rattle.mg_words.proofs.WordsLemmas.{head_is, tail_is, filled, empty_is, All-cons, All-one, few, wrong_at}
-
-some_typestate : Word
-some_typestate = codes "P.protocol"
+use Rattle.mg_words.proofs.WordsLemmas.{head_is, tail_is, filled, All-cons, All-one, few, wrong_at}
 
 named : IsFileOf (codes ".protocol") (codes "P.protocol")
 named = (λ e. cc, (codes "P", refl))
@@ -83,21 +80,6 @@ wrong_surplus rest first second word more more' more'' e e' e'' h h' =
     subst (λ (ws : List Word). AreWrong (refine ∷ ws) (Some word)) (sym (e ∙ ap (λ (z : List Word). first ∷ z) e'))
     (wrong_at (refine ∷ first ∷ second ∷ []) more' word more'' e'' (begins_second first second h h')
     (λ b. filled (sym (second_word b.1.0 first second (word ∷ b.0) b.1.1).1)))
-
-pub two_typestates : (rest : List Word) (first second : Word) (more more' : List Word) → rest ≡ first ∷ more → more ≡ second ∷ more'
-    → length more' ≡ 0 → IsFileOf (codes ".protocol") first → IsFileOf (codes ".protocol") second → AreTwoTypestates rest
-two_typestates rest first second more more' e e' n h h' =
-    record {
-      first = first;
-      second = second;
-      two = e ∙ ap (λ (z : List Word). first ∷ z)
-          (e' ∙ ap (λ (z : List Word). second ∷ z) (empty_is more' n));
-      of_first = h;
-      of_second = h';
-    }
-
-pub known_refine : (rest : List Word) → AreTwoTypestates rest → IsCommand (Refine rest) (refine ∷ rest)
-known_refine rest two = (rest, refl, (refl, two))
 
 pub same_refine : (command : Command) (files rest : List Word) → IsBehind (Refine files) rest → IsCommand command (refine ∷ rest)
     → Refine files ≡ command

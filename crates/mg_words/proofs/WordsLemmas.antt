@@ -11,7 +11,7 @@ use Rattle.scr_tree.specs.Words.{reserved, IsName}
 use Rattle.mg_sources.specs.Files.{EndsWith, Kind, Scribble, Typestates, Java, suffix_of, HaveKinds}
 use Rattle.mg_words.specs.Words.{Word, Command, Translate, Conform, Check, Compile, Run, Exec, Refine, Project, Load, Verify, Fit, Show, Asked}
 use Rattle.mg_words.specs.Words.{AreOptions}
-use Rattle.mg_words.specs.Words.{AreProtocolAndCalls, IsFileName, IsFileOf, IsSourceName, AreSourceNames, out_words, verb}
+use Rattle.mg_words.specs.Words.{IsFileName, IsFileOf, IsSourceName, AreSourceNames, out_words, verb}
 use Rattle.mg_words.specs.Words.{IsBehind, IsCommand, AreCommand, CanBegin, AreWrong}
 use Rattle.mg_words.proofs.Verbs.{translate, conform, check, compile, run, exec, refine, project, load, verify, fit, show, mark}
 use Rattle.mg_words.specs.declared.runs.Input.{Input}
@@ -342,18 +342,6 @@ wrong_third rest protocol calls word more more' more'' e e' e'' h h' =
     (wrong_at (conform ∷ protocol ∷ calls ∷ []) more' word more'' e'' (begins_calls protocol calls h h')
     (λ b. filled (sym (calls_word b.1.0 protocol calls (word ∷ b.0) b.1.1).1)))
 
-pub both_files : (rest : List Word) (protocol calls : Word) (more more' : List Word) → rest ≡ protocol ∷ more → more ≡ calls ∷ more'
-    → length more' ≡ 0 → IsFileOf (codes ".scr") protocol → IsFileName calls → AreProtocolAndCalls rest
-both_files rest protocol calls more more' e e' n h h' =
-    record {
-      protocol = protocol;
-      calls = calls;
-      two = e ∙ ap (λ (z : List Word). protocol ∷ z)
-          (e' ∙ ap (λ (z : List Word). calls ∷ z) (empty_is more' n));
-      scribble = h;
-      named = h';
-    }
-
 -- words that don't begin with the option don't with other words at their end
 pub still_plain : (option : Word) (before : List Word) (word : Word) (after more : List Word)
     → ((r : List Word) → before ++ word ∷ after ≡ option ∷ r → ⊥) → (r : List Word) → before ++ word ∷ more ≡ option ∷ r → ⊥
@@ -407,11 +395,6 @@ kinds_of_run words asked files (r, e, (options, behind, how, are)) = have_kinds 
 pub protocols_of : (words files : List Word) (package_name folder : Option Word) → IsCommand (Translate package_name folder files) words
     → All (IsFileOf (codes ".scr")) files
 protocols_of words files package_name folder (r, e, (options, behind, how, are)) = are.1
-
-pub protocol_of_two : (words files : List Word) (first : Word) → IsCommand (Conform files) words → first ≡ get_or files 0 first
-    → EndsWith (codes ".scr") first
-protocol_of_two words files first (r, e, (behind, are)) is =
-    subst (EndsWith (codes ".scr")) (sym (is ∙ ap (λ (z : List Word). get_or z 0 first) are.two)) are.scribble.1
 
 -- words that are a command aren't wrong
 pub wrong_is_none : (words : List Word) (word : Option Word) (command : Command) → AreWrong words word → IsCommand command words → ⊥

@@ -1,38 +1,34 @@
-//! Class files, linking, the machine, and worlds of roles. Each case of the files in `data/` is
+//! Class files, the machine, and the turns of a role. Each case of the files in `data/` is
 //! answered, and told where its answer isn't what is wanted. What a case gives and what it wants is
 //! said at the head of its file.
 
 mod classes;
 mod codes;
-mod described;
 mod frames;
 pub(crate) mod instrs;
-mod linking;
 mod running;
 mod spelling;
 mod texts;
+mod turns;
 mod unanswered;
 mod walks;
-mod worlds;
 
 use crate::machine::spelling::bytes_of;
 use crate::machine::unanswered::Unanswered;
-use crate::machine::worlds::Worlds;
 use cases::{Answer, Answers, CasesFault, tell};
 use mg_text::Memory;
 use std::alloc::Global;
 use std::fs;
 use std::rt::Files;
 
-/// The files of cases of one role, in the order in which they are answered.
-const FILES: [&str; 7] = [
+/// The files of cases, in the order in which they are answered.
+const FILES: [&str; 6] = [
     "class_texts.txt",
     "class_codes.txt",
     "classes.txt",
     "class_walks.txt",
-    "linking.txt",
-    "running.txt",
     "frames.txt",
+    "turns.txt",
 ];
 
 /// Answers the cases of each file, some of which begin with bytes of a file here.
@@ -87,9 +83,8 @@ impl Machines {
             "class_codes.txt" => codes::tell(alloc, answer, given),
             "classes.txt" => classes::tell(alloc, answer, self.hello.as_slice(), given),
             "class_walks.txt" => walks::tell(alloc, answer, self.hello.as_slice(), given),
-            "linking.txt" => linking::tell(alloc, answer, given),
-            "running.txt" => running::tell(alloc, answer, given),
             "frames.txt" => frames::tell(alloc, answer, self.front.as_slice(), given),
+            "turns.txt" => turns::tell(alloc, answer, self.hello.as_slice(), given),
             _ => Err(Unanswered::Form),
         }
     }
@@ -113,6 +108,5 @@ fn read_bases<R: Files + AllocGlobal>(rt: &R) -> Result<Machines, CasesFault> {
 /// Tells the cases of class files and machines.
 pub(crate) fn tell_all<R: Files + Print + AllocGlobal>(rt: &R) -> Result<(), CasesFault> {
     let machines = read_bases(rt)?;
-    tell(rt, &machines, &FILES)?;
-    tell(rt, &Worlds { rt }, &["worlds.txt"])
+    tell(rt, &machines, &FILES)
 }

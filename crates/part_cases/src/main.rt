@@ -1,5 +1,5 @@
 //! The cases of the parts of mungo: files in `data/`, each with its kind of answer, in three areas.
-//! What is read, printed, walked, projected and refined; class files, machines and worlds; programs,
+//! What is read, printed, walked, projected and refined; class files and machines; programs,
 //! whether they are well typed, their cores and their usages. A case whose answer isn't what is wanted
 //! is told, and behind each file how many it has.
 #![tactic(auto)]

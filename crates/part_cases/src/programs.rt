@@ -4,10 +4,7 @@
 
 mod codes;
 mod cores;
-mod flows;
-mod forms;
 mod judged;
-mod keys;
 mod program;
 mod used;
 
@@ -18,7 +15,7 @@ use std::alloc::Global;
 use std::rt::Files;
 
 /// The files of cases, in the order in which they are answered.
-const FILES: [&str; 29] = [
+const FILES: [&str; 24] = [
     "typed_unread.txt",
     "typed_declarations.txt",
     "typed_programs.txt",
@@ -30,7 +27,6 @@ const FILES: [&str; 29] = [
     "typed_static.txt",
     "typed_results.txt",
     "typed_examples.txt",
-    "forms.txt",
     "cores.txt",
     "judged.txt",
     "codes.txt",
@@ -43,11 +39,7 @@ const FILES: [&str; 29] = [
     "used_fields.txt",
     "used_left.txt",
     "used_examples.txt",
-    "contexts.txt",
-    "tables.txt",
-    "flows.txt",
     "reads.txt",
-    "follows.txt",
 ];
 
 /// What answers cases of programs.

@@ -22,7 +22,7 @@ use std::rt::Files;
 
 /// The files of cases of texts, local protocols, typestates, walks and APIs, in the order in which
 /// they are answered.
-const FILES: [&str; 26] = [
+const FILES: [&str; 21] = [
     "escapes.txt",
     "texts.txt",
     "lists.txt",
@@ -40,11 +40,6 @@ const FILES: [&str; 26] = [
     "written.txt",
     "typestates.txt",
     "states.txt",
-    "numbered.txt",
-    "trees.txt",
-    "layouts.txt",
-    "reached.txt",
-    "calls.txt",
     "generated.txt",
     "walks.txt",
     "label_calls.txt",
@@ -68,10 +63,6 @@ impl Answers for Reading {
             "lists.txt" => bases::listed(alloc, answer, text),
             "names.txt" => bases::numbered(alloc, answer, text),
             "sets.txt" => bases::joined(alloc, answer, text),
-            "typestates.txt" | "states.txt" | "trees.txt" | "layouts.txt" | "reached.txt" => {
-                typestates::tell(alloc, answer, file, given)
-            }
-            "calls.txt" => typestates::called(alloc, answer, text),
             "walks.txt" => walks::walked(alloc, answer, text),
             "protocols.txt"
             | "bodies.txt"
@@ -98,7 +89,7 @@ fn add_part(alloc: Global, answer: &mut Answer, file: &str, given: &[u8]) {
         "reserved_words.txt" => protocols::reserved_word(answer, given),
         "tokens.txt" => protocols::tokens_of(alloc, answer, given),
         "written.txt" => written::written(alloc, answer, given),
-        "numbered.txt" => typestates::numbered(alloc, answer, given),
+        "typestates.txt" | "states.txt" => typestates::tell(alloc, answer, given),
         _ => answer.add("a file of no kind"),
     }
 }

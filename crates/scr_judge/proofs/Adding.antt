@@ -1,14 +1,8 @@
 -- Edges are added to a node, as the program has them.
-use Rattle.std.proofs.Common.{◌≡◌, ℕ, ◌<◌, ◌≤◌, List, [], ◌++◌, Vec, length, get_or, set, sym, ap, subst, ◌∙◌}
+use Rattle.std.proofs.Common.{◌≡◌, ℕ, ◌<◌, List, [], ◌++◌, Vec, length, get_or, set, sym, ap, ◌∙◌}
 use Rattle.std.specs.Global.{Global}
-use Rattle.std.proofs.lemmas.List.{length-map, map-set, get_or-map}
+use Rattle.std.proofs.lemmas.List.{map-set, get_or-map}
 use Rattle.scr_judge.specs.inner.View.{graph_of}
-use Rattle.scr_judge.proofs.Edges.{set_past}
-
--- there is no such node
-pub graph_past : (ts : List (Vec ℕ Global)) (node : ℕ) (es : List ℕ) → length ts ≤ node → graph_of ts ≡ set (graph_of ts) node es
-graph_past ts node es past = sym
-    (set_past (graph_of ts) node es (subst (λ n. n ≤ node) (sym (length-map ts (λ (v : Vec ℕ Global). v.items))) past))
 
 -- there is
 pub graph_more : (ts : List (Vec ℕ Global)) (node : ℕ) (d v : Vec ℕ Global) (more : List ℕ) → node < length ts →

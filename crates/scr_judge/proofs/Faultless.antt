@@ -47,10 +47,6 @@ module _ {X C : Type 0} (At : X → C → Type 0) where
   clean_behind [] ys h = h
   clean_behind (x ∷ xs) ys h = clean_behind xs ys h.1
 
-  clean_map : {Y : Type 0} (f : Y → X) (ys : List Y) → Clean At (map f ys) → Clean (λ y. At (f y)) ys
-  clean_map f [] h = tt
-  clean_map f (y ∷ ys) h = (h.0, clean_map f ys h.1)
-
 -- roles
 clash : (seen : List Entry) (rs : List Role) (r : Role) → Contains seen (lists r) → Clean DuplicateName (behind seen (map lists rs)) →
     Contains (map role_name rs) r.name → ⊥

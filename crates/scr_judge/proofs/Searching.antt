@@ -205,11 +205,6 @@ row_at f [] i x d within is = absurd (omega arith)
 row_at f (y ∷ xs) zero x d within is = ap f (sym is)
 row_at f (y ∷ xs) (suc i) x d within is = row_at f xs i x d (omega arith) is
 
-pub row_past : {Y : Type 0} (ys : List Y) (i : ℕ) (d : Y) → length ys ≤ i → get_or ys i d ≡ d
-row_past [] i d past = refl
-row_past (y ∷ ys) zero d past = absurd (omega arith)
-row_past (y ∷ ys) (suc i) d past = row_past ys i d (omega arith)
-
 -- no edge of the nodes before one leads to a higher rank
 module _ (targets : List (Vec ℕ Global)) (ranks : List ℕ) where
   abbrev pub FallsBefore : ℕ → Type 0

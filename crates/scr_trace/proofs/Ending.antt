@@ -50,9 +50,6 @@ pub record Settling (old now : List Hop) (i : ℕ) : Type 0 where
   pub kept : (hop end : Hop) → Ends old hop end → Ends now hop end
   pub first : (k : ℕ) (end : Hop) → k < i → Ends old (hops.Part k) end → entry_at k now ≡ end
 
-pub settling_none : (old : List Hop) → Settling old old 0
-settling_none old = record { as_many = refl; kept = λ hop end r. r; first = λ k end h r. absurd (omega (arith, h)) }
-
 pub settling_more : (old now new : List Hop) (i : ℕ) (last : Hop) → Settling old now i → i < length now → length new ≡ length now →
     ((end : Hop) → Ends now (hops.Part i) end → last ≡ end) →
     ((k : ℕ) → IsWritten now new i last k) → (i < length now → entry_at i new ≡ last) → Settling old new (i + 1)
@@ -232,14 +229,6 @@ writing_more old now from end at left k plain w h e = record {
   along = ⊎_elim (λ same. along_more k w.along (sym same ∙ e)) (λ v. absurd (subst IsPlain (sym v.0 ∙ e) plain)) (w.written at);
   first = inl (first_more old now from end at left w h);
 }
-
-pub writing_all : (old now : List Hop) (from : ℕ) (end : Hop) (at left : ℕ) → Writing old now from end at left →
-    (left ≡ 0) ⊎ (length now ≤ at) → from < length old → entry_at from now ≡ end
-writing_all old now from end at left w stop within = ⊎_elim
-    (λ f. f within)
-    (λ v. absurd (⊎_elim (λ (z : left ≡ 0). let e = v.1 in omega (arith, e, z, within))
-    (λ (past : length now ≤ at). let e = v.0 in let s = w.as_many in omega (arith, e, s, past, within)) stop))
-    w.first
 
 -- ---- what is laid out
 

@@ -35,9 +35,6 @@ final_behind total v o x u c first opens sets longer final j l h =
     final j (omega arith) (omega arith) ∙ ap (λ ls. get_or ls j 0) sets ∙ get_or-set_other x (length v) j c 0
     (λ e. let z : ⊥ = omega arith in z)
 
-keeps_front : (xs ys : List ℕ) → Keeps xs (xs ++ ys)
-keeps_front xs ys = record { longer = omega (arith, length-append xs ys); same = λ j h. get_or_append_left xs ys 0 j h }
-
 keeps_set : (xs ys : List ℕ) (x : ℕ) → Keeps (xs ++ 0 ∷ []) ys → Keeps xs (slice_set ys (length xs) x)
 keeps_set xs ys x k =
     let l = k.longer in

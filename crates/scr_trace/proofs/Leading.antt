@@ -94,9 +94,6 @@ module _ (parts : Protocols) (me : Name) (entry : Name → Option ℕ) (protocol
   pub lies_rest : (w : Work) (p : Position) (ps : List Position) → Lies w (p ∷ ps) → Lies w ps
   lies_rest w p ps h = lies_behind w (p ∷ []) ps h
 
-  pub lies_same : (v w : Work) (ps : List Position) → v.cells ≡ w.cells → Lies w ps → Lies v ps
-  lies_same v w ps e h = record { front = h.front; back = h.back; all_is = h.all_is; behind = h.behind ∙ sym (ap length e) }
-
   -- the first of them comes to its own number
   pub comes_first : (w : Work) (p : Position) (ps : List Position) (n : ℕ) → Lies w (p ∷ ps) → n ≡ length (p ∷ ps) + length w.cells →
       ComesTo parts all p (standing_of total (hops.State n))

@@ -1,9 +1,9 @@
 -- The numbers of protocols, one name after another.
-use Rattle.std.proofs.Common.{◌≡◌, ℕ, ◌+◌, ◌<◌, ◌≤◌, List, ◌∷◌, length, get_or, drop, map, refl, sym, ap, ◌∙◌, Bool, true, false, cond}
-use Rattle.std.proofs.Common.{if◌then◌else◌, Option, Some, None, length-drop, arith}
+use Rattle.std.proofs.Common.{◌≡◌, ℕ, ◌+◌, ◌<◌, List, ◌∷◌, length, get_or, drop, map, refl, sym, ap, ◌∙◌, Bool, true, false, cond}
+use Rattle.std.proofs.Common.{if◌then◌else◌, Option, Some, length-drop, arith}
 use Rattle.std.specs.Str.{bytes_eq}
 use Rattle.std.specs.Map.{update}
-use Rattle.std.proofs.lemmas.List.{at_drop_more, at_drop_all, length-map}
+use Rattle.std.proofs.lemmas.List.{at_drop_more, length-map}
 use Rattle.std.proofs.lemmas.Slice.Eq.{bytes_eq-Decides}
 use Rattle.mg_text.specs.Call.{Name}
 use Rattle.scr_tree.specs.declared.syntax.Part.{Part}
@@ -27,9 +27,6 @@ inserted name text q n old e = ap (λ b. cond b (Some n) (old q)) (same_either_w
 -- the numbers of the protocols from this one on
 abbrev from_on : List Part → Name → Option ℕ
 from_on ps = number_among (map other (map part_of ps))
-
-pub numbers_none : (ps : List Part) (i : ℕ) (q : Name) → length ps ≤ i → number_among (map other (map part_of (drop i ps))) q ≡ None
-numbers_none ps i q h = at_drop_all (λ xs. from_on xs q) ps i h
 
 pub numbers_more : (ps : List Part) (i j n : ℕ) (x : Part) (old new : Name → Option ℕ) → j ≡ i + 1 → i < length ps → x ≡ get_or ps i x →
     n + j ≡ length ps →

@@ -1,11 +1,10 @@
 -- The step of a search among arrows, and how what is laid out is read.
-use Rattle.std.proofs.Common.{◌≡◌, ℕ, ◌+◌, ◌<◌, ◌≤◌, List, length, get_or, drop, map, sym, ap, ◌∙◌, Bool, true, false, if◌then◌else◌}
-use Rattle.std.proofs.Common.{Option, Some, None}
+use Rattle.std.proofs.Common.{◌≡◌, ℕ, ◌+◌, ◌<◌, ◌≤◌, List, length, get_or, drop, map, sym, ap, ◌∙◌, Bool, if◌then◌else◌}
+use Rattle.std.proofs.Common.{Some, None}
 use Rattle.std.proofs.lemmas.List.{at_drop_more, at_drop_all, length-reverse, length-map}
 use Rattle.std.proofs.lemmas.Grind.{common_steps}
 use Rattle.scr_trace.specs.declared.arrow.Arrow.{Arrow}
 use Rattle.scr_trace.specs.declared.arrow.Exits.{Exits}
-use Rattle.scr_trace.specs.declared.arrow.Hop.{Hop}
 use Rattle.scr_trace.specs.inner.Search.{first_led}
 use Rattle.scr_trace.specs.inner.View.{cell_of, cells_of}
 
@@ -16,16 +15,6 @@ led-drop test xs i a h e = at_drop_more (first_led test) xs i a h ∙
 
 pub led-past : (test : Arrow → Bool) (xs : List Arrow) (i : ℕ) → length xs ≤ i → first_led test (drop i xs) ≡ None
 led-past test xs i h = at_drop_all (first_led test) xs i h
-
--- the arrow at an index passes the test
-pub led_here : (test : Arrow → Bool) (xs : List Arrow) (i : ℕ) (a : Arrow) (r : Option Hop) → i < length xs → a ≡ get_or xs i a →
-    test a ≡ true → r ≡ first_led test (drop i xs) → r ≡ Some a.to
-led_here test xs i a r h e t f = f ∙ led-drop test xs i a h e ∙ ap (λ b. if b then Some a.to else first_led test (drop (i + 1) xs)) t
-
--- it doesn't
-pub led_later : (test : Arrow → Bool) (xs : List Arrow) (i : ℕ) (a : Arrow) (r : Option Hop) → i < length xs → a ≡ get_or xs i a →
-    test a ≡ false → r ≡ first_led test (drop i xs) → r ≡ first_led test (drop (i + 1) xs)
-led_later test xs i a r h e t f = f ∙ led-drop test xs i a h e ∙ ap (λ b. if b then Some a.to else first_led test (drop (i + 1) xs)) t
 
 pub ruleset steps = (common_steps, led-drop, led-past)
 

@@ -288,19 +288,6 @@ get_none f [] k e = refl
 get_none f (y ∷ ys) zero e = cc
 get_none f (y ∷ ys) (suc k) e = get_none f ys k e
 
-pub goes_past : (walk : Walk) (number : ℕ) (call : Call) → walk.standing ≡ standings.State number →
-    None ≡ slice_get (work_of walk.laid).cells number → Goes walk call None
-goes_past walk number call at none edge h named =
-    let w : Work = work_of walk.laid in
-    let same : h.number ≡ number = state_same h.number number (sym h.at ∙ at) in
-    let e = get_none (edges_of w) w.cells number none in
-    let f : slice_get (graph_of walk).states number ≡ Some h.edges = subst (λ k. slice_get (graph_of walk).states k ≡ Some h.edges) same
-    h.there in
-    cc
-
-pub goes_end : (walk : Walk) (call : Call) → walk.standing ≡ standings.End → Goes walk call None
-goes_end walk call at edge h named = let e = h.at in cc
-
 -- ---- steps of the protocol
 
 abbrev pub all_of : LocalTree → List Position

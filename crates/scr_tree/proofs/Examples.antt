@@ -1,5 +1,5 @@
 -- Protocols that go on as one another: what they may do, and where they are at fault, computed from the definitions.
-use Rattle.std.proofs.Common.{◌≡◌, ℕ, List, [], ◌∷◌, map, codes, Some, None, refl, ap, arith}
+use Rattle.std.proofs.Common.{◌≡◌, ℕ, List, [], ◌∷◌, codes, Some, None, refl, ap, arith}
 use Rattle.mg_text.specs.Call.{Name, Call}
 use Rattle.mg_text.specs.declared.place.Place.{Place}
 use Rattle.mg_read.specs.Culprit.{culprit}
@@ -10,14 +10,9 @@ use Rattle.scr_tree.specs.declared.written.Role.{Role}
 use Rattle.scr_tree.specs.Tree.{LocalTree, Titled, Statements, Nothing, Says, Choice, Do, NoBranch, Branch}
 use Rattle.scr_tree.specs.Written.{WrittenPart, WrittenTree, local_of, parts_in, title_of}
 use Rattle.scr_tree.specs.Protocol.{Send, Take}
-use Rattle.scr_tree.specs.Steps.{Act, Moves, Looks, this, later, moves, looks, silently, ends, goes_on, stays, goes, nothing_left}
-use Rattle.scr_tree.specs.Steps.{after_silent}
-use Rattle.scr_tree.specs.CallNames.{call_of}
-use Rattle.scr_tree.specs.Meaning.{protocol_of}
-use Rattle.scr_tree.specs.Traces.{Trace, Complete}
-use Rattle.scr_tree.specs.Spots.{spot}
-use Rattle.scr_tree.specs.Control.{starting}
-use Rattle.scr_tree.specs.Going.{RolesDiffer, gives, Unguarded, there}
+use Rattle.scr_tree.specs.Steps.{Act, Moves, Looks}
+use Rattle.scr_tree.specs.Traces.{Trace}
+use Rattle.scr_tree.specs.Going.{RolesDiffer, gives}
 
 abbrev at : (line column : ℕ) → Place
 at line column = record { file = 0; line = line; column = column }
@@ -91,18 +86,6 @@ look label = Looks 1 server label
 abbrev take : Name → Act
 take label = Moves (Take server label payloads.Nothing)
 
--- a turn round both protocols, and then to the end: a `do` leaves no frames behind
-runs_round : Complete client (protocol_of local) (map (call_of client) (
-    send_ping ∷ look (codes "again") ∷ take (codes "again") ∷ send_ping ∷ look (codes "stop") ∷ take (codes "stop") ∷ []))
-runs_round = (
-  send_ping ∷ look (codes "again") ∷ take (codes "again") ∷ send_ping ∷ look (codes "stop") ∷ take (codes "stop") ∷ [],
-  _,
-  goes moves (goes (silently (goes_on refl) (looks this)) (goes moves (goes (silently (goes_on refl) moves)
-      (goes (silently (goes_on refl) (looks (later this))) (goes moves stays))))),
-  after_silent ends (after_silent ends nothing_left),
-  refl,
-)
-
 -- how the first of some names begins
 abbrev first_byte : List Name → ℕ
 first_byte [] = 0
@@ -118,7 +101,3 @@ roles_differ = (refl, λ e. let one : 83 ≡ 67 = ap first_byte e in omega (arit
 
 abbrev itself : Titled
 itself = record { name = codes "P"; body = Do (at 1 36) (codes "P") Nothing }
-
--- Unguarded, at the `do`, with the name of the protocol that it names
-goes_round : Unguarded (itself ∷ []) (itself, spot [] (Do (at 1 36) (codes "P") Nothing)) (culprit (at 1 36) (codes "P"))
-goes_round = (refl, starting, there)

@@ -7,7 +7,6 @@ use crate::{Part, Statement};
 use mg_text::{List, Text};
 
 /// A valid local protocol: what one role does, and the roles that it does it with.
-#[derive(Debug)]
 pub struct Local {
     file: u32,
     name: Text,

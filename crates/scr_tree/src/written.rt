@@ -24,7 +24,7 @@ impl Drop for Declaration {
 }
 
 /// A role that is named, and where.
-#[derive(Debug, Drop)]
+#[derive(Drop)]
 pub struct Role {
     pub place: Place,
     pub name: Text,

@@ -1,6 +1,6 @@
 -- Bits of words tell which pairs are in a list.
 use Rattle.std.proofs.Common.{◌≡◌, ◌≢◌, ℕ, zero, suc, ◌<◌, true, false, List, [], ◌∷◌, ◌++◌, length, replicate, Option, Some, None}
-use Rattle.std.proofs.Common.{if◌then◌else◌, refl, sym, ap, subst, ◌∙◌, arith, ⊎_elim, length-set}
+use Rattle.std.proofs.Common.{if◌then◌else◌, refl, sym, ap, subst, ◌∙◌, arith, ⊎_elim}
 use Rattle.std.specs.Prelude.{◌/◌, ◌%◌, nat_eq, nat_lt}
 use Rattle.std.specs.Int.{bit_at, w64}
 use Rattle.std.proofs.lemmas.Bool.{cases_eq}
@@ -62,6 +62,3 @@ noted-more count a b ws news pairs x i m at lt is = subst (λ (ws : List ℕ). A
 pub noted-past : (count a b : ℕ) (ws : List ℕ) (pairs : List Pair) (x : Pair) → AreMarked (bit_number count a b) (bit ws) pairs
     → bit_number count a b x ≡ None → AreMarked (bit_number count a b) (bit ws) (pairs ++ x ∷ [])
 noted-past count a b ws pairs x m none = marked-past (bit_number count a b) (bit ws) pairs x m none
-
-pub wide-still : (ws : List ℕ) (i : ℕ) → length (with_bit ws i) ≡ length ws
-wide-still ws i = length-set ws (i / 64) _

@@ -35,14 +35,14 @@ pub enum To {
 }
 
 /// Where a call leads that answers with this label.
-#[derive(Debug, Drop)]
+#[derive(Drop)]
 pub struct Branch {
     pub label: Text,
     pub to: To,
 }
 
 /// Where the calls of a method lead.
-#[derive(Debug, Drop)]
+#[derive(Drop)]
 pub enum Target {
     /// Each leads there, whatever it answers.
     One(To),
@@ -51,7 +51,7 @@ pub enum Target {
 }
 
 /// A method that a state offers.
-#[derive(Debug, Drop)]
+#[derive(Drop)]
 pub struct Method {
     pub result: TypeName,
     pub name: Text,
@@ -60,7 +60,7 @@ pub struct Method {
 }
 
 /// A state, the methods that it offers, and whether an object may be left in it.
-#[derive(Debug, Drop)]
+#[derive(Drop)]
 pub struct State {
     pub name: Text,
     pub methods: List<Method>,

@@ -14,7 +14,6 @@ use std::marker::Model;
 /// Each target is one of its states or the end, no two states and no two methods of a state share
 /// a name, methods of one name have one signature, no label stands twice in one list of answers,
 /// and no state is named `end`.
-#[derive(Debug)]
 pub struct Typestate {
     pub name: Text,
     pub states: List<State>,

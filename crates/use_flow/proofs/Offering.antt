@@ -1,6 +1,6 @@
 -- What a table of offers has after one more, and which contexts it lists.
 use Rattle.std.proofs.Common.{◌≡◌, ◌≢◌, ℕ, zero, suc, ◌+◌, ◌<◌, ◌≤◌, Bool, true, false, cond, List, [], ◌∷◌, ◌++◌, length, get_or, set, drop}
-use Rattle.std.proofs.Common.{map, position, Option, Some, None, slice_get, is_some, refl, sym, ap, ◌∙◌, subst, arith, add-one, append_assoc}
+use Rattle.std.proofs.Common.{map, position, Option, Some, None, slice_get, is_some, refl, sym, ap, ◌∙◌, subst, arith, append_assoc}
 use Rattle.std.proofs.Common.{length-append, length-set, inl, inr, ◌⊎◌, ⊎_elim}
 use Rattle.std.specs.Prelude.{Contains, if◌then◌else◌, option_and_then}
 use Rattle.std.specs.List.{AllByRecursion, position_or_len}
@@ -17,7 +17,6 @@ use Rattle.mg_text.specs.Interned.{with_text}
 use Rattle.mg_text.proofs.Numbered.{position-push_text}
 use Rattle.mg_sets.specs.Sets.{has, members_from, members}
 use Rattle.ts_tree.specs.declared.parts.Method.{Method as KeptMethod}
-use Rattle.ts_tree.specs.declared.parts.State.{State as KeptState}
 use Rattle.ts_tree.specs.Typestate.{Method, State, Typestate}
 use Rattle.ts_tree.specs.Calls.{offered, offered_in}
 use Rattle.ts_tree.specs.Proper.{AreDistinct, IsProper, IsState}
@@ -155,9 +154,6 @@ module _ (ns ns' : List Name) (ls : List (List ℕ)) (n : Name) (q i : ℕ) (eve
           ∙ sym (append_nil (numbered ls (position (bytes_eq m) ns)))
           ∙ ap (λ b. numbered ls (position (bytes_eq m) ns) ++ (if b then q ∷ [] else [])) (sym e)
 
-  pub known_even : i < length ls → length ls ≡ length ns'
-  known_even lt = even ∙ ap length (sym (was (let e : length ls ≡ length ns = even in omega (arith, lt, e))))
-
   -- a list was added
   new_other : (m : Name) → bytes_eq n m ≡ false → (o : Option ℕ) → position (bytes_eq m) ns ≡ o →
       numbered (ls ++ (q ∷ []) ∷ []) o ≡ numbered ls o
@@ -197,11 +193,6 @@ module _ (ns ns' : List Name) (ls : List (List ℕ)) (n : Name) (q i : ℕ) (eve
           ∙ new_other m e (position (bytes_eq m) ns) refl
           ∙ sym (append_nil (numbered ls (position (bytes_eq m) ns)))
           ∙ ap (λ b. numbered ls (position (bytes_eq m) ns) ++ (if b then q ∷ [] else [])) (sym e)
-
-  pub new_even : length ls ≤ i → length ls + 1 ≡ length ns'
-  new_even le =
-      let fresh = is-new (let e : length ls ≡ length ns = even in omega (arith, le, e)) in
-      ap (λ k. k + 1) even ∙ sym (ap length fresh.long ∙ length-append ns (n ∷ []))
 
 -- The same of lists of offers.
 
@@ -352,40 +343,10 @@ listed t name s proper = by_state t name s s 0 t.states (λ j. ap (slice_get t.s
 
 -- Loops.
 
-pub methods_next : (q : ℕ) (ms : List KeptMethod) (i : ℕ) (x : KeptMethod) (m : Name) (a a' total : List ℕ) → i < length ms → x ≡ get_or ms i x →
-    a' ≡ a ++ (if bytes_eq x.name m then q ∷ [] else []) →
-    a ++ by_methods q (map method_of (drop i ms)) m ≡ total → a' ++ by_methods q (map method_of (drop (i + 1) ms)) m ≡ total
-methods_next q ms i x m a a' total lt at e h =
-    ap (λ b. b ++ by_methods q (map method_of (drop (i + 1) ms)) m) e
-    ∙ append_assoc a (if bytes_eq x.name m then q ∷ [] else []) (by_methods q (map method_of (drop (i + 1) ms)) m)
-    ∙ ap (λ b. a ++ b) (split (bytes_eq x.name m)
-    ∙ sym (at_drop_more (λ (xs : List KeptMethod). by_methods q (map method_of xs) m) ms i x lt
-    ∙ ap (λ (y : KeptMethod). by_methods q (map method_of (y ∷ drop (i + 1) ms)) m) (sym at))) ∙ h
-  where
-    split : (v : Bool) → (if v then q ∷ [] else []) ++ by_methods q (map method_of (drop (i + 1) ms)) m
-        ≡ (if v then q ∷ by_methods q (map method_of (drop (i + 1) ms)) m else by_methods q (map method_of (drop (i + 1) ms)) m)
-    split true = refl
-    split false = refl
-
 pub methods_end : (q : ℕ) (ms : List KeptMethod) (i : ℕ) (m : Name) (a total : List ℕ) → length ms ≤ i →
     a ++ by_methods q (map method_of (drop i ms)) m ≡ total → a ≡ total
 methods_end q ms i m a total le h =
     sym (ap (λ x. a ++ x) (at_drop_all (λ (xs : List KeptMethod). by_methods q (map method_of xs) m) ms i le) ∙ append_nil a) ∙ h
-
-pub states_next : (ss : List KeptState) (i : ℕ) (x : KeptState) (m : Name) (a a' total : List ℕ) → i < length ss → x ≡ get_or ss i x →
-    a' ≡ a ++ by_methods i (map method_of x.methods.items) m →
-    a ++ by_states i (map state_of (drop i ss)) m ≡ total → a' ++ by_states (i + 1) (map state_of (drop (i + 1) ss)) m ≡ total
-states_next ss i x m a a' total lt at e h =
-    ap (λ n. a' ++ by_states n (map state_of (drop (i + 1) ss)) m) (add-one i)
-    ∙ ap (λ b. b ++ by_states (suc i) (map state_of (drop (i + 1) ss)) m) e
-    ∙ append_assoc a (by_methods i (map method_of x.methods.items) m) (by_states (suc i) (map state_of (drop (i + 1) ss)) m)
-    ∙ ap (λ b. a ++ b) (sym (at_drop_more (λ (xs : List KeptState). by_states i (map state_of xs) m) ss i x lt
-    ∙ ap (λ (y : KeptState). by_states i (map state_of (y ∷ drop (i + 1) ss)) m) (sym at))) ∙ h
-
-pub states_end : (ss : List KeptState) (i : ℕ) (m : Name) (a total : List ℕ) → length ss ≤ i →
-    a ++ by_states i (map state_of (drop i ss)) m ≡ total → a ≡ total
-states_end ss i m a total le h =
-    sym (ap (λ x. a ++ x) (at_drop_all (λ (xs : List KeptState). by_states i (map state_of xs) m) ss i le) ∙ append_nil a) ∙ h
 
 module _ (c n : ℕ) (s : List Bool) where
   one_more : (q : ℕ) (qs : List ℕ) → has s q ≡ true → entered_in c n s (q ∷ qs) ≡ contexts.Protocol c q n ∷ entered_in c n s qs

@@ -33,13 +33,6 @@ or_right : (a b : Bool) → b ≡ true → (a || b) ≡ true
 or_right true b h = refl
 or_right false b h = h
 
-any_of : (k : TableKey) (ks : List TableKey) → Mem k ks → list_any (same_key k) ks ≡ true
-any_of k [] h = absurd h
-any_of k (x ∷ ks) h = ⊎_elim
-    (λ (e : k ≡ x). ap (λ b. b || list_any (same_key k) ks) (ap (same_key k) (sym e) ∙ key_self k))
-    (λ i. or_right (same_key k x) (list_any (same_key k) ks) (any_of k ks i))
-    h
-
 of_any : (k : TableKey) (ks : List TableKey) → list_any (same_key k) ks ≡ true → Mem k ks
 of_any k [] h = absurd (false≢true h)
 of_any k (x ∷ ks) h = go (same_key k x) refl (of_any k ks) h

@@ -5,7 +5,7 @@ ghost use Rattle.vm_events.specs.inner.Keeping.{IsKindOf};
 use crate::note::Short;
 
 /// The kind of an event: which of these it is, and nothing more.
-#[derive(Clone, Copy, Debug)]
+#[derive(Clone, Copy)]
 pub enum Kind {
     /// A text is printed.
     Print,

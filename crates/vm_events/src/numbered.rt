@@ -6,7 +6,7 @@ use crate::note::Short;
 
 /// An event of a protocol method, whose name is the number of a text that is kept. Objects are
 /// numbered from 0 in the order of their making.
-#[derive(Clone, Copy, Debug)]
+#[derive(Clone, Copy)]
 pub enum Numbered {
     /// A protocol method of an object begins.
     Enter { object: u32, method: u32 },

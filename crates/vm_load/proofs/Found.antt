@@ -1,6 +1,6 @@
 -- Looking through lists from the front.
-use Rattle.std.proofs.Common.{◌≡◌, ℕ, zero, suc, ◌+◌, ◌<◌, ◌≤◌, Bool, true, false, ◌||◌, List, [], ◌∷◌, length, map, take, get_or}
-use Rattle.std.proofs.Common.{Some, None, refl, ap, ◌∙◌, arith, add-one}
+use Rattle.std.proofs.Common.{◌≡◌, ℕ, zero, suc, ◌<◌, ◌≤◌, Bool, true, false, ◌||◌, List, [], ◌∷◌, length, map, take, get_or}
+use Rattle.std.proofs.Common.{Some, None, refl, ap, arith}
 use Rattle.std.proofs.lemmas.Option.{slice_get-map}
 use Rattle.std.proofs.lemmas.Bool.Decides.{nat_tests}
 use Rattle.std.specs.List.{position, position_or_len, list_any}
@@ -39,19 +39,6 @@ module _ {X Y : Type 0} (p : Y → Bool) (f : X → Y) where
   none_passes (x ∷ xs) (suc i) past none =
       let e = either_false (p (f x)) (list_any p (map f (take i xs))) none in
       not_there p (f x) (map f xs) e.0 (none_passes xs i (omega arith) e.1)
-
-  -- one more doesn't pass
-  pub one_fewer : (xs : List X) (i : ℕ) (d : X) → i < length xs → list_any p (map f (take i xs)) ≡ false → p (f (get_or xs i d)) ≡ false →
-      list_any p (map f (take (i + 1) xs)) ≡ false
-  one_fewer xs i d lt none here = ap (λ k. list_any p (map f (take k xs))) (add-one i) ∙ go xs i lt none here
-    where
-      go : (ys : List X) (k : ℕ) → k < length ys → list_any p (map f (take k ys)) ≡ false → p (f (get_or ys k d)) ≡ false →
-          list_any p (map f (take (suc k) ys)) ≡ false
-      go [] k l n h = absurd (omega arith)
-      go (y ∷ ys) zero l n h = rw h refl
-      go (y ∷ ys) (suc k) l n h =
-          let e = either_false (p (f y)) (list_any p (map f (take k ys))) n in
-          rw e.0 (go ys k (omega arith) e.1 h)
 
 -- the place of the first that passes
 module _ {X : Type 0} (p : X → Bool) where

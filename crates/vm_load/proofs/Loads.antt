@@ -1,6 +1,6 @@
 -- The names of classes, and the whole.
 use Rattle.std.proofs.Common.{◌≡◌, ℕ, ◌+◌, ◌<◌, Bool, true, false, ◌||◌, List, [], ◌∷◌, ◌++◌, length, map, take, drop, get_or, position}
-use Rattle.std.proofs.Common.{Option, Some, None, nat_lt, if◌then◌else◌, refl, sym, ap, subst, ◌∙◌, arith, add-one}
+use Rattle.std.proofs.Common.{Option, Some, None, nat_lt, if◌then◌else◌, refl, sym, ap, ◌∙◌, arith, add-one}
 use Rattle.std.proofs.lemmas.Bool.Decides.{nat_tests}
 use Rattle.std.proofs.lemmas.List.{take_more, map-append}
 use Rattle.std.specs.List.{list_any, flat_map}
@@ -16,7 +16,7 @@ use Rattle.vm_model.specs.Links.{Flaw, DuplicateClass, UnknownClass, UnknownMemb
 use Rattle.vm_model.specs.Links.{duplicates, outlines, class_flaws, linked_class, Links, Outline}
 use Rattle.vm_load.specs.declared.fault.LoadFault.{LoadFault}
 use Rattle.vm_load.specs.declared.fault.LoadFault.TheVariants as faults
-use Rattle.vm_load.specs.Faults.{IsFlaw, IsLeast, IsRefused, flaw_of}
+use Rattle.vm_load.specs.Faults.{IsFlaw, IsLeast, flaw_of}
 use Rattle.vm_load.specs.Outlines.{is_taken}
 
 some_any : {X : Type 0} (p : X → Bool) (xs : List X) (n : ℕ) → position p xs ≡ Some n → list_any p xs ≡ true
@@ -119,11 +119,6 @@ links os cs p same distinct none made = record {
       ∙ ap (λ l. l ++ flat_map (class_flaws os) cs) distinct ∙ none_wrong (flat_map (class_flaws os) cs) none;
   program = made ∙ ap (λ o. map (linked_class o) cs) same;
 }
-
-pub refused_at_once : (f : LoadFault) (os : List Outline) (cs : List File) → os ≡ outlines cs →
-    IsLeast f (duplicates [] (map (λ o. o.name) os) ++ flat_map (class_flaws os) cs) → IsRefused f cs
-refused_at_once f os cs same h =
-    subst (λ o. IsLeast f (duplicates [] (map (λ x. x.name) o) ++ flat_map (class_flaws o) cs)) same h
 
 -- outlines, one after another, by their names
 module _ {X : Type 0} (name_of : X → Name) (xs : List X) (k : ℕ) (item : X) (lt : k < length xs) (is : item ≡ get_or xs k item)

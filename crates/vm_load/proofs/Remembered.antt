@@ -43,10 +43,6 @@ module _ (os : List Outline) (pool : List Const) (find : Use → Option LinkedAr
       ((q : Use) → after q ≡ cond (use_eq k q) (Some a) (find q)) → AreRight os pool after
   right_on a right after e = record { each = λ u x at. one_right a right u x (use_eq k u) refl (sym (e u) ∙ at) }
 
-  -- the same as before
-  pub right_as : (after : Use → Option LinkedArgs) → ((q : Use) → after q ≡ find q) → AreRight os pool after
-  right_as after e = record { each = λ u x at. h.each u x (sym (e u) ∙ at) }
-
   -- what is found is right
   pub found_right : {E : Type 0} (x : LinkedArgs) → find k ≡ Some x → (r : Result (Option LinkedArgs) E) →
       IfOk r (λ o. IfSome o (λ a. args_of a ≡ args_of x)) →

@@ -1,7 +1,7 @@
 -- What the definitions say of an action, by the operands that stand so far from the top.
 use Rattle.std.proofs.Common.{◌≡◌, ℕ, ◌+◌, ◌-◌, ◌<◌, ◌≤◌, ◌⊎◌, inl, inr, Bool, true, false, List, [], ◌∷◌, length, take, drop, get_or}
 use Rattle.std.proofs.Common.{Option, Some, None, nat_lt, refl, sym, ap, ◌∙◌, arith}
-use Rattle.std.proofs.lemmas.List.{take_all, drop_all, drop_more, take-take, length-take}
+use Rattle.std.proofs.lemmas.List.{take_all, drop_all, drop_more}
 use Rattle.std.proofs.lemmas.Option.{slice_get-get_or, get_or_from_slice_get}
 use Rattle.std.proofs.lemmas.Bool.Decides.{nat_tests}
 use Rattle.std.proofs.Common.{Result, Ok, Err, IfOk}
@@ -109,11 +109,6 @@ there (d ∷ ys) k h =
 pub below_none : (vs : List Value) → below 0 vs ≡ vs
 below_none vs = take_all (length vs - 0) vs (omega arith)
 
-pub below_below : (vs : List Value) → below 1 (below 1 vs) ≡ below 2 vs
-below_below vs =
-    let count : length (below 1 vs) - 1 ≡ length vs - 2 = rw length-take (omega arith) in
-    ap (λ k. take k (below 1 vs)) count ∙ take-take (length vs - 2) (length vs - 1) vs (omega arith)
-
 module _ {X : Type 0} (f : List Value → X) where
   pub by_none : (vs : List Value) → f (on_top 0 vs) ≡ f []
   by_none vs = ap f (drop_all (length vs - 0) vs (omega arith))
@@ -189,12 +184,6 @@ module _ (m m' : Machine) where
       IfOk r (λ s. Does other m q m' q' s) → IfOk r (λ s. Does wanted m q m' q' s)
   does_same q q' (Ok s) wanted other e h = in_other_words s wanted other m m' q q' e h
   does_same q q' (Err e) wanted other same h = tt
-
-  -- a step that looks at no messages, with the messages at hand
-  pub does_plays : (q : Messages) (r : Result Stepped Memory) (wanted : Messages → model.Stepped) → IfOk r
-      (λ s. Plays wanted m m' s) → IfOk r (λ s. Does (wanted q) m q m' q s)
-  does_plays q (Ok s) wanted h = h q
-  does_plays q (Err e) wanted h = tt
 
   pub does_plays_same : (q : Messages) (r : Result Stepped Memory) (wanted : model.Stepped) (other : Messages → model.Stepped) →
       wanted ≡ other q →

@@ -84,29 +84,6 @@ none_used (Write class field) e = refl
 none_used (Make class) e = refl
 none_used (Call _ class method) e = refl
 
--- the member that it uses
-pub some_used : (a : Action) (b : BuiltIn) → Some b ≡ used_in a → a ≡ Use b
-some_used (Use b) c e = ap Use (cc e)
-some_used (Push v) b e = absurd (cc e)
-some_used (Load sort local) b e = absurd (cc e)
-some_used (Store sort local) b e = absurd (cc e)
-some_used Pop b e = absurd (cc e)
-some_used Double b e = absurd (cc e)
-some_used Swap b e = absurd (cc e)
-some_used (Compute operation) b e = absurd (cc e)
-some_used Negate b e = absurd (cc e)
-some_used (Increase local by) b e = absurd (cc e)
-some_used (IfZero comparison target) b e = absurd (cc e)
-some_used (IfBoth comparison target) b e = absurd (cc e)
-some_used (IfNull wanted target) b e = absurd (cc e)
-some_used (Go target) b e = absurd (cc e)
-some_used (Switch default low targets) b e = absurd (cc e)
-some_used (Return sort) b e = absurd (cc e)
-some_used (Read class field) b e = absurd (cc e)
-some_used (Write class field) b e = absurd (cc e)
-some_used (Make class) b e = absurd (cc e)
-some_used (Call _ class method) b e = absurd (cc e)
-
 -- a member that is none of those that look at messages
 pub other_member : (b : BuiltIn) → (b ≡ built.Look → ⊥) → (b ≡ built.Take → ⊥) → (b ≡ built.TakeInt → ⊥) → (b ≡ built.TakeTruth → ⊥)
     → (b ≡ built.TakeText → ⊥) → looks b ≡ false

@@ -22,7 +22,7 @@ use vm_frames::{Callee, Cell, State};
 use vm_model::Linked;
 
 /// What is told of a step: a protocol method of an object, by the numbers of its class and its own, begins; or one is left.
-#[derive(Clone, Copy, Debug)]
+#[derive(Clone, Copy)]
 pub enum Telling {
     Enter {
         object: u32,

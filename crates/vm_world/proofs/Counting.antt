@@ -25,19 +25,6 @@ use Rattle.vm_world.proofs.Alone.{running}
 use Rattle.vm_world.proofs.Turning.{turned_world, turned_answer, role_there}
 
 module _ (p : Program) (me : ℕ) (m : Machine) (count more : ℕ) (q r : Messages) (es fs : List RoleEvent) where
-  pub went_counted : (n : Machine) (event : Option Event) → more ≡ count + 1 → step p me m q ≡ Went n r event → fs ≡ told_by me es event →
-      IsCounted p me (running m count) (running n more) q r es fs true
-  went_counted n event is steps events = record {
-    event = event;
-    turned = answers.Went;
-    outcome_is = ap one (let e : more ≡ suc count = omega (arith, is) in e) ∙ ap (outcome_of count m q) (sym steps);
-    events_are = events;
-    counted_is = refl;
-  }
-    where
-      one : ℕ → Outcome
-      one k = record { role = running n k; messages = r; event = event; turned = answers.Went }
-
   pub waits_counted : (n : Machine) (peer : ℕ) → step p me m q ≡ Waits peer → n ≡ m → r ≡ q → fs ≡ es →
       IsCounted p me (running m count) (running n count) q r es fs false
   waits_counted n peer steps same messages events = record {

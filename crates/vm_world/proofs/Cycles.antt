@@ -1,9 +1,9 @@
 -- Whole cycles of turns that are counted at once: how often a role is named, and what is left of what each is ahead.
 use Rattle.std.proofs.Common.{◌≡◌, ◌≢◌, ◌⊎◌, inl, inr, ◌<◌, ◌≤◌, ◌+◌, ◌-◌, ◌*◌, ◌/◌, ℕ, zero, suc, List, [], ◌∷◌, length, get_or, set}
-use Rattle.std.proofs.Common.{Contains, true, false, cond, drop, min, drop-cons, refl, sym, ap, ◌∙◌, arith}
+use Rattle.std.proofs.Common.{Contains, true, false, cond, drop, drop-cons, refl, sym, ap, ◌∙◌, arith}
 use Rattle.std.specs.Prelude.{◌==◌, count_by, slice_index_or}
 use Rattle.std.proofs.lemmas.Bool.Decides.{eqb_tells}
-use Rattle.std.proofs.lemmas.List.{get_or-set_other, get_or_default, drop_all}
+use Rattle.std.proofs.lemmas.List.{get_or-set_other, drop_all}
 use Rattle.std.proofs.lemmas.List.Sums.{sum_by-cons}
 use Rattle.std.proofs.Math.Nat.{div-mul-le_self, mul-le-mul_left, mul-le-mul_right}
 
@@ -265,25 +265,6 @@ all_down order i r k n le =
 abbrev pub AheadSoFar : (order ahead : List ℕ) → (i least : ℕ) → Type 0
 AheadSoFar order ahead i least = (j : ℕ) → j < i → least ≤ get_or ahead (get_or order j 0) 0
 
-pub ahead_more : (order ahead : List ℕ) (i least : ℕ) → AheadSoFar order ahead i least →
-    AheadSoFar order ahead (i + 1) (min least (get_or ahead (get_or order i 0) 0))
-ahead_more order ahead i least so_far j lt = go (eqb_tells j i)
-  where
-    go : ((j == i) ≡ true) × (j ≡ i) ⊎ ((j == i) ≡ false) × (j ≢ i) →
-        min least (get_or ahead (get_or order i 0) 0) ≤ get_or ahead (get_or order j 0) 0
-    go (inl is) =
-        let e : get_or ahead (get_or order j 0) 0 ≡ get_or ahead (get_or order i 0) 0 = ap (λ k. get_or ahead (get_or order k 0) 0) is.1 in
-        omega (arith, e)
-    go (inr not) = let h = so_far j (omega (arith, lt, not.1)) in omega (arith, h)
-
-pub ahead_all : (order ahead : List ℕ) (i least : ℕ) → length order ≤ i → AheadSoFar order ahead i least → (r : ℕ) → Contains order r →
-    least ≤ get_or ahead r 0
-ahead_all order ahead i least le so_far r (k, lt, is) =
-    let e : get_or ahead (get_or order k 0) 0 ≡ get_or ahead r 0 =
-    ap (λ j. get_or ahead j 0) (get_or_default order k 0 r lt ∙ is) in
-    let h = so_far k (omega (arith, le, lt)) in
-    omega (arith, e, h)
-
 -- as many cycles as are within what each is ahead
 pub cycles_within : (order ahead : List ℕ) (least often cycles r : ℕ) → ((r : ℕ) → Contains order r → least ≤ get_or ahead r 0) →
     times r order ≤ often → cycles ≤ least / often → cycles * times r order ≤ get_or ahead r 0
@@ -297,12 +278,6 @@ cycles_within order ahead least often cycles r each most within = go (times r or
         let b : cycles * often ≤ least / often * often = mul-le-mul_right often within in
         let d : least / often * often ≤ least = div-mul-le_self least often in
         omega (arith, h, a, b, d)
-
-pub turns_within : (cycles left n : ℕ) → cycles ≤ left / n → cycles * n ≤ left
-turns_within cycles left n within =
-    let b : cycles * n ≤ left / n * n = mul-le-mul_right n within in
-    let d : left / n * n ≤ left = div-mul-le_self left n in
-    omega (arith, b, d)
 
 pub fewer_than : (cycles n m : ℕ) → 0 < cycles → cycles * n < m → n < m
 fewer_than cycles n m some lt =

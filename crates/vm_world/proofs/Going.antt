@@ -181,9 +181,6 @@ fewer_left left k idle n pos within le =
     let f : n + 1 ≤ k * (n + 1) = at_least k (n + 1) pos in
     omega (arith, e, f, le)
 
-pub fewer_idle : (left idle n : ℕ) → idle < n → left * (n + 1) + (n - (idle + 1)) < left * (n + 1) + (n - idle)
-fewer_idle left idle n lt = omega (arith, lt)
-
 pub zero_is : (k : ℕ) → k ≤ 0 → k ≡ 0
 zero_is k h = omega (arith, h)
 

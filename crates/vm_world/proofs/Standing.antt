@@ -4,14 +4,13 @@ use Rattle.std.proofs.Common.{option_map, slice_get, IfSome, refl, sym, ap, ◌�
 use Rattle.std.proofs.lemmas.List.{take_more, map-append}
 use Rattle.std.proofs.lemmas.Option.{slice_get-map, slice_get-get_or, get_or_from_slice_get}
 use Rattle.mg_text.specs.Call.{Name}
-use Rattle.mg_text.specs.declared.event.Ending.{Ending}
 use Rattle.vm_model.specs.Program.{Program}
 use Rattle.vm_model.specs.Messages.{or_nothing}
 use Rattle.vm_world_law.specs.declared.role.RoleMain.{RoleMain}
 use Rattle.vm_world_law.specs.declared.stand.Stand.{Stand}
 use Rattle.vm_world_law.specs.declared.stand.Stand.TheVariants as stands
 use Rattle.vm_world_law.specs.World.{State, Runs, Over, Role, World, waits, waits_at}
-use Rattle.vm_world_law.specs.Turns.{stand_of, stands_from, stands_in, waiting_for}
+use Rattle.vm_world_law.specs.Turns.{stand_of, stands_from, waiting_for}
 use Rattle.vm_world_law.proofs.Lists.{some_is, got_within}
 use Rattle.vm_world_law.proofs.Peers.{waits_within}
 use Rattle.vm_world.specs.declared.stand.RoleRan.{RoleRan}
@@ -19,20 +18,6 @@ use Rattle.vm_world.specs.View.{ending_in}
 use Rattle.vm_world.specs.Standing.{stand_at, waiting_in}
 
 module _ (p : Program) (w : World) (r : ℕ) where
-  ended_state : (ending : Ending) (role : Role) (state : State) → role.state ≡ state → Some ending ≡ ending_in role →
-      stands.Ended ending ≡ stand_of p w r state
-  ended_state ending role (Runs m) is h =
-      absurd (let no : Some ending ≡ None = h ∙ ap (λ s. ending_in (record { state = s; count = role.count })) is in cc)
-  ended_state ending role (Over e) is h =
-      let same : Some ending ≡ Some e = h ∙ ap (λ s. ending_in (record { state = s; count = role.count })) is in
-      ap (λ x. stands.Ended x) (some_is same)
-
-  -- a role that has ended
-  pub ended_stand : (o : Option Role) (ending : Ending) → Some (Some ending) ≡ option_map ending_in o →
-      Some (stands.Ended ending) ≡ option_map (λ role. stand_of p w r role.state) o
-  ended_stand None ending h = absurd (cc h)
-  ended_stand (Some role) ending h = ap (λ s. Some s) (ended_state ending role role.state refl (some_is h))
-
   running_state : (role : Role) (state : State) → role.state ≡ state → None ≡ ending_in role →
       waiting_for w (waits_at p w r (Some role)) ≡ stand_of p w r state
   running_state role (Runs m) is h = ap (λ s. waiting_for w (waits_at p w r (Some (record { state = s; count = role.count })))) is
@@ -88,19 +73,10 @@ module _ (p : Program) (w : World) where
     pub counts : map (λ r. r.instructions) ran ≡ map (λ r. r.count) (take k w.roles)
     pub stands : map (λ r. r.stand) ran ≡ stands_from p w 0 (take k w.roles)
 
-  pub ran_start : (ran : List RoleRan) → ran ≡ [] → RanSoFar 0 ran
-  ran_start ran is = record { counts = ap (map (λ r. r.instructions)) is; stands = ap (map (λ r. r.stand)) is }
-
   taken_long : (k : ℕ) (xs : List Role) → k ≤ length xs → length (take k xs) ≡ k
   taken_long zero xs le = refl
   taken_long (suc k) [] le = absurd (omega (arith, le))
   taken_long (suc k) (x ∷ xs) le = ap suc (taken_long k xs (omega (arith, le)))
-
-  taken_all : (k : ℕ) (xs : List Role) → length xs ≤ k → take k xs ≡ xs
-  taken_all zero [] le = refl
-  taken_all zero (x ∷ xs) le = absurd (omega (arith, le))
-  taken_all (suc k) [] le = refl
-  taken_all (suc k) (x ∷ xs) le = ap (λ l. x ∷ l) (taken_all k xs (omega (arith, le)))
 
   -- one role more
   pub ran_more : (k : ℕ) (old new : List RoleRan) (ran : RoleRan) → new ≡ old ++ ran ∷ [] →
@@ -132,10 +108,3 @@ module _ (p : Program) (w : World) where
                 (let e : k ≡ 0 + length (take k w.roles) = omega (arith, long) in e)
                 ∙ sym (stands_more 0 (take k w.roles) role) ∙ ap (stands_from p w 0) (sym taken);
           }
-
-  pub ran_counts : (k : ℕ) (ran : List RoleRan) → length w.roles ≤ k → RanSoFar k ran → map (λ r. r.instructions) ran ≡ map (λ r. r.count)
-      w.roles
-  ran_counts k ran le h = h.counts ∙ ap (map (λ (r : Role). r.count)) (taken_all k w.roles le)
-
-  pub ran_stands : (k : ℕ) (ran : List RoleRan) → length w.roles ≤ k → RanSoFar k ran → map (λ r. r.stand) ran ≡ stands_in p w
-  ran_stands k ran le h = h.stands ∙ ap (stands_from p w 0) (taken_all k w.roles le)

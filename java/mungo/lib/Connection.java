@@ -17,6 +17,8 @@ import java.nio.channels.SelectionKey;
 import java.nio.channels.Selector;
 import java.nio.channels.ServerSocketChannel;
 import java.nio.channels.SocketChannel;
+import java.security.cert.X509Certificate;
+import javax.net.ssl.SSLEngine;
 
 /**
  * A connection to a peer. Each call that waits has a moment of System.nanoTime at which it throws
@@ -34,6 +36,9 @@ final class Connection implements Closeable {
     private final ByteBuffer buffer = ByteBuffer.allocate(PIECE);
     private final Gate reads;
     private final Gate writes;
+
+    /** What seals and opens the bytes, or null where they go as they are. */
+    private Sealed sealed;
 
     private Connection(SocketChannel channel) throws IOException {
         this.channel = channel;
@@ -147,12 +152,7 @@ final class Connection implements Closeable {
     private void fill(long until) throws IOException {
         buffer.clear();
         try {
-            left(until);
-            int count = channel.read(buffer);
-            while (count == 0) {
-                reads.await(until);
-                count = channel.read(buffer);
-            }
+            int count = sealed == null ? read(buffer, until) : sealed.read(buffer, until);
             if (count < 0) {
                 throw new EOFException("the peer has ended");
             }
@@ -161,19 +161,63 @@ final class Connection implements Closeable {
         }
     }
 
+    private int read(ByteBuffer into, long until) throws IOException {
+        left(until);
+        int count = channel.read(into);
+        while (count == 0) {
+            reads.await(until);
+            count = channel.read(into);
+        }
+        return count;
+    }
+
     void write(byte[] bytes, long until) throws IOException {
-        ByteBuffer rest = ByteBuffer.wrap(bytes);
-        while (rest.position() < bytes.length) {
-            rest.limit(Math.min(bytes.length, rest.position() + PIECE));
+        ByteBuffer all = ByteBuffer.wrap(bytes);
+        if (sealed == null) {
+            write(all, until);
+        } else {
+            sealed.write(all, until);
+        }
+    }
+
+    private void write(ByteBuffer rest, long until) throws IOException {
+        int end = rest.limit();
+        while (rest.position() < end) {
+            rest.limit(Math.min(end, rest.position() + PIECE));
             if (channel.write(rest) == 0) {
                 writes.await(until);
             }
         }
     }
 
+    /**
+     * Goes on by TLS, by this engine, before anything else is read or written. Answers the certificate that the other
+     * side has shown, or null. Throws Tls.Refused where a side doesn't take the other.
+     */
+    X509Certificate seal(SSLEngine engine, long until) throws IOException {
+        Sealed fresh = new Sealed(engine, new Sealed.Raw() {
+            @Override
+            public int read(ByteBuffer into, long until) throws IOException {
+                return Connection.this.read(into, until);
+            }
+
+            @Override
+            public void write(ByteBuffer from, long until) throws IOException {
+                Connection.this.write(from, until);
+            }
+        });
+        fresh.begin(until);
+        X509Certificate shown = Tls.shown(engine);
+        sealed = fresh;
+        return shown;
+    }
+
     /** Ends the connection, also while another thread waits for it. */
     @Override
     public void close() {
+        if (sealed != null && channel.isOpen()) {
+            sealed.end();
+        }
         try {
             channel.close();
         } catch (IOException ignored) {

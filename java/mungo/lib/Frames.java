@@ -1,28 +1,20 @@
 package mungo.lib;
 
-import java.io.ByteArrayOutputStream;
-import java.io.DataOutputStream;
 import java.io.EOFException;
 import java.io.IOException;
 import java.io.InterruptedIOException;
 import java.net.InetSocketAddress;
 import java.net.SocketTimeoutException;
-import java.nio.ByteBuffer;
-import java.nio.charset.CharacterCodingException;
-import java.nio.charset.StandardCharsets;
 import java.util.ArrayDeque;
 import java.util.Deque;
 
 /**
- * The messages between a role and a peer that is a role of mungo in another process. A message is its label, a letter
- * for the kind of its value, and the value; a text has its length in four bytes before it.
+ * The messages between a role and a peer that is a role of mungo in another process, over a connection.
  *
  * <p>What the peer sends is read as it comes, up to some messages and bytes that aren't taken; the rest is left to the
  * connection, by which the peer's sending waits.
  */
 final class Frames implements Wire {
-    private static final int LONGEST_LABEL = 255;
-    private static final int LONGEST_TEXT = 1 << 24;
     private static final int MOST_MESSAGES = 1 << 16;
 
     private final int limit;
@@ -106,7 +98,7 @@ final class Frames implements Wire {
 
     @Override
     public void send(String label, Object value) throws IOException, Unfit {
-        byte[] frame = frame(label, value);
+        byte[] frame = Codec.bytes(label, value);
         synchronized (this) {
             rethrow();
         }
@@ -176,7 +168,7 @@ final class Frames implements Wire {
     }
 
     private synchronized void put(Message message) throws IOException {
-        while (end == null && (heard.size() >= MOST_MESSAGES || letters > LONGEST_TEXT)) {
+        while (end == null && (heard.size() >= MOST_MESSAGES || letters > Codec.LONGEST_TEXT)) {
             await(Connection.never(), "");
         }
         heard.add(message);
@@ -188,82 +180,8 @@ final class Frames implements Wire {
         return message.value instanceof String ? ((String) message.value).length() : 0;
     }
 
-    // Messages as bytes.
-
-    private static byte[] frame(String label, Object value) throws IOException, Unfit {
-        ByteArrayOutputStream frame = new ByteArrayOutputStream();
-        DataOutputStream out = new DataOutputStream(frame);
-        put(out, label, LONGEST_LABEL);
-        if (value == null) {
-            out.writeByte('-');
-        } else if (value instanceof Integer) {
-            out.writeByte('I');
-            out.writeInt((Integer) value);
-        } else if (value instanceof Boolean) {
-            out.writeByte('Z');
-            out.writeBoolean((Boolean) value);
-        } else {
-            out.writeByte('S');
-            put(out, (String) value, LONGEST_TEXT);
-        }
-        return frame.toByteArray();
-    }
-
-    private static void put(DataOutputStream out, String text, int longest) throws IOException, Unfit {
-        byte[] bytes;
-        try {
-            bytes = Texts.encoded(text, StandardCharsets.UTF_8);
-        } catch (CharacterCodingException half) {
-            throw new Unfit("the text " + Texts.quoted(text) + " can't be written in UTF-8");
-        }
-        if (bytes.length > longest) {
-            throw new Unfit("the text has " + bytes.length + " bytes, and may have " + longest);
-        }
-        out.writeInt(bytes.length);
-        out.write(bytes);
-    }
-
     /** The next message. Throws EOFException where the peer has ended before it. */
     private Message message() throws IOException, Mismatch {
-        byte first = connection.readByte(Connection.never());
-        String label = "";
-        try {
-            byte[] rest = connection.read(3, Connection.never());
-            label = text(ByteBuffer.allocate(4).put(first).put(rest).getInt(0), LONGEST_LABEL, label);
-            return new Message(label, value(label), null);
-        } catch (EOFException ended) {
-            throw new Mismatch(Texts.quoted(label), "the peer ended within a message");
-        }
-    }
-
-    private Object value(String label) throws IOException, Mismatch {
-        byte kind = connection.readByte(Connection.never());
-        switch (kind) {
-            case '-':
-                return null;
-            case 'I':
-                return number();
-            case 'Z':
-                return connection.readByte(Connection.never()) != 0;
-            case 'S':
-                return text(number(), LONGEST_TEXT, label);
-            default:
-                throw new Mismatch(Texts.quoted(label), "a value of the kind " + (kind & 0xff));
-        }
-    }
-
-    private int number() throws IOException {
-        return ByteBuffer.wrap(connection.read(4, Connection.never())).getInt();
-    }
-
-    private String text(int length, int longest, String label) throws IOException, Mismatch {
-        if (length < 0 || length > longest) {
-            throw new Mismatch(Texts.quoted(label), "a text of " + length + " bytes, and it may have " + longest);
-        }
-        try {
-            return Texts.decoded(connection.read(length, Connection.never()), StandardCharsets.UTF_8);
-        } catch (CharacterCodingException wrong) {
-            throw new Mismatch(Texts.quoted(label), "a text that isn't in UTF-8");
-        }
+        return Codec.read(count -> connection.read(count, Connection.never()));
     }
 }

@@ -16,11 +16,13 @@ import javax.crypto.spec.SecretKeySpec;
  * What a connection of two roles begins with. Without a secret the caller says `mungo 1` and both names. With one it
  * says `mungo 2`, both names and a random number; the other side answers with a random number of its own and a proof,
  * and the caller with its proof. A proof is the HMAC-SHA-256, by the secret, of whose it is, both names and both
- * numbers.
+ * numbers. Behind the greeting a line by TLS has the other side's word that it takes the caller: by TLS 1.3 the caller has
+ * ended the handshake before its certificate is judged.
  */
 final class Greeting {
     private static final byte[] PLAIN = "mungo 1\n".getBytes(StandardCharsets.US_ASCII);
     private static final byte[] KEYED = "mungo 2\n".getBytes(StandardCharsets.US_ASCII);
+    private static final byte[] TAKEN = "taken\n".getBytes(StandardCharsets.US_ASCII);
     private static final int LONGEST_NAME = 255;
     private static final int NUMBER = 16;
     private static final int PROOF = 32;
@@ -88,6 +90,22 @@ final class Greeting {
             }
         }
         return peer;
+    }
+
+    /** Tells the caller, by TLS, that it is taken. */
+    void take(Connection line, long until) throws IOException {
+        line.write(TAKEN, until);
+    }
+
+    /** Waits, by TLS, for the word that this role is taken. */
+    void await(Connection line, String peer, long until) throws IOException {
+        try {
+            if (!Arrays.equals(line.read(TAKEN.length, until), TAKEN)) {
+                throw new Stranger(peer, "its words behind the greeting aren't those of a role");
+            }
+        } catch (EOFException ended) {
+            throw new Stranger(peer, "it ended at the greeting, and may have another name for the host of this role");
+        }
     }
 
     private static void expect(byte[] given, byte[] wanted, String peer) throws Stranger {

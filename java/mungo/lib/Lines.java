@@ -18,6 +18,8 @@ import java.util.Collections;
 import java.util.Deque;
 import java.util.List;
 import java.util.regex.Pattern;
+import javax.net.ssl.SSLContext;
+import javax.net.ssl.SSLEngine;
 
 /**
  * A wire of lines of text, as those of SMTP, POP3, Redis and HTTP, which a wire file describes. Nothing here is proved.
@@ -29,6 +31,9 @@ import java.util.regex.Pattern;
 public final class Lines implements Wire {
     private final Script script;
     private final boolean traces;
+
+    /** How the connection is sealed, or null where it isn't. */
+    private final Tls tls;
     private InetSocketAddress address;
     private Connection connection;
 
@@ -43,11 +48,29 @@ public final class Lines implements Wire {
      * is wrong.
      */
     public Lines(String name) throws IOException {
-        this(name, textOf(name));
+        this(name, textOf(name), null);
     }
 
     /** A wire by the text of a wire file; its name is for a reader. Throws IOException where it is wrong. */
     public Lines(String name, String text) throws IOException {
+        this(name, text, null);
+    }
+
+    /**
+     * The same by TLS of a context: the peer's certificate has to have the name of its host, and is asked for where this
+     * side connects.
+     */
+    public Lines(String name, SSLContext tls) throws IOException {
+        this(name, textOf(name), Tls.of(tls));
+    }
+
+    /** The same by TLS of the settings, or else of the virtual machine. */
+    static Lines byTls(String name) throws IOException {
+        return new Lines(name, textOf(name), new Settings().tlsOfTexts());
+    }
+
+    private Lines(String name, String text, Tls tls) throws IOException {
+        this.tls = tls;
         traces = Boolean.parseBoolean(Settings.of("mungo.trace", "false"));
         try {
             script = ScriptReader.read(name, text);
@@ -91,6 +114,15 @@ public final class Lines implements Wire {
     public void open(InetSocketAddress at, long deadline) throws IOException {
         address = at;
         connection = script.listens ? Connection.at(at, deadline) : Connection.to(at, deadline);
+        if (tls != null) {
+            SSLEngine engine = script.listens ? tls.answers(false) : tls.calls(at.getHostString(), at.getPort());
+            try {
+                connection.seal(engine, deadline);
+            } catch (IOException fault) {
+                connection.close();
+                throw fault;
+            }
+        }
     }
 
     @Override

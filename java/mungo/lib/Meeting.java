@@ -2,6 +2,7 @@ package mungo.lib;
 
 import java.io.IOException;
 import java.net.InetSocketAddress;
+import java.security.cert.X509Certificate;
 import java.util.ArrayDeque;
 import java.util.Deque;
 import java.util.Map;
@@ -18,18 +19,24 @@ final class Meeting {
     private final String me;
     private final Map<String, Frames> lines;
     private final Greeting greeting;
+
+    /** How lines are sealed, or null where they aren't. */
+    private final Tls tls;
+    private final Map<String, InetSocketAddress> addresses;
     private final Deque<Connection> greeted = new ArrayDeque<>();
     private Connection.Door door;
 
-    /** A meeting of the role with the peers of these lines, by this secret, or without one where it is null. */
-    Meeting(String me, Map<String, Frames> lines, byte[] secret) {
+    /** A meeting of the role with the peers of these lines, by the secret and the certificates of the settings, if any. */
+    Meeting(String me, Map<String, Frames> lines, Map<String, InetSocketAddress> addresses, Settings settings) {
         this.me = me;
         this.lines = lines;
-        greeting = new Greeting(secret);
+        this.addresses = addresses;
+        greeting = new Greeting(settings.secret);
+        tls = lines.isEmpty() ? null : settings.tlsOfRoles();
     }
 
     /** Begins to listen and to call, in threads of its own. Throws IOException where the role can't listen. */
-    void begin(Map<String, InetSocketAddress> addresses) throws IOException {
+    void begin() throws IOException {
         if (listens()) {
             InetSocketAddress own = addresses.get(me);
             try {
@@ -42,7 +49,7 @@ final class Meeting {
         }
         lines.forEach((peer, line) -> {
             if (me.compareTo(peer) > 0) {
-                inBackground("mungo: " + me + " calls " + peer, () -> call(peer, addresses.get(peer), line));
+                inBackground("mungo: " + me + " calls " + peer, () -> call(peer, line));
             }
         });
     }
@@ -115,7 +122,7 @@ final class Meeting {
     /** Takes the line of a peer that has connected, where it says that it means this role, and isn't there yet. */
     private void greet(Connection stranger) {
         try {
-            String peer = greeting.answer(stranger, me, Connection.in(GREETING_SECONDS));
+            String peer = answer(stranger, Connection.in(GREETING_SECONDS));
             leave(stranger);
             Frames line = me.compareTo(peer) < 0 ? lines.get(peer) : null;
             if (line != null && line.joins(stranger)) {
@@ -129,6 +136,8 @@ final class Meeting {
             if (line != null) {
                 line.awaits("one with this name has come, and " + fault.getMessage());
             }
+        } catch (Tls.Refused fault) {
+            lines.values().forEach(line -> line.awaits("one has come, and " + fault.getMessage()));
         } catch (IOException gone) {
             // no role of this run
         } finally {
@@ -137,12 +146,32 @@ final class Meeting {
         }
     }
 
+    /** The name of one that has connected, which is a role that means this one, and that the certificate is of its host. */
+    private String answer(Connection stranger, long until) throws IOException {
+        X509Certificate shown = tls == null ? null : stranger.seal(tls.answers(true), until);
+        String peer = greeting.answer(stranger, me, until);
+        if (tls != null) {
+            InetSocketAddress address = addresses.get(peer);
+            if (address == null) {
+                throw new Greeting.Stranger(peer, "it has no address here");
+            }
+            try {
+                Tls.expect(shown, address.getHostString());
+            } catch (Tls.Refused another) {
+                throw new Greeting.Stranger(peer, another.getMessage());
+            }
+            greeting.take(stranger, until);
+        }
+        return peer;
+    }
+
     /** Connects to a peer, which may come later than this role. */
-    private void call(String peer, InetSocketAddress address, Frames line) {
+    private void call(String peer, Frames line) {
+        InetSocketAddress address = addresses.get(peer);
         while (line.isAwaited()) {
             try {
                 try (Connection found = Connection.once(address, Connection.in(GREETING_SECONDS))) {
-                    greeting.call(found, me, peer, Connection.in(GREETING_SECONDS));
+                    greet(found, peer, Connection.in(GREETING_SECONDS));
                     if (line.joins(found)) {
                         line.hear();
                     }
@@ -153,6 +182,18 @@ final class Meeting {
             } catch (IOException stopped) {
                 return;
             }
+        }
+    }
+
+    /** Greets the peer to which this role has connected. */
+    private void greet(Connection found, String peer, long until) throws IOException {
+        if (tls != null) {
+            InetSocketAddress address = addresses.get(peer);
+            found.seal(tls.calls(address.getHostString(), address.getPort()), until);
+        }
+        greeting.call(found, me, peer, until);
+        if (tls != null) {
+            greeting.await(found, peer, until);
         }
     }
 }

@@ -1,7 +1,9 @@
 package mungo.lib;
 
 import java.io.IOException;
+import java.io.InterruptedIOException;
 import java.net.InetSocketAddress;
+import java.net.SocketTimeoutException;
 import java.util.Map;
 import java.util.TreeMap;
 
@@ -119,14 +121,24 @@ final class Role {
             try {
                 peer.wire.open(peer.address, Connection.in(patience));
                 peer.open = true;
+            } catch (InterruptedIOException stopped) {
+                // A late connection is a SocketTimeoutException, which is one too.
+                if (!(stopped instanceof SocketTimeoutException)) {
+                    throw waits(name, stopped);
+                }
+                throw isAbsent(name, peer, stopped);
             } catch (IOException gone) {
-                String at = peer.address == null ? ""
-                        : " at " + Texts.name(peer.address.getHostString()) + ":" + peer.address.getPort();
-                say(name + at + ": " + Texts.reason(gone));
-                throw ends("no peer " + name, 7);
+                throw isAbsent(name, peer, gone);
             }
         }
         return peer;
+    }
+
+    private Ended isAbsent(String name, Peer peer, IOException why) {
+        String at = peer.address == null ? ""
+                : " at " + Texts.name(peer.address.getHostString()) + ":" + peer.address.getPort();
+        say(name + at + ": " + Texts.reason(why));
+        return ends("no peer " + name, 7);
     }
 
     private Ended mismatches(String peer, Wire.Mismatch wrong) {
@@ -175,7 +187,7 @@ final class Role {
         if (ending != null || fault instanceof Ended) {
             return;
         }
-        if (fault instanceof ArithmeticException) {
+        if (isZeroDivisor(fault)) {
             ends("zero divisor", 6);
         } else if (fault instanceof StackOverflowError || fault instanceof OutOfMemoryError) {
             ends("memory", 5);
@@ -183,6 +195,18 @@ final class Role {
             fault.printStackTrace();
             ends("fault", 70);
         }
+    }
+
+    /** Whether a fault is the ending of a role, and no other's affair. */
+    static boolean isEnding(Throwable fault) {
+        return fault instanceof Ended || fault instanceof StackOverflowError || fault instanceof OutOfMemoryError
+                || isZeroDivisor(fault);
+    }
+
+    /** Whether a class that is written as checked ones are has divided by zero, and no other that it called. */
+    private static boolean isZeroDivisor(Throwable fault) {
+        StackTraceElement[] stack = fault.getStackTrace();
+        return fault instanceof ArithmeticException && stack.length > 0 && Checked.mayBe(stack[0].getClassName());
     }
 
     /** Ends the connections. */

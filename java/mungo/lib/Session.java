@@ -19,11 +19,11 @@ import java.util.Map;
  * and mungo.roles or MUNGO_ROLES the addresses of all, as "C=127.0.0.1:4001,S=127.0.0.1:4002". Of two roles the one
  * whose name comes first in the order of names listens, and the other connects. A role waits for a peer for so many
  * seconds as mungo.patience says (30), and for a message as mungo.limit says (3,600). Where mungo.secret is set, peers
- * have to prove that they know it. Messages are neither signed nor hidden: use it on loopback or inside a network that
- * is trusted.
+ * have to prove that they know it, but messages are neither signed nor hidden: that is for one machine. Where mungo.tls is
+ * set, all goes by TLS, and both sides know each other by certificates.
  *
  * <p>A peer that is no role of mungo, as a mail server, has a {@link Wire}: mungo.wire says which, as
- * "S=lines:smtp.wire".
+ * "S=lines:smtp.wire"; or roles meet at a broker, as "S=amqp://localhost#Adder/C/S".
  *
  * <p>Several roles in one process, `java mungo.lib.Session C=CMain S=SMain`: each runs in a thread, the messages stand
  * in memory, each printed line begins with its role, and at the end a line for each role says how it ended. In a larger
@@ -39,6 +39,9 @@ public final class Session {
 
     /** The role of this process, where its `main` was called by the virtual machine itself. */
     private static Role alone;
+
+    /** Whether roles are played here by threads of their own, so that a thread without one plays none. */
+    private static volatile boolean played;
 
     private Session() {}
 
@@ -92,33 +95,77 @@ public final class Session {
      * other peer that has an address is a role of mungo, and where it is this role that listens, its own address is
      * there too.
      *
-     * <p>Answers `done`, or the ending as it is told on standard error otherwise, `memory` or `zero divisor` too;
-     * `fault` where the role can't listen. What else the work throws is thrown on. The process goes on in each case.
+     * <p>Answers `done`, or the ending as it is told on standard error otherwise, `memory` too, and `zero divisor` where a
+     * class divided that is written as checked ones are; `fault` where the role can't listen. What else the work throws
+     * is thrown on. The process goes on in each case. In another thread than this one the calls of a role's class throw
+     * IllegalStateException, also where the work has begun it.
      *
      * @throws IllegalArgumentException where a name is none of a role, or a setting is wrong
      */
     public static String play(String name, Map<String, Wire> wires, Map<String, InetSocketAddress> addresses,
             Runnable work) {
-        Role before = MINE.get();
         Settings settings = new Settings();
         Role role = new Role(Settings.role("Session.play", name), settings.patience, false);
         Meeting meeting = meeting(role, settings, wires, addresses);
         try {
-            meeting.begin(addresses);
-            MINE.set(role);
-            work.run();
-            role.returns();
+            meeting.begin();
+            plays(role, work);
         } catch (IOException fault) {
             System.err.println(name + ": " + fault.getMessage());
             return "fault";
-        } catch (ArithmeticException | StackOverflowError | OutOfMemoryError | Role.Ended fault) {
-            role.fails(fault);
         } finally {
-            MINE.set(before);
             meeting.close();
             role.close();
         }
         return role.ending();
+    }
+
+    /** Plays a role in this thread up to its end. What ends no role by its own is thrown on. */
+    private static void plays(Role role, Runnable work) {
+        Role before = MINE.get();
+        played = true;
+        MINE.set(role);
+        try {
+            work.run();
+            role.returns();
+        } catch (RuntimeException | Error fault) {
+            if (!Role.isEnding(fault)) {
+                throw fault;
+            }
+            role.fails(fault);
+        } finally {
+            if (before == null) {
+                MINE.remove();
+            } else {
+                MINE.set(before);
+            }
+        }
+    }
+
+    /**
+     * Serves a role for whoever comes: as many sessions at once as mungo.sessions says (100), each in a thread of its own
+     * by the rules of `play`. Comes back at once; `close()` of the answer lets those end that run.
+     *
+     * @throws IOException where no session can come, as the address is taken
+     * @throws IllegalArgumentException where the name is none of a role, or a setting is wrong
+     */
+    public static Service serve(String name, Wires wires, Runnable work) throws IOException {
+        Settings settings = new Settings();
+        String role = Settings.role("Session.serve", name);
+        Service service = new Service(role, settings.sessions, settings.limit, wires, (number, session) -> {
+            Role played = new Role(role, settings.patience, false);
+            session.forEach((peer, wire) -> played.join(peer, wire, null));
+            try {
+                plays(played, work);
+            } finally {
+                played.close();
+            }
+            return played.ending();
+        });
+        played = true;
+        wires.open(role, settings.sessions);
+        service.begin();
+        return service;
     }
 
     /** Gives a role its peers: those with wires, and at the other addresses roles of mungo in other processes. */
@@ -133,7 +180,10 @@ public final class Session {
                 far.put(peer, line);
             }
         });
-        return new Meeting(role.name, far, settings.secret);
+        if (settings.secret != null && settings.tls == null && !far.isEmpty()) {
+            Secrets.warn(addresses.values());
+        }
+        return new Meeting(role.name, far, addresses, settings);
     }
 
     // A role that is the process.
@@ -142,6 +192,10 @@ public final class Session {
     private static Role mine() {
         Role role = MINE.get();
         if (role == null) {
+            if (played) {
+                throw new IllegalStateException("the thread " + Texts.name(Thread.currentThread().getName())
+                        + " plays no role: a role is played by the thread that has called Session.play");
+            }
             role = alone();
             MINE.set(role);
         }
@@ -154,7 +208,9 @@ public final class Session {
                 Settings settings = new Settings();
                 Role role = new Role(Settings.role(), settings.patience, true);
                 Map<String, InetSocketAddress> addresses = Settings.addresses();
-                meeting(role, settings, Settings.wires(addresses), addresses).begin(addresses);
+                meeting(role, settings, Settings.wires(role.name, addresses), addresses).begin();
+                // What is sealed, or goes through a broker, has an end that is told.
+                Runtime.getRuntime().addShutdownHook(new Thread(role::close));
                 Thread.setDefaultUncaughtExceptionHandler((thread, fault) -> role.fails(fault));
                 alone = role;
             } catch (Settings.Wrong | IOException wrong) {
@@ -207,6 +263,7 @@ public final class Session {
         }
         Map<String, Method> mains = new LinkedHashMap<>();
         classes.forEach((name, type) -> mains.put(name, mainOf(type)));
+        played = true;
         System.setOut(new Named(System.out));
         List<Role> roles = new ArrayList<>();
         try {
@@ -229,13 +286,13 @@ public final class Session {
         for (Map.Entry<String, Method> main : mains.entrySet()) {
             Role role = new Role(Settings.role("the words have", main.getKey()), settings.patience, false);
             Map<String, InetSocketAddress> others = new LinkedHashMap<>(addresses);
-            Map<String, Wire> wires = Settings.wires(addresses);
+            Map<String, Wire> wires = Settings.wires(role.name, addresses);
             wires.keySet().removeAll(mains.keySet());
             if (mains.size() > 1) {
                 // The other roles are in this process, and peers outside it have wires.
                 others.keySet().retainAll(wires.keySet());
             }
-            meeting(role, settings, wires, others).begin(others);
+            meeting(role, settings, wires, others).begin();
             floor.linesOf(role.name).forEach((peer, line) -> role.join(peer, line, null));
             roles.add(role);
             threads.add(new Thread(null, () -> plays(role, main.getValue(), floor), role.name, 1L << 26));

@@ -5,7 +5,6 @@ use Rattle.std.specs.Char.{is_ascii_digit}
 use Rattle.std.specs.Str.{IsAscii, IsUtf8}
 use Rattle.std.specs.Str.Parse.{digits_value}
 use Rattle.mg_text.specs.declared.place.Place.{Place}
-use Rattle.mg_read.specs.Letters.{not_line_end}
 use Rattle.mg_read.specs.Passes.{span}
 use Rattle.mg_read.specs.inner.Fronts.{close_at}
 use Rattle.jv_tree.specs.declared.token.Sign.{Sign}
@@ -18,7 +17,7 @@ use Rattle.jv_lex.specs.declared.front.PieceKind.{PieceKind}
 use Rattle.jv_lex.specs.declared.front.PieceKind.TheVariants as kinds
 use Rattle.jv_lex.specs.declared.front.FrontPiece.{FrontPiece}
 use Rattle.jv_lex.specs.declared.front.Stop.{Stop}
-use Rattle.jv_lex.specs.Letters.{is_blank, is_word_start, is_word_byte, is_number_tail, is_line_end, is_escape}
+use Rattle.jv_lex.specs.Letters.{is_blank, is_word_start, is_word_byte, is_number_tail, is_line_end, is_in_line, is_escape}
 use Rattle.jv_lex.specs.Written.{Written, plain, escaped, meant}
 use Rattle.jv_lex.specs.Pieces.{Piece, blank, line, block, word, number, text, sign, spell}
 
@@ -91,12 +90,26 @@ number_at bytes =
 
 -- ---- comments
 
+-- where "u" stands behind the first backslash that begins an escape of Unicode; the test says whether a backslash stands before the bytes
+-- that may begin one
+abbrev pub unicode_at : Bool → List ℕ → Option ℕ
+unicode_at after_backslash [] = None
+unicode_at after_backslash (c ∷ cs) =
+    if after_backslash && c == 117 then Some 0
+    else option_map (λ n. n + 1) (unicode_at (not after_backslash && c == 92) cs)
+
+-- the comment, unless an escape of Unicode begins in it; its body stands two bytes behind the front
+abbrev pub comment : Piece → List ℕ → Option ℕ → Front
+comment p after None = Ok (p, after)
+comment p after (Some n) = Err (causes.BadByte, n + 1)
+
 abbrev pub closed_block : List ℕ → Option ℕ → Front
-closed_block body None = Err (causes.OpenComment, 0)
-closed_block body (Some n) = Ok (block (take n body), drop (n + 2) body)
+closed_block cs None = Err (causes.OpenComment, 0)
+closed_block cs (Some n) = comment (block (take n cs)) (drop (n + 2) cs) (unicode_at false (take n cs))
 
 abbrev pub line_at : List ℕ → Front
-line_at body = Ok (line (take (span not_line_end body) body), drop (span not_line_end body) body)
+line_at cs =
+    comment (line (take (span is_in_line cs) cs)) (drop (span is_in_line cs) cs) (unicode_at false (take (span is_in_line cs) cs))
 
 -- ---- signs
 
@@ -220,6 +233,11 @@ shows x = record { kind = kind_of x.0; len = length (spell x.0) }
 abbrev pub shown : Front → Result FrontPiece Stop
 shown (Ok x) = Ok (shows x)
 shown (Err e) = Err (record { cause = e.0; at = e.1 })
+
+-- a comment of this length, or the escape of Unicode in it
+abbrev pub comment_shown : ℕ → Option ℕ → Result FrontPiece Stop
+comment_shown len None = Ok (record { kind = kinds.Gap; len = len })
+comment_shown len (Some n) = Err (record { cause = causes.BadByte; at = n + 1 })
 
 -- what stands between the first byte and the last
 abbrev pub inner : List ℕ → List ℕ

@@ -1,26 +1,12 @@
 //! What machines do, step by step, in a run with no other roles.
 
-use crate::machine::described::class_of;
-use crate::machine::linking::link;
-use crate::machine::spelling::number_of;
-use crate::machine::unanswered::Unanswered;
 use cases::Answer;
 use cls_tree::Class;
 use mg_text::Memory;
 use std::alloc::Global;
+use vm_load::load;
 use vm_model::{Linked, Ports};
 use vm_step::{Machine, Stepped, has_main};
-
-/// Tells what the `main` of a class does. The first line of a case says how many steps are taken at
-/// most, and the others describe the class.
-pub fn tell(alloc: Global, answer: &mut Answer, given: &str) -> Result<(), Unanswered> {
-    let (steps, described) = given.split_once('\n').ok_or(Unanswered::Form)?;
-    let steps = steps.strip_suffix(" steps").ok_or(Unanswered::Form)?;
-    let steps = number_of(steps).ok_or(Unanswered::Form)?;
-    let class = class_of(alloc, described)?;
-    tell_class(alloc, answer, class, steps)?;
-    Ok(())
-}
 
 /// Tells what the `main` of a class does in so many steps, or what is wrong with the class.
 pub fn tell_class(
@@ -29,7 +15,7 @@ pub fn tell_class(
     class: Class,
     steps: u32,
 ) -> Result<(), Memory> {
-    match link(alloc, &[class]) {
+    match load(alloc, &[class]) {
         Ok(linked) => tell_run(alloc, answer, &linked, steps),
         Err(fault) => {
             answer.tell(&fault);

@@ -2,7 +2,7 @@
 
 use crate::machine::instrs::tell_instrs;
 use cases::Answer;
-use cls_tree::Code;
+use cls_tree::{Code, Const};
 use gen_code::{Pool, gen_method};
 use jv_core::Core;
 use std::alloc::Global;
@@ -45,6 +45,19 @@ fn tell_code(answer: &mut Answer, code: &Code) {
 fn tell_pool(answer: &mut Answer, pool: &Pool) {
     for entry in pool.entries() {
         answer.line();
-        answer.tell(entry);
+        tell_constant(answer, entry);
+    }
+}
+
+// What a constant is, and its text or the numbers that it names.
+fn tell_constant(answer: &mut Answer, entry: &Const) {
+    match entry {
+        Const::Utf8(text) => answer.pair("Utf8 ", text.as_str()),
+        Const::Integer(number) => write!(answer, "Integer {number}"),
+        Const::Class(name) => write!(answer, "Class {name}"),
+        Const::Text(text) => write!(answer, "Text {text}"),
+        Const::Field(class, member) => write!(answer, "Field {class} {member}"),
+        Const::Method(class, member) => write!(answer, "Method {class} {member}"),
+        Const::NameAndType(name, of) => write!(answer, "NameAndType {name} {of}"),
     }
 }

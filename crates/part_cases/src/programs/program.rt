@@ -1,6 +1,6 @@
 //! From the files of a case to their core, and what is asked of it.
 
-use crate::programs::{codes, cores, flows, forms, judged, keys, used};
+use crate::programs::{codes, cores, judged, used};
 use crate::sources::sources_of;
 use cases::{Answer, File, files_of};
 use jv_core::Core;
@@ -40,12 +40,7 @@ fn tell_core(
     core: &Core,
 ) -> Result<(), Memory> {
     match asked {
-        "forms.txt" => forms::tell_last(alloc, answer, core),
-        "contexts.txt" => flows::tell_contexts(alloc, answer, core),
-        "flows.txt" => flows::tell_flows(alloc, answer, files, core),
-        "tables.txt" => keys::tell_held(alloc, answer, core),
-        "reads.txt" => flows::tell_reads(alloc, answer, files, core),
-        "follows.txt" => flows::tell_count(alloc, answer, core),
+        "reads.txt" => used::tell_reads(alloc, answer, core),
         _ => {
             tell_whole(alloc, answer, asked, files, core);
             Ok(())

@@ -6,7 +6,7 @@ use jv_core::Core;
 use mg_text::{Memory, Text};
 use std::alloc::Global;
 use use_check::{CheckFault, check, report};
-use use_flow::{Demand, Element, typestate_of};
+use use_flow::{Demand, Element, contexts, reads, typestate_of};
 
 /// Tells that a program is accepted, with its report, or the line of the demand that fails.
 pub(crate) fn tell(alloc: Global, answer: &mut Answer, files: &[File<'_>], core: &Core) {
@@ -74,4 +74,14 @@ fn element_name(core: &Core, class: u32, element: Element) -> &str {
 fn state_name(core: &Core, class: u32, state: u32) -> &str {
     let found = typestate_of(core, class).and_then(|t| t.states.as_slice().get(state as usize));
     found.map_or("?", |s| s.name.as_str())
+}
+
+/// Tells a line for each context: how many keys it reads.
+pub(crate) fn tell_reads(alloc: Global, answer: &mut Answer, core: &Core) -> Result<(), Memory> {
+    for context in contexts(alloc, core)?.as_slice() {
+        let keys = reads(alloc, core, *context)?;
+        answer.line();
+        answer.show(&keys.len());
+    }
+    Ok(())
 }

@@ -1,6 +1,5 @@
 //! Answers on what protocols offer call by call, their typestates and their APIs.
 
-use crate::reading::typestates::printed;
 use cases::{Answer, files_of};
 use mg_text::{List, Memory, Text};
 use scr_read::{Local, read_local};
@@ -8,11 +7,12 @@ use scr_trace::{Call, Offer, Walk};
 use std::alloc::Global;
 use stm_api::{ApiFile, api};
 use stm_gen::generate;
+use ts_read::print_typestate;
 
 /// The text of the typestate of a protocol.
 pub fn typestate_text(alloc: Global, local: &Local) -> Result<Text, Memory> {
     let typestate = generate(alloc, local)?;
-    printed(alloc, &typestate)
+    print_typestate(alloc, &typestate)
 }
 
 /// The name and text of each file of the API of a protocol.

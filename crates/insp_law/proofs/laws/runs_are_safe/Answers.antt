@@ -1,0 +1,5 @@
+use Rattle.insp_law.proofs.Leaving.{runs_are_safe}
+use Rattle.insp_law.proofs.laws.runs_are_safe.Goals as goal
+
+pub returns : goal.returns
+returns c = runs_are_safe

@@ -1,0 +1,6 @@
+pub mod Program
+pub mod Skeleton
+pub mod Frames
+pub mod Reached
+pub mod Numbers
+pub mod Laws

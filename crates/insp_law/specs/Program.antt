@@ -1,0 +1,275 @@
+-- Code, as far as it moves, tests and calls followed objects.
+use Rattle.std.specs.Prelude.{ℕ, zero, suc, Bool, true, false, not, List, [], ◌∷◌, Option, Some, None, slice_get, option_and_then}
+use Rattle.std.specs.Prelude.{if◌then◌else◌}
+use Rattle.std.specs.Prelude.{◌==◌, codes}
+use Rattle.std.specs.Str.{bytes_eq}
+use Rattle.mg_text.specs.Call.{Name}
+use Rattle.ts_tree.specs.Typestate.{Typestate}
+
+-- a class that is followed, with its typestate and the names of the classes that it extends
+pub record Class : Type 0 where
+  pub name : Name
+  pub typestate : Typestate
+  pub above : List Name
+
+abbrev pub is_among : Name → List Name → Bool
+is_among name [] = false
+is_among name (x ∷ xs) = if bytes_eq x name then true else is_among name xs
+
+-- one is the other, or extends it
+abbrev pub related : Class → Class → Bool
+related a b =
+    if bytes_eq a.name b.name then true else (if is_among b.name a.above then true else is_among a.name b.above)
+
+-- what an answer is of: a truth, or a constant of the class of this name
+pub data Kind : Type 0 where
+  Truth : Kind
+  Constants : Name → Kind
+
+-- how an answer is at hand: as it was given; as the place of the constant in its class; as the number that a switch map has for it
+pub data Form : Type 0 where
+  Itself : Kind → Form
+  Ordinal : Name → Form
+  Mapped : ℕ → Name → Form
+
+-- what is known of a value that has nothing to do with an object that is followed:
+pub data Bare : Type 0 where
+  -- nothing, it isn't followed
+  Other : Bare
+  -- the numbers 0 and 1
+  Bit : Bool → Bare
+  Null : Bare
+  -- it is of a followed class, and came from outside what is followed
+  Lost : Bare
+  -- perhaps it is an object with this typestate, and it isn't known which
+  Alias : Typestate → Bare
+  -- the switch map of this number; a constant of a class
+  Map : ℕ → Bare
+  Constant : Name → Name → Bare
+
+-- what an instruction puts on the operands: one of those that it took, the last one has number 0; or a value of its own
+pub data Give : Type 0 where
+  From : ℕ → Give
+  Just : Bare → Give
+
+-- the result of a method: none, so many words that aren't followed, a truth, or a value of a class, which may be followed
+pub data Result : Type 0 where
+  Void : Result
+  Words : ℕ → Result
+  Boolean : Result
+  Of : Name → Option Class → Result
+
+-- how numbers are compared
+pub data Comparison : Type 0 where
+  Equal : Comparison
+  Unequal : Comparison
+  Less : Comparison
+  AtLeast : Comparison
+  More : Comparison
+  AtMost : Comparison
+
+-- a number and where a switch goes for it
+pub record Arm : Type 0 where
+  pub number : ℕ
+  pub to : ℕ
+
+-- an instruction; where it goes on is the next one, or a place that it names
+pub data Instruction : Type 0 where
+  -- takes so many operands, and gives these, the last one first
+  Move : ℕ → List Give → Instruction
+  -- a local is put on the operands; the last operand goes into a local; a local becomes something that isn't followed
+  Load : ℕ → Instruction
+  Store : ℕ → Instruction
+  Forget : ℕ → Instruction
+  -- the last operand is taken to be of a followed class
+  Cast : Instruction
+  -- takes an array and a number, the last one, and gives what the array has there
+  Index : Instruction
+  -- takes a constant, and gives its place in its class
+  TakeOrdinal : Instruction
+  -- goes on at this place; either there or at the next one
+  Go : ℕ → Instruction
+  Either : ℕ → Instruction
+  -- takes an operand, and goes on there where it is null, or where it isn't
+  IfNull : Bool → ℕ → Instruction
+  -- takes two, and goes on there where they are the same, or where they aren't
+  IfSame : Bool → ℕ → Instruction
+  -- takes a number, and goes on there where it compares so with 0; takes two, and goes on there where they compare so
+  IfSign : Comparison → ℕ → Instruction
+  IfNumbers : Comparison → ℕ → Instruction
+  -- takes a number, and goes on at the arm that has it, or at this place
+  Switch : List Arm → ℕ → Instruction
+  -- a new object of a class
+  Make : Class → Instruction
+  -- a method of a protocol, with so many arguments, and its result
+  Call : Name → ℕ → Result → Instruction
+  -- a method of the program, of this number, with so many arguments, and so many words of a result
+  CallIn : ℕ → ℕ → ℕ → Instruction
+  -- a method outside, with so many arguments; its result is null or an object of this class that nobody else has, or isn't followed
+  CallOut : ℕ → Option Class → Instruction
+  -- keeps so many operands somewhere else: in fields, arrays, or behind a method outside
+  Keep : ℕ → Instruction
+  -- with so many words of a result
+  Return : ℕ → Instruction
+  Throw : Instruction
+
+pub record Method : Type 0 where
+  pub code : List Instruction
+  -- where a throw may be caught, for each place
+  pub handlers : ℕ → List ℕ
+  -- how many locals there are besides the arguments
+  pub locals : ℕ
+
+-- in a switch map a constant of a class has this number
+pub record Entry : Type 0 where
+  pub class : Name
+  pub label : Name
+  pub number : ℕ
+
+pub record Program : Type 0 where
+  pub methods : List Method
+  pub maps : List (List Entry)
+
+abbrev pub code_at : Program → ℕ → ℕ → Option Instruction
+code_at p m at = option_and_then (λ (method : Method). slice_get method.code at) (slice_get p.methods m)
+
+abbrev pub handlers_at : Program → ℕ → ℕ → List ℕ
+handlers_at p m at = elim (slice_get p.methods m) [ None ↦ [] | Some method ↦ method.handlers at ]
+
+abbrev pub locals_at : Program → ℕ → ℕ
+locals_at p m = elim (slice_get p.methods m) [ None ↦ zero | Some method ↦ method.locals ]
+
+abbrev pub number_in : List Entry → Name → Name → Option ℕ
+number_in [] class label = None
+number_in (e ∷ es) class label =
+    if bytes_eq e.class class then (if bytes_eq e.label label then Some e.number else number_in es class label)
+    else number_in es class label
+
+-- the number that a switch map has for a constant
+abbrev pub number_of : Program → ℕ → Name → Name → Option ℕ
+number_of p m class label = option_and_then (λ es. number_in es class label) (slice_get p.maps m)
+
+-- the arm for a number, or for none
+abbrev pub arm_of : List Arm → ℕ → Option ℕ
+arm_of [] number = None
+arm_of (a ∷ arms) number = if a.number == number then Some a.to else arm_of arms number
+
+-- where a switch goes that has this place for others
+abbrev pub goes_for : List Arm → ℕ → Option ℕ → ℕ
+goes_for arms other number = elim (option_and_then (arm_of arms) number) [ None ↦ other | Some to ↦ to ]
+
+abbrev pub agree : Bool → Bool → Bool
+agree true b = b
+agree false b = not b
+
+-- whether these compare so, where false is 0 and true is 1
+abbrev pub compares : Comparison → Bool → Bool → Bool
+compares Equal a b = if a then b else not b
+compares Unequal a b = if a then not b else b
+compares Less a b = if a then false else b
+compares AtLeast a b = if a then true else not b
+compares More a b = if a then not b else false
+compares AtMost a b = if a then b else true
+
+-- whether a number is 0 where it compares so with 0 or doesn't; None where that doesn't tell
+abbrev pub is_zero_by : Comparison → Bool → Option Bool
+is_zero_by Equal b = Some b
+is_zero_by Unequal b = Some (not b)
+is_zero_by Less b = None
+is_zero_by AtLeast b = None
+is_zero_by More b = None
+is_zero_by AtMost b = None
+
+-- the label of a truth
+abbrev pub truth : (is_zero : Bool) → Name
+truth true = codes "false"
+truth false = codes "true"
+
+-- ---- what is the same for values and for what is known of them
+
+-- locals, and operands with the last one first
+pub record Shape (A : Type 0) : Type 0 where
+  pub locals : List A
+  pub operands : List A
+
+-- the values that an instruction makes, how it takes one to be of a followed class, what an array has, and where a constant stands
+pub record Kit (A : Type 0) : Type 0 where
+  pub bare : Bare → A
+  pub cast : A → A
+  pub index : A → A → A
+  pub ordinal : A → A
+
+abbrev pub unknown : {A : Type 0} → Kit A → A
+unknown k = k.bare Other
+
+abbrev pub nth : {A : Type 0} → A → List A → ℕ → A
+nth d [] i = d
+nth d (x ∷ xs) zero = x
+nth d (x ∷ xs) (suc i) = nth d xs i
+
+abbrev pub first : {A : Type 0} → ℕ → List A → List A
+first zero xs = []
+first (suc n) [] = []
+first (suc n) (x ∷ xs) = x ∷ first n xs
+
+abbrev pub rest : {A : Type 0} → ℕ → List A → List A
+rest zero xs = xs
+rest (suc n) [] = []
+rest (suc n) (x ∷ xs) = rest n xs
+
+abbrev pub placed : {A : Type 0} → List A → ℕ → A → List A
+placed [] i y = []
+placed (x ∷ xs) zero y = y ∷ xs
+placed (x ∷ xs) (suc i) y = x ∷ placed xs i y
+
+abbrev pub filled : {A : Type 0} → A → ℕ → List A → List A
+filled d zero xs = xs
+filled d (suc n) xs = d ∷ filled d n xs
+
+abbrev pub given : {A : Type 0} → Kit A → List A → Give → A
+given k taken (From i) = nth (unknown k) taken i
+given k taken (Just b) = k.bare b
+
+abbrev pub gives : {A : Type 0} → Kit A → List A → List Give → List A → List A
+gives k taken [] xs = xs
+gives k taken (g ∷ gs) xs = given k taken g ∷ gives k taken gs xs
+
+abbrev pub shape : {A : Type 0} → List A → List A → Shape A
+shape ls os = record { locals = ls; operands = os }
+
+-- without so many operands, and with one more
+abbrev pub popped : {A : Type 0} → ℕ → Shape A → Shape A
+popped n s = shape s.locals (rest n s.operands)
+
+abbrev pub pushed : {A : Type 0} → A → Shape A → Shape A
+pushed x s = shape s.locals (x ∷ s.operands)
+
+-- what an instruction does that only moves values; None of others
+abbrev pub straight : {A : Type 0} → Kit A → Instruction → Shape A → Option (Shape A)
+straight k (Move n gs) s = Some (shape s.locals (gives k (first n s.operands) gs (rest n s.operands)))
+straight k (Load i) s = Some (pushed (nth (unknown k) s.locals i) s)
+straight k (Store i) s = Some (shape (placed s.locals i (nth (unknown k) s.operands 0)) (rest 1 s.operands))
+straight k (Forget i) s = Some (shape (placed s.locals i (unknown k)) s.operands)
+straight k Cast s = Some (pushed (k.cast (nth (unknown k) s.operands 0)) (popped 1 s))
+straight k Index s =
+    Some (pushed (k.index (nth (unknown k) s.operands 1) (nth (unknown k) s.operands 0)) (popped 2 s))
+straight k TakeOrdinal s = Some (pushed (k.ordinal (nth (unknown k) s.operands 0)) (popped 1 s))
+straight k _ s = None
+
+-- where a test goes on
+abbrev pub way : Bool → (there at : ℕ) → ℕ
+way true there at = there
+way false there at = suc at
+
+-- behind a throw that is caught: the locals, and what was thrown
+abbrev pub caught : {A : Type 0} → Kit A → Shape A → Shape A
+caught k s = shape s.locals ((unknown k) ∷ [])
+
+-- these the other way round, before those
+abbrev pub turned : {A : Type 0} → List A → List A → List A
+turned [] ys = ys
+turned (x ∷ xs) ys = turned xs (x ∷ ys)
+
+-- where a method begins: with its arguments, of which the last one comes first, and other locals behind them
+abbrev pub begun : {A : Type 0} → Kit A → (locals : ℕ) → List A → Shape A
+begun k n args = shape (turned args (filled (unknown k) n [])) []

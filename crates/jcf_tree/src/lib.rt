@@ -1,0 +1,9 @@
+//! Class files of any compiler as trees: constants by number, members and the code of methods.
+//! What a place may name of the constants is a definition here.
+#![tactic(auto)]
+
+mod class;
+mod kind;
+
+pub use class::{Class, Code, Const, Handler, Line, Member, Variable};
+pub use kind::{Kind, is_of};

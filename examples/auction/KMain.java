@@ -1,0 +1,6 @@
+class KMain {
+    public static void main(String[] args) {
+        KRole k = new KRole();
+        Keeper.serve(k);
+    }
+}
