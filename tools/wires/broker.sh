@@ -57,10 +57,29 @@ END
     link=amqp://127.0.0.1:$broker
 }
 
-# Starts the broker, in a group of processes of its own, and waits until it answers.
-start_broker() {
+# Starts the broker, in a group of processes of its own, and waits until it answers or has ended. Says whether it answers.
+broker_starts() {
     rabbitmq setsid $rabbit/rabbitmq-server >>"$room/rabbit.said" 2>&1 </dev/null &
-    await answers "$broker"
+    last=$!
+    listens "$broker"
+}
+
+start_broker() {
+    broker_starts
+    count "the broker is there" $? "$room/rabbit.said"
+}
+
+# Settles and starts the broker. Where it can't start it is settled anew, with other ports and files, twice at most.
+begin_broker() {
+    local more
+    for more in 2 1 0; do
+        settle_broker
+        if broker_starts || [ $more -eq 0 ]; then break; fi
+        echo "java-wires: the broker didn't start, and is settled anew"
+        kill_broker
+        rm -rf "$data" "$room/rabbit"
+    done
+    answers "$broker"
     count "the broker is there" $? "$room/rabbit.said"
 }
 
@@ -87,8 +106,7 @@ part_amqp() {
     by_mungo adder "$top"/examples/adder/*.*
     lacks_client
     has_broker || return
-    settle_broker
-    start_broker
+    begin_broker
     thousand
     outage
     killed
@@ -221,8 +239,7 @@ part_auction() {
     local broker sealed inner names link house keeper path made=$room/auction
     mkdir -p "$made/source" "$made/class"
     has_broker || return
-    settle_broker
-    start_broker
+    begin_broker
     "$mungo" translate --out "$made/source" "$top"/examples/auction/*.scr
     path=$made/class:$lib:$room/amqp:$client:$logs
     by_javac -Xlint:all,-path -Werror -cp "$path" -d "$made/class" "$made"/source/*.java "$top"/examples/auction/jvm/*.java \
