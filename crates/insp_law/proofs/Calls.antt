@@ -14,13 +14,13 @@ use Rattle.ts_tree.specs.declared.parts.To.TheVariants as tos
 use Rattle.ts_tree.specs.declared.parts.Branch.{Branch}
 use Rattle.ts_tree.specs.Typestate.{Method as Offer, State as StateOf, Typestate}
 use Rattle.ts_tree.specs.Calls.{initial, by_label, led_by, offered_in, offered, next_from, led, may_end}
-use Rattle.insp_law.specs.Program.{Class}
-use Rattle.insp_law.specs.Skeleton.{Thing, place, begins, called, offered_at, upset, handed, thrown_at}
-use Rattle.insp_law.specs.Frames.{Element, At, Pending, Broken, Group, group, new_group, kept, narrowed, refined, finished, all_end}
-use Rattle.insp_law.specs.Frames.{thrown_by, upset_group}
-use Rattle.insp_law.specs.Frames.{MayBe, at as may_at, by as may_by}
+use Rattle.insp_rules.specs.Program.{Class}
+use Rattle.insp_rules.specs.Skeleton.{Thing, place, begins, called, offered_at, upset, handed, thrown_at}
+use Rattle.insp_rules.specs.Frames.{Element, At, Pending, Broken, Group, group, new_group, kept, narrowed, refined, finished, all_end}
+use Rattle.insp_rules.specs.Frames.{thrown_by, upset_group}
+use Rattle.insp_rules.specs.Frames.{MayBe, at as may_at, by as may_by}
 use Rattle.insp_law.specs.Laws.{Answered, RightIsPath, IsRight, leads, broken as right_broken, MayBeLeft, ends, broken as left_broken}
-use Rattle.insp_law.proofs.Lists.{some_is, none_some}
+use Rattle.insp_rules.proofs.Lists.{some_is, none_some}
 use Rattle.insp_law.proofs.Fitting.{Is, at, pending, broken, Accords, KindOf}
 
 -- ---- one call more

@@ -3,14 +3,14 @@ use Rattle.std.proofs.Common.{◌≡◌, ◌≢◌, ◌⊎◌, inl, inr, ℕ, ze
 use Rattle.std.proofs.Common.{refl, sym, ap, ◌∙◌, subst, arith}
 use Rattle.std.specs.Prelude.{if◌then◌else◌}
 use Rattle.mg_text.specs.Call.{Name}
-use Rattle.insp_law.specs.Program.{Bare as BareOf, Other, Shape, pushed}
-use Rattle.insp_law.specs.Skeleton.{Value, Ref, Said, Thing, put}
-use Rattle.insp_law.specs.Frames.{Known, Bare, Answer, Group, Sight, forgets, forget_all, added}
-use Rattle.insp_law.specs.Reached.{Both, none, more, Stands, Renames}
-use Rattle.insp_law.specs.Reached as reached
+use Rattle.insp_rules.specs.Program.{Bare as BareOf, Other, Shape, pushed}
+use Rattle.insp_rules.specs.Skeleton.{Value, Ref, Said, Thing, put}
+use Rattle.insp_rules.specs.Frames.{Known, Bare, Answer, Group, Sight, forgets, forget_all, added}
+use Rattle.insp_rules.specs.Reached.{Both, none, more, Stands, Renames}
+use Rattle.insp_rules.specs.Reached as reached
 use Rattle.insp_law.specs.Laws.{Bears}
 use Rattle.insp_law.specs.Laws as laws
-use Rattle.insp_law.proofs.Lists.{some_is, none_some, both_map, Put, is, isnt, putting, put_same, put_other}
+use Rattle.insp_rules.proofs.Lists.{some_is, none_some, both_map, Put, is, isnt, putting, put_same, put_other}
 use Rattle.insp_law.proofs.Fitting.{Says, bare, object, answer, Accords, Kin, kin_kind, Fits, Sits, Fit, Had, fresh, or_none}
 
 pub both_over : {A B C : Type 0} (R : A → B → Type 0) (S : B → C → Type 0) (T : A → C → Type 0) →
@@ -224,7 +224,7 @@ renamed h obj held hold mark n f g t r fit = record {
     objs = λ a. obj (r.old a)
 
     or_more : (m a : ℕ) → (a < m) ⊎ (m ≤ a)
-    or_more m a = Rattle.insp_law.proofs.Lists.below_or_not a m
+    or_more m a = Rattle.insp_rules.proofs.Lists.below_or_not a m
 
     sits : (a : ℕ) (x : Group) → g.groups a ≡ Some x →
         (r.old a < held) × (obj (r.old a) ≡ hold (r.old a)) ⊎ (held ≤ r.old a) × (mark ≤ obj (r.old a)) → (a < held) ⊎ (held ≤ a) →

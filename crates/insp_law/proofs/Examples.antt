@@ -8,20 +8,20 @@ use Rattle.ts_tree.specs.declared.parts.To.{To}
 use Rattle.ts_tree.specs.declared.parts.To.TheVariants as tos
 use Rattle.ts_tree.specs.declared.parts.TypeName.TheVariants as types
 use Rattle.ts_tree.specs.Typestate.{One, ByAnswer, Method as Offer, Typestate}
-use Rattle.insp_law.specs.Program.{Class, Result, Void, Instruction, Make, Call, CallIn, CallOut, Keep, Return, Program, Method, code_at}
-use Rattle.insp_law.specs.Program.{Shape, shape, rest}
-use Rattle.insp_law.specs.Skeleton.{put, offered_at, fresh_of}
-use Rattle.insp_law.specs.Frames.{Known, unknown, Object, Answer, Element, At, Group, Sight, group, sight, known_among, has_group}
-use Rattle.insp_law.specs.Frames.{forget_all, is_it, added}
-use Rattle.insp_law.specs.Frames.{behind, leaves, Way, Holds, NoneOpen, MayBe, finished}
-use Rattle.insp_law.specs.Frames as frames
-use Rattle.insp_law.specs.Reached.{Context, IsRoot, Fact, Entered, Reached, Left, Found, Inspected, Numbering}
-use Rattle.insp_law.specs.Reached as reached
+use Rattle.insp_rules.specs.Program.{Class, Result, Void, Instruction, Make, Call, CallIn, CallOut, Keep, Return, Program, Method, code_at}
+use Rattle.insp_rules.specs.Program.{Shape, shape, rest}
+use Rattle.insp_rules.specs.Skeleton.{put, offered_at, fresh_of}
+use Rattle.insp_rules.specs.Frames.{Known, unknown, Object, Answer, Element, At, Group, Sight, group, sight, known_among, has_group}
+use Rattle.insp_rules.specs.Frames.{forget_all, is_it, added}
+use Rattle.insp_rules.specs.Frames.{behind, leaves, Way, Holds, NoneOpen, MayBe, finished}
+use Rattle.insp_rules.specs.Frames as frames
+use Rattle.insp_rules.specs.Reached.{Context, IsRoot, Fact, Entered, Reached, Left, Found, Inspected, Numbering}
+use Rattle.insp_rules.specs.Reached as reached
 use Rattle.insp_law.specs.Laws.{Example}
-use Rattle.insp_law.proofs.Lists.{some_is, none_some, putting, Put, is, isnt}
-use Rattle.insp_law.proofs.Numbers.{numbering}
-use Rattle.insp_law.specs.Numbers.{canonical, only_if, numbered_groups}
-use Rattle.insp_law.specs.Frames.{is_below}
+use Rattle.insp_rules.proofs.Lists.{some_is, none_some, putting, Put, is, isnt}
+use Rattle.insp_rules.proofs.Numbers.{numbering}
+use Rattle.insp_rules.specs.Numbers.{canonical, only_if, numbered_groups}
+use Rattle.insp_rules.specs.Frames.{is_below}
 
 abbrev done : Name
 done = 100 ∷ []
@@ -77,7 +77,7 @@ from_begin : (gs : ℕ → Option Group) → ((g : ℕ) → gs g ≡ None) → (
     Next 1 (added (frames.new_group false u) (shape [] []) (sight (shape [] []) gs 0))
 from_begin gs bare u q = subst (λ (u : Class). Next 1 (added (frames.new_group false u) (shape [] []) (sight (shape [] []) gs 0))) (sym q)
     (record {
-      stage = made (numbered_groups (0 ∷ []) (put 0 (Some first_group) gs)) 1 refl (λ g ne. ap (λ (b : Bool). only_if b (put 0 (Some first_group) gs (Rattle.insp_law.specs.Program.nth 0 (0 ∷ []) g))) (not_below g ne));
+      stage = made (numbered_groups (0 ∷ []) (put 0 (Some first_group) gs)) 1 refl (λ g ne. ap (λ (b : Bool). only_if b (put 0 (Some first_group) gs (Rattle.insp_rules.specs.Program.nth 0 (0 ∷ []) g))) (not_below g ne));
       kept = λ g x e over gone. kept g x e gone (putting 0 (Some first_group) gs g);
     })
   where
@@ -160,7 +160,7 @@ next at to f g i (made gs n first bare) e w =
         let k_is : k ≡ 0 = cc in
         let has_is : has ≡ Void = cc in
         let name_is : name ≡ done = cc in
-        let top : Object 0 ≡ Object g = ap (λ k. Rattle.insp_law.specs.Program.nth unknown (Object 0 ∷ []) k) (sym k_is) ∙ u in
+        let top : Object 0 ≡ Object g = ap (λ k. Rattle.insp_rules.specs.Program.nth unknown (Object 0 ∷ []) k) (sym k_is) ∙ u in
         let g_is : g ≡ 0 = cc in
         let x_is : x ≡ first_group = some_is (sym v ∙ ap gs g_is ∙ first) in
         let f_is : from ≡ tos.State 0 = from_is x.element from w (ap (λ (b : Group). b.element) x_is) in
@@ -175,7 +175,7 @@ next at to f g i (made gs n first bare) e w =
         let r : Call name k has ≡ Call done 0 Void = sym q in
         let k_is : k ≡ 0 = cc in
         let name_is : name ≡ done = cc in
-        let top : Object 0 ≡ Object g = ap (λ k. Rattle.insp_law.specs.Program.nth unknown (Object 0 ∷ []) k) (sym k_is) ∙ u in
+        let top : Object 0 ≡ Object g = ap (λ k. Rattle.insp_rules.specs.Program.nth unknown (Object 0 ∷ []) k) (sym k_is) ∙ u in
         let g_is : g ≡ 0 = cc in
         let x_is : x ≡ first_group = some_is (sym v ∙ ap gs g_is ∙ first) in
         let f_is : from ≡ tos.State 0 = from_is x.element from w (ap (λ (b : Group). b.element) x_is) in
@@ -214,9 +214,9 @@ no_call_in at f callee k words (called gs n bare) e = let z : Return 0 ≡ CallI
 at_root : (c : Context) (at : ℕ) (i : Instruction) → c ≡ root → code_at p c.method at ≡ Some i → code_at p 0 at ≡ Some i
 at_root c at i q e = ap (λ (d : Context). code_at p d.method at) (sym q) ∙ e
 
-no_handler : (c : Context) (at to : ℕ) → c ≡ root → Contains (Rattle.insp_law.specs.Program.handlers_at p c.method at) to → ⊥
+no_handler : (c : Context) (at to : ℕ) → c ≡ root → Contains (Rattle.insp_rules.specs.Program.handlers_at p c.method at) to → ⊥
 no_handler c at to q h =
-    nothing (subst (λ (d : Context). Contains (Rattle.insp_law.specs.Program.handlers_at p d.method at) to) q h)
+    nothing (subst (λ (d : Context). Contains (Rattle.insp_rules.specs.Program.handlers_at p d.method at) to) q h)
   where
     nothing : Contains {X = ℕ} [] to → ⊥
     nothing (k, less, e) = omega (arith, less)

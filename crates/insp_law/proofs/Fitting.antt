@@ -5,21 +5,21 @@ use Rattle.mg_text.specs.Call.{Name}
 use Rattle.ts_tree.specs.declared.parts.To.{To}
 use Rattle.ts_tree.specs.declared.parts.Branch.{Branch}
 use Rattle.ts_tree.specs.Calls.{by_label}
-use Rattle.insp_law.specs.Program.{Form, Itself, Ordinal, Mapped, Constants, Bare as BareOf, Other, Null, Lost, Alias, Instruction, Move}
-use Rattle.insp_law.specs.Program.{Load, Store}
-use Rattle.insp_law.specs.Program.{Forget, Cast, Index, TakeOrdinal, Go, Either, IfNull, IfSame, IfSign, IfNumbers, Switch, Make, Call}
-use Rattle.insp_law.specs.Program.{CallIn}
-use Rattle.insp_law.specs.Program as program
-use Rattle.insp_law.specs.Program.{CallOut, Keep, Return, Throw, Shape, nth, popped, pushed, straight}
-use Rattle.insp_law.specs.Skeleton.{Value, Plain, Nil, Ref, Said, Bit, Map, Constant, Again, is_loose, Thing, values, begins, place}
-use Rattle.insp_law.specs.Skeleton as skeleton
+use Rattle.insp_rules.specs.Program.{Form, Itself, Ordinal, Mapped, Constants, Bare as BareOf, Other, Null, Lost, Alias, Instruction, Move}
+use Rattle.insp_rules.specs.Program.{Load, Store}
+use Rattle.insp_rules.specs.Program.{Forget, Cast, Index, TakeOrdinal, Go, Either, IfNull, IfSame, IfSign, IfNumbers, Switch, Make, Call}
+use Rattle.insp_rules.specs.Program.{CallIn}
+use Rattle.insp_rules.specs.Program as program
+use Rattle.insp_rules.specs.Program.{CallOut, Keep, Return, Throw, Shape, nth, popped, pushed, straight}
+use Rattle.insp_rules.specs.Skeleton.{Value, Plain, Nil, Ref, Said, Bit, Map, Constant, Again, is_loose, Thing, values, begins, place}
+use Rattle.insp_rules.specs.Skeleton as skeleton
 use Rattle.insp_law.specs.Laws.{Bears}
 use Rattle.insp_law.specs.Laws as laws
-use Rattle.insp_law.specs.Frames.{Known, Bare, unknown, Object, Answer, Element, At, Pending, Broken, Group, Sight, knowns, cast}
-use Rattle.insp_law.specs.Frames as frames
-use Rattle.insp_law.specs.Frames.{has_group}
-use Rattle.insp_law.specs.Reached.{Both, more}
-use Rattle.insp_law.proofs.Lists.{some_is, none_some, both_nth, both_first, both_rest, both_placed, both_gives, Kits}
+use Rattle.insp_rules.specs.Frames.{Known, Bare, unknown, Object, Answer, Element, At, Pending, Broken, Group, Sight, knowns, cast}
+use Rattle.insp_rules.specs.Frames as frames
+use Rattle.insp_rules.specs.Frames.{has_group}
+use Rattle.insp_rules.specs.Reached.{Both, more}
+use Rattle.insp_rules.proofs.Lists.{some_is, none_some, both_nth, both_first, both_rest, both_placed, both_gives, Kits}
 
 -- what is known of a value, where `obj` tells the object of each group; of the stale ones it isn't known what they answered
 pub data Says (h : ℕ → Thing) (obj : ℕ → ℕ) (groups : ℕ → Option Group) (stale : ℕ → Bool) : Known → Value → Type 0 where

@@ -6,25 +6,28 @@ use Rattle.std.specs.Prelude.{◌==◌, if◌then◌else◌}
 use Rattle.std.specs.List.{AllByRecursion}
 use Rattle.std.proofs.lemmas.Bool.Decides.{eqb_tells}
 use Rattle.mg_text.specs.Call.{Name}
-use Rattle.insp_law.specs.Program.{Class, Result, Instruction, Call, CallIn, CallOut, Keep, Make, Return, Program, code_at, locals_at}
-use Rattle.insp_law.specs.Program.{Shape, nth, first, rest, shape}
-use Rattle.insp_law.specs.Program.{popped, pushed, begun}
-use Rattle.insp_law.specs.Skeleton.{Value, Plain, Nil, Bit, Map, Constant, Ref, Again, Said, returned, Thing, Frame, State, frame, state}
-use Rattle.insp_law.specs.Skeleton.{values, result, Step, among, has_it}
-use Rattle.insp_law.specs.Skeleton.{someone_has}
-use Rattle.insp_law.specs.Skeleton as skeleton
-use Rattle.insp_law.specs.Frames.{Known, unknown, Object, Group, Sight, known_among, has_group, Holds, CallHolds}
-use Rattle.insp_law.specs.Frames.{given_back, NoneFollowed, is_followed, finished}
-use Rattle.insp_law.specs.Reached.{Both, none, more, Context, Numbering, Inspected, Found, Reached, Left, Outcomes, New, Takes}
-use Rattle.insp_law.specs.Reached.{handed_over, resumed}
-use Rattle.insp_law.specs.Reached as reached
+use Rattle.insp_rules.specs.Program.{Class, Result, Instruction, Call, CallIn, CallOut, Keep, Make, Return, Program, code_at, locals_at}
+use Rattle.insp_rules.specs.Program.{Shape, nth, first, rest, shape}
+use Rattle.insp_rules.specs.Program.{popped, pushed, begun}
+use Rattle.insp_rules.specs.Skeleton.{Value, Plain, Nil, Bit, Map, Constant, Ref, Again, Said, returned, Thing, Frame, State, frame, state}
+use Rattle.insp_rules.specs.Skeleton.{values, result, Step, among, has_it}
+use Rattle.insp_rules.specs.Skeleton.{someone_has}
+use Rattle.insp_rules.specs.Skeleton as skeleton
+use Rattle.insp_rules.specs.Frames.{Known, unknown, Object, Group, Sight, known_among, has_group, Holds, CallHolds}
+use Rattle.insp_rules.specs.Frames.{given_back, NoneFollowed, is_followed, finished}
+use Rattle.insp_rules.specs.Reached.{Both, none, more, Context, Numbering, Inspected, Found, Reached, Left, Outcomes, New, Takes}
+use Rattle.insp_rules.specs.Reached.{handed_over, resumed}
+use Rattle.insp_rules.specs.Reached as reached
 use Rattle.insp_law.specs.Laws.{Begins, MayBeLeft, IsSafe, RunsAreSafe, Moves, Interrupts, GivesBack}
 use Rattle.insp_law.specs.Laws as laws
-use Rattle.insp_law.proofs.Lists.{some_is, both_first}
+use Rattle.insp_rules.proofs.Lists.{some_is, both_first}
 use Rattle.insp_law.proofs.Fitting.{Says, bare, others, object, answer, Fit, fresh, or_none, operand, Accords}
 use Rattle.insp_law.proofs.Calls.{may_be_left}
-use Rattle.insp_law.proofs.Steps.{Goes, moved, jumped, makes, makes_outside, calls_made, goes_outside, keeps, tells, calls}
-use Rattle.insp_law.proofs.Among.{among_same, has_same, has_known, Tells}
+use Rattle.insp_law.proofs.Steps.{Goes, moved, makes, makes_outside, goes_outside, keeps}
+use Rattle.insp_law.proofs.Jumping.{jumped}
+use Rattle.insp_law.proofs.Calling.{tells, calls, calls_made}
+use Rattle.insp_rules.proofs.Backs.{Tells}
+use Rattle.insp_law.proofs.Among.{among_same, has_same, has_known}
 use Rattle.insp_law.proofs.Standing.{Below, bottom, waits, interrupted, Inv, over, runs}
 use Rattle.insp_law.proofs.Returning.{Comes, gives, SomeOutcome, some_outcome, given_outcome}
 use Rattle.insp_law.proofs.Whole.{runs_keep, all_right}

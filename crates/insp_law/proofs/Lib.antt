@@ -1,13 +1,14 @@
-pub mod Lists
 pub mod Fitting
 pub mod Carrying
 pub mod Calls
 pub mod Steps
+pub mod Telling
+pub mod Jumping
+pub mod Calling
 pub mod Among
 pub mod Standing
 pub mod Returning
 pub mod Throwing
 pub mod Whole
 pub mod Leaving
-pub mod Numbers
 pub mod Examples

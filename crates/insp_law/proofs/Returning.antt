@@ -2,22 +2,23 @@
 use Rattle.std.proofs.Common.{◌≡◌, ◌≢◌, ◌⊎◌, inl, inr, ℕ, zero, suc, ◌<◌, ◌≤◌, true, false, true≢false, List, ◌∷◌, Option, Some, None}
 use Rattle.std.proofs.Common.{refl, sym, ap, ◌∙◌, subst, arith}
 use Rattle.mg_text.specs.Call.{Name}
-use Rattle.insp_law.specs.Program.{Itself, Ordinal, Mapped, Bare as BareOf, Other, CallIn, Return}
-use Rattle.insp_law.specs.Program.{Program, code_at, Shape, nth, first, rest, filled, shape, popped}
-use Rattle.insp_law.specs.Skeleton.{Value, Plain, Thing, Frame, frame, state, values, result, returned, put}
-use Rattle.insp_law.specs.Frames.{Known, Bare, unknown, knowns, Object, Answer, Group, Sight, sight, known_among, forget_all, given_back}
-use Rattle.insp_law.specs.Reached.{Both, none, more, Stands, Context, Numbering, Takes, Renames, Outcome, Plainly, Held, Told, New, Exit}
-use Rattle.insp_law.specs.Reached.{kept_plain}
-use Rattle.insp_law.specs.Reached.{Outcomes, is_itself, back, by_exit, groups_behind, handed_over, resumed, Found}
-use Rattle.insp_law.specs.Reached as reached
+use Rattle.insp_rules.specs.Program.{Itself, Ordinal, Mapped, Bare as BareOf, Other, CallIn, Return}
+use Rattle.insp_rules.specs.Program.{Program, code_at, Shape, nth, first, rest, filled, shape, popped}
+use Rattle.insp_rules.specs.Skeleton.{Value, Plain, Thing, Frame, frame, state, values, result, returned, put}
+use Rattle.insp_rules.specs.Frames.{Known, Bare, unknown, knowns, Object, Answer, Group, Sight, sight, known_among, forget_all, given_back}
+use Rattle.insp_rules.specs.Reached.{Both, none, more, Stands, Context, Numbering, Takes, Renames, Outcome, Plainly, Held, Told, New, Exit}
+use Rattle.insp_rules.specs.Reached.{kept_plain}
+use Rattle.insp_rules.specs.Reached.{Outcomes, is_itself, back, by_exit, groups_behind, handed_over, resumed, Found}
+use Rattle.insp_rules.specs.Reached as reached
 use Rattle.insp_law.specs.Laws.{Bears}
 use Rattle.insp_law.specs.Laws as laws
-use Rattle.insp_law.proofs.Lists.{some_is, none_some, both_filled, both_rest, put_other}
+use Rattle.insp_rules.proofs.Lists.{some_is, none_some, both_filled, both_rest, put_other}
 use Rattle.insp_law.proofs.Fitting.{Says, bare, others, object, answer, Accords, Fits, Fit, fresh, or_none}
 use Rattle.insp_law.proofs.Fitting.{operand}
 use Rattle.insp_law.proofs.Carrying.{Carries, forgetting_all, add_fit}
 use Rattle.insp_law.proofs.Steps.{AllRight, regroup}
-use Rattle.insp_law.proofs.Among.{argument_held, Back, found, missing, backs}
+use Rattle.insp_rules.proofs.Backs.{Back, found, missing, backs}
+use Rattle.insp_law.proofs.Among.{argument_held}
 use Rattle.insp_law.proofs.Standing.{Below, waits, interrupted, Inv, runs_tidy}
 
 -- the frame that waited, and what it handed over
@@ -230,12 +231,12 @@ pub outcome_of : (held : ℕ) (h : ℕ → Thing) (obj : ℕ → ℕ) (gs : ℕ 
 outcome_of held h obj gs a v (bare {b = b} r) = some_outcome (Plainly (kept_plain b)) reached.bare
 outcome_of held h obj gs a v (answer {form = Ordinal c} x e i) = some_outcome (Plainly Other) (reached.answer_form refl)
 outcome_of held h obj gs a v (answer {form = Mapped m c} x e i) = some_outcome (Plainly Other) (reached.answer_form refl)
-outcome_of held h obj gs a v (answer {g = g} {form = Itself kind} x e i) = go (Rattle.insp_law.proofs.Lists.below_or_not g held)
+outcome_of held h obj gs a v (answer {g = g} {form = Itself kind} x e i) = go (Rattle.insp_rules.proofs.Lists.below_or_not g held)
   where
     go : (g < held) ⊎ (held ≤ g) → SomeOutcome held gs (Answer g (Itself kind))
     go (inl less) = some_outcome (Told g kind) (reached.answer_held less)
     go (inr over) = some_outcome (Plainly Other) (reached.answer_own over)
-outcome_of held h obj gs a v (object {g = g} x e i) = go (Rattle.insp_law.proofs.Lists.below_or_not g held)
+outcome_of held h obj gs a v (object {g = g} x e i) = go (Rattle.insp_rules.proofs.Lists.below_or_not g held)
   where
     go : (g < held) ⊎ (held ≤ g) → SomeOutcome held gs (Object g)
     go (inl less) = some_outcome (Held g) (reached.held_one less)

@@ -1,17 +1,17 @@
 -- What holds at each moment of a run, and that each step keeps it.
 use Rattle.std.proofs.Common.{◌≡◌, ◌⊎◌, inl, inr, ℕ, ◌<◌, ◌≤◌, true, List, [], ◌∷◌, Contains, Option, Some}
 use Rattle.std.proofs.Common.{refl, sym, ap, ◌∙◌, subst, arith}
-use Rattle.insp_law.specs.Program.{Instruction, CallIn, Program, code_at, locals_at, Shape, first}
-use Rattle.insp_law.specs.Program.{filled, turned, begun}
-use Rattle.insp_law.specs.Skeleton.{Value, Plain, Thing, Frame, State, frame, state, values}
-use Rattle.insp_law.specs.Skeleton.{IsNoCallIn}
-use Rattle.insp_law.specs.Frames.{Known, unknown, Group, Sight, known_among}
-use Rattle.insp_law.specs.Reached.{Both, none, Stands, Context, Numbering, Takes, Renames}
-use Rattle.insp_law.specs.Reached.{handed_over, Reached, Found, entry}
-use Rattle.insp_law.specs.Reached.{IsRoot}
+use Rattle.insp_rules.specs.Program.{Instruction, CallIn, Program, code_at, locals_at, Shape, first}
+use Rattle.insp_rules.specs.Program.{filled, turned, begun}
+use Rattle.insp_rules.specs.Skeleton.{Value, Plain, Thing, Frame, State, frame, state, values}
+use Rattle.insp_rules.specs.Skeleton.{IsNoCallIn}
+use Rattle.insp_rules.specs.Frames.{Known, unknown, Group, Sight, known_among}
+use Rattle.insp_rules.specs.Reached.{Both, none, Stands, Context, Numbering, Takes, Renames}
+use Rattle.insp_rules.specs.Reached.{handed_over, Reached, Found, entry}
+use Rattle.insp_rules.specs.Reached.{IsRoot}
 use Rattle.insp_law.specs.Laws.{IsRight, Unheld, Interrupts}
 use Rattle.insp_law.specs.Laws as laws
-use Rattle.insp_law.proofs.Lists.{some_is, none_some, both_map, both_first, both_filled, both_turned}
+use Rattle.insp_rules.proofs.Lists.{some_is, none_some, both_map, both_first, both_filled, both_turned}
 use Rattle.insp_law.proofs.Fitting.{Says, bare, others, Kin, kin, Fit, Had, fresh, or_none}
 use Rattle.insp_law.proofs.Carrying.{both_over, carried_fits, heap_fit, renamed, stood}
 use Rattle.insp_law.proofs.Steps.{AllRight, Goes}

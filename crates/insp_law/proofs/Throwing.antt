@@ -5,15 +5,15 @@ use Rattle.std.proofs.Common.{refl, sym, ap, ◌∙◌, subst, arith}
 use Rattle.std.specs.Prelude.{◌==◌, if◌then◌else◌}
 use Rattle.std.proofs.lemmas.Bool.Decides.{eqb_tells}
 use Rattle.mg_text.specs.Call.{Name}
-use Rattle.insp_law.specs.Program.{Result, Call, CallIn, Program, code_at, handlers_at, Shape, nth, first, caught}
-use Rattle.insp_law.specs.Skeleton.{Value, Thing, Frame, State, frame, state, values, put, upset, upset_all, among, Unwinds, out}
-use Rattle.insp_law.specs.Skeleton.{caught_in, passes, stops}
-use Rattle.insp_law.specs.Frames.{Known, unknown, Object, Group, Sight, known_among, upset_group}
-use Rattle.insp_law.specs.Reached.{Both, none, more, Context, Numbering, Takes, Renames, handed_over, upset_if, caught_before}
-use Rattle.insp_law.specs.Reached.{caught_upon, Found}
-use Rattle.insp_law.specs.Reached as reached
+use Rattle.insp_rules.specs.Program.{Result, Call, CallIn, Program, code_at, handlers_at, Shape, nth, first, caught}
+use Rattle.insp_rules.specs.Skeleton.{Value, Thing, Frame, State, frame, state, values, put, upset, upset_all, among, Unwinds, out}
+use Rattle.insp_rules.specs.Skeleton.{caught_in, passes, stops}
+use Rattle.insp_rules.specs.Frames.{Known, unknown, Object, Group, Sight, known_among, upset_group}
+use Rattle.insp_rules.specs.Reached.{Both, none, more, Context, Numbering, Takes, Renames, handed_over, upset_if, caught_before}
+use Rattle.insp_rules.specs.Reached.{caught_upon, Found}
+use Rattle.insp_rules.specs.Reached as reached
 use Rattle.insp_law.specs.Laws.{IsRight}
-use Rattle.insp_law.proofs.Lists.{some_is, none_some, both_first, Put, is, isnt, putting, put_same, put_other}
+use Rattle.insp_rules.proofs.Lists.{some_is, none_some, both_first, Put, is, isnt, putting, put_same, put_other}
 use Rattle.insp_law.proofs.Fitting.{Says, others, Accords, Kin, kin, Fit, fresh}
 use Rattle.insp_law.proofs.Carrying.{forgetting_all, renamed}
 use Rattle.insp_law.proofs.Calls.{upset_is, IsGood, upset_good}
@@ -233,7 +233,7 @@ module _ (p : Program) (numbering : Numbering) (roots : List Context) where
 
         isnt_it : (a : ℕ) → known_among a (Object g ∷ []) ≡ false → a ≢ g
         isnt_it a e q =
-            true≢false (sym (ap (λ (b : Bool). if b then true else false) (ap (λ c. g == c) q ∙ Rattle.insp_law.proofs.Lists.is_same g)) ∙ e)
+            true≢false (sym (ap (λ (b : Bool). if b then true else false) (ap (λ c. g == c) q ∙ Rattle.insp_rules.proofs.Lists.is_same g)) ∙ e)
 
         fits : Fit (put o (upset (h o)) h) obj fresh c.held hold mark n (caught_upon (Object g ∷ []) f) (caught values t)
         fits = caught_fit h (put o (upset (h o)) h) obj fresh c.held hold mark n n f t (Object g ∷ []) fit (omega arith)

@@ -1,18 +1,20 @@
 -- What holds at each moment of a run.
 use Rattle.std.proofs.Common.{[], ◌∷◌, ◌≡◌, inl, inr, ℕ, suc, ◌<◌, Bool, true, true≢false, List, Option, Some, None}
 use Rattle.std.proofs.Common.{refl, sym, ap, ◌∙◌, subst, arith}
-use Rattle.insp_law.specs.Program.{Bare as BareOf, Call, CallOut, Keep, Make, Return, Program, code_at, nth, rest, shape}
-use Rattle.insp_law.specs.Program.{popped, pushed, begun, locals_at}
-use Rattle.insp_law.specs.Skeleton.{Value, Plain, Nil, Ref, Said, Thing, Frame, State, frame, state, values, result, Step, Throws, among}
-use Rattle.insp_law.specs.Skeleton.{has_it}
-use Rattle.insp_law.specs.Skeleton.{someone_has}
-use Rattle.insp_law.specs.Skeleton as skeleton
-use Rattle.insp_law.specs.Frames.{Known, unknown, Object, Group}
-use Rattle.insp_law.specs.Reached.{Context, Numbering, Inspected, Found, entry}
+use Rattle.insp_rules.specs.Program.{Bare as BareOf, Call, CallOut, Keep, Make, Return, Program, code_at, nth, rest, shape}
+use Rattle.insp_rules.specs.Program.{popped, pushed, begun, locals_at}
+use Rattle.insp_rules.specs.Skeleton.{Value, Plain, Nil, Ref, Said, Thing, Frame, State, frame, state, values, result, Step, Throws, among}
+use Rattle.insp_rules.specs.Skeleton.{has_it}
+use Rattle.insp_rules.specs.Skeleton.{someone_has}
+use Rattle.insp_rules.specs.Skeleton as skeleton
+use Rattle.insp_rules.specs.Frames.{Known, unknown, Object, Group}
+use Rattle.insp_rules.specs.Reached.{Context, Numbering, Inspected, Found, entry}
 use Rattle.insp_law.specs.Laws.{Begins, IsRight, MayBeLeft, IsSafe, RunsAreSafe, Runs}
 use Rattle.insp_law.specs.Laws as laws
 use Rattle.insp_law.proofs.Fitting.{Says, bare, object, answer, fresh, operand}
-use Rattle.insp_law.proofs.Steps.{moved, jumped, makes, makes_outside, calls_made, goes_outside, keeps, tells, calls}
+use Rattle.insp_law.proofs.Steps.{moved, makes, makes_outside, goes_outside, keeps}
+use Rattle.insp_law.proofs.Jumping.{jumped}
+use Rattle.insp_law.proofs.Calling.{tells, calls, calls_made}
 use Rattle.insp_law.proofs.Standing.{bottom, Inv, over, runs, runs_tidy, goes, enters, root_fit, interrupts_keep}
 use Rattle.insp_law.proofs.Returning.{come_back}
 use Rattle.insp_law.proofs.Throwing.{unwinds, caught_here, caught_amid}

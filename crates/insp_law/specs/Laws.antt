@@ -9,15 +9,15 @@ use Rattle.ts_tree.specs.Proper.{IsOffered}
 use Rattle.ts_tree.specs.declared.parts.To.{To}
 use Rattle.ts_tree.specs.Typestate.{ByAnswer, Method as Offer, Typestate}
 use Rattle.ts_tree.specs.Calls.{may_end, Path}
-use Rattle.insp_law.specs.Program.{Class, Bare as BareOf, Other, Null, Lost, Alias}
-use Rattle.insp_law.specs.Program as program
-use Rattle.insp_law.specs.Program.{Result, Void, Instruction, Make, Call, CallOut, Keep, Return, Program, code_at, Shape, nth, first}
-use Rattle.insp_law.specs.Program.{locals_at, begun}
-use Rattle.insp_law.specs.Skeleton.{Value, Plain, Nil, Bit, Map, Constant, Ref, Again, is_loose, is_followed, Thing, Frame, State, frame}
-use Rattle.insp_law.specs.Skeleton.{state, values, result, begins, place, someone_has}
-use Rattle.insp_law.specs.Skeleton.{Step, Throws, IsNoCallIn}
-use Rattle.insp_law.specs.Frames.{Known, Bare}
-use Rattle.insp_law.specs.Reached.{Both, Context, Numbering, Inspected, IsRoot}
+use Rattle.insp_rules.specs.Program.{Class, Bare as BareOf, Other, Null, Lost, Alias}
+use Rattle.insp_rules.specs.Program as program
+use Rattle.insp_rules.specs.Program.{Result, Void, Instruction, Make, Call, CallOut, Keep, Return, Program, code_at, Shape, nth, first}
+use Rattle.insp_rules.specs.Program.{locals_at, begun}
+use Rattle.insp_rules.specs.Skeleton.{Value, Plain, Nil, Bit, Map, Constant, Ref, Again, is_loose, is_followed, Thing, Frame, State, frame}
+use Rattle.insp_rules.specs.Skeleton.{state, values, result, begins, place, someone_has}
+use Rattle.insp_rules.specs.Skeleton.{Step, Throws, IsNoCallIn}
+use Rattle.insp_rules.specs.Frames.{Known, Bare}
+use Rattle.insp_rules.specs.Reached.{Both, Context, Numbering, Inspected, IsRoot}
 
 -- what a value may be of which this is known
 pub data Bears : BareOf → Value → Type 0 where

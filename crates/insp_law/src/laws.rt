@@ -1,18 +1,12 @@
 //! The law of runs; there is no running code here.
 
 ghost use Rattle.insp_law.specs.Laws.{Example, RightIsPath, RunsAreSafe};
-ghost use Rattle.insp_law.specs.Numbers.{CanonicalNumbers};
 
 /// Where no demand fails in a reached frame, then in every run the calls of each object are a path of its typestate up
 /// to the first throw that came upon it and from `thrown` behind that, calls of protocols are on objects, no object is
 /// handed out, and one that no frame has behind a step may be left.
 pub fn runs_are_safe()
     ensures { RunsAreSafe }
-{}
-
-/// Numbering groups by the first place that has them is a way to number them.
-pub fn groups_are_numbered()
-    ensures { CanonicalNumbers }
 {}
 
 /// The calls of an object that no throw came upon are a path of its typestate.

@@ -8,15 +8,15 @@ use Rattle.ts_tree.specs.declared.parts.To.{To}
 use Rattle.ts_tree.specs.declared.parts.Branch.{Branch}
 use Rattle.ts_tree.specs.Typestate.{One, ByAnswer, Method as Offer, Typestate}
 use Rattle.ts_tree.specs.Calls.{initial, by_label, may_end}
-use Rattle.insp_law.specs.Program.{Class, Kind, Truth, Constants, Form, Itself, Ordinal, Mapped, Bare as BareOf, Other, Bit, Null, Lost}
-use Rattle.insp_law.specs.Program.{Alias, Map}
-use Rattle.insp_law.specs.Program.{Constant, Result, Void, Words, Boolean, Of, related, Comparison, Arm, Instruction, Go, Either, IfNull}
-use Rattle.insp_law.specs.Program.{IfSame}
-use Rattle.insp_law.specs.Program.{IfSign, IfNumbers, Switch, Make, Call, CallOut, Keep, Return, Program, number_of, arm_of, goes_for}
-use Rattle.insp_law.specs.Program.{compares}
-use Rattle.insp_law.specs.Program.{is_zero_by, agree, Shape, Kit, nth, first, rest, filled, shape, popped, pushed, straight, way}
-use Rattle.insp_law.specs.Program as program
-use Rattle.insp_law.specs.Skeleton.{put, thrown_at, offered_at, fresh_of, Tells, both, listed}
+use Rattle.insp_rules.specs.Program.{Class, Kind, Truth, Constants, Form, Itself, Ordinal, Mapped, Bare as BareOf, Other, Bit, Null, Lost}
+use Rattle.insp_rules.specs.Program.{Alias, Map}
+use Rattle.insp_rules.specs.Program.{Constant, Result, Void, Words, Boolean, Of, related, Comparison, Arm, Instruction, Go, Either, IfNull}
+use Rattle.insp_rules.specs.Program.{IfSame}
+use Rattle.insp_rules.specs.Program.{IfSign, IfNumbers, Switch, Make, Call, CallOut, Keep, Return, Program, number_of, arm_of, goes_for}
+use Rattle.insp_rules.specs.Program.{compares}
+use Rattle.insp_rules.specs.Program.{is_zero_by, agree, Shape, Kit, nth, first, rest, filled, shape, popped, pushed, straight, way}
+use Rattle.insp_rules.specs.Program as program
+use Rattle.insp_rules.specs.Skeleton.{put, thrown_at, offered_at, fresh_of, Tells, both, listed}
 
 -- what is known of a value: it has nothing to do with an object that is followed; it is the object of this group; it is what the last call
 -- on that object answered, in this form

@@ -1,10 +1,10 @@
 -- How groups are numbered: by the first place that has them, the held ones before.
 use Rattle.std.specs.Prelude.{◌≡◌, ℕ, zero, suc, ◌==◌, Bool, true, false, List, [], ◌∷◌, Option, None, if◌then◌else◌, is_some}
-use Rattle.insp_law.specs.Program.{nth, shape}
-use Rattle.insp_law.specs.Frames.{Known, Bare, Object, Answer, Group, Sight, sight, is_below}
-use Rattle.insp_law.specs.Skeleton.{listed}
-use Rattle.insp_law.specs.Program.{Bare as BareOf, Other, Bit, Map, Constant}
-use Rattle.insp_law.specs.Reached.{Context, Numbering, back}
+use Rattle.insp_rules.specs.Program.{nth, shape}
+use Rattle.insp_rules.specs.Frames.{Known, Bare, Object, Answer, Group, Sight, sight, is_below}
+use Rattle.insp_rules.specs.Skeleton.{listed}
+use Rattle.insp_rules.specs.Program.{Bare as BareOf, Other, Bit, Map, Constant}
+use Rattle.insp_rules.specs.Reached.{Context, Numbering, back}
 
 abbrev pub size : List ℕ → ℕ
 size [] = zero

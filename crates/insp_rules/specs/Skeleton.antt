@@ -7,13 +7,13 @@ use Rattle.ts_tree.specs.declared.parts.To.{To}
 use Rattle.ts_tree.specs.declared.parts.To.TheVariants as tos
 use Rattle.ts_tree.specs.Typestate.{Target, One, ByAnswer, Method as Offer, State as StateOf, Typestate}
 use Rattle.ts_tree.specs.Calls.{initial, by_label, offered, led}
-use Rattle.insp_law.specs.Program.{Class, Kind, Truth, Constants, Form, Itself, Ordinal, Mapped, Bare, Result, Void, Words, Boolean, Of}
-use Rattle.insp_law.specs.Program.{related, Comparison, Arm, Instruction, Go, Either, IfNull, IfSame, IfSign, IfNumbers, Switch, Make}
-use Rattle.insp_law.specs.Program.{Call, CallIn, CallOut, Keep, Return, Program, code_at, number_of, goes_for, compares, is_zero_by}
-use Rattle.insp_law.specs.Program.{agree, unknown}
-use Rattle.insp_law.specs.Program.{handlers_at, locals_at, Shape, Kit, nth, first, rest, filled, shape, popped, pushed, straight, way}
-use Rattle.insp_law.specs.Program.{caught, begun}
-use Rattle.insp_law.specs.Program as program
+use Rattle.insp_rules.specs.Program.{Class, Kind, Truth, Constants, Form, Itself, Ordinal, Mapped, Bare, Result, Void, Words, Boolean, Of}
+use Rattle.insp_rules.specs.Program.{related, Comparison, Arm, Instruction, Go, Either, IfNull, IfSame, IfSign, IfNumbers, Switch, Make}
+use Rattle.insp_rules.specs.Program.{Call, CallIn, CallOut, Keep, Return, Program, code_at, number_of, goes_for, compares, is_zero_by}
+use Rattle.insp_rules.specs.Program.{agree, unknown}
+use Rattle.insp_rules.specs.Program.{handlers_at, locals_at, Shape, Kit, nth, first, rest, filled, shape, popped, pushed, straight, way}
+use Rattle.insp_rules.specs.Program.{caught, begun}
+use Rattle.insp_rules.specs.Program as program
 
 -- something that isn't followed and of which nothing is known, null, one of the numbers 0 and 1, a switch map, a constant of a class, an
 -- object, an object once more, as its own method gave it back, and an answer

@@ -3,11 +3,11 @@ use Rattle.std.proofs.Common.{◌≡◌, ◌≢◌, ◌⊎◌, inl, inr, ℕ, ze
 use Rattle.std.proofs.Common.{refl, sym, ap, ◌∙◌, arith}
 use Rattle.std.specs.Prelude.{◌==◌, if◌then◌else◌}
 use Rattle.std.proofs.lemmas.Bool.Decides.{eqb_tells}
-use Rattle.insp_law.specs.Program.{Give, From, Just, Bare as BareOf, Other, Kit, unknown, nth, first, rest, placed, filled, turned}
-use Rattle.insp_law.specs.Program.{given, gives}
-use Rattle.insp_law.specs.Skeleton.{put}
-use Rattle.insp_law.specs.Frames.{is_below}
-use Rattle.insp_law.specs.Reached.{Both, none, more}
+use Rattle.insp_rules.specs.Program.{Give, From, Just, Bare as BareOf, Other, Kit, unknown, nth, first, rest, placed, filled, turned}
+use Rattle.insp_rules.specs.Program.{given, gives}
+use Rattle.insp_rules.specs.Skeleton.{put}
+use Rattle.insp_rules.specs.Frames.{is_below}
+use Rattle.insp_rules.specs.Reached.{Both, none, more}
 
 pub some_is : {A : Type 0} {a b : A} → Some a ≡ Some b → a ≡ b
 some_is e = cc

@@ -2,13 +2,13 @@
 use Rattle.std.specs.Prelude.{◌≡◌, ℕ, zero, suc, ◌<◌, ◌≤◌, ◌==◌, Bool, true, false, List, [], ◌∷◌, Contains, Option, Some, None}
 use Rattle.std.specs.Prelude.{if◌then◌else◌}
 use Rattle.mg_text.specs.Call.{Name}
-use Rattle.insp_law.specs.Program.{Kind, Form, Itself, Ordinal, Mapped, Bare as BareOf, Other, Bit, Null, Lost, Alias, Map, Constant}
-use Rattle.insp_law.specs.Program.{Result, Instruction, Call, CallIn, Return, Program, code_at, handlers_at, locals_at, Shape, nth}
-use Rattle.insp_law.specs.Program.{first, rest, shape}
-use Rattle.insp_law.specs.Program.{caught, begun}
-use Rattle.insp_law.specs.Skeleton.{returned}
-use Rattle.insp_law.specs.Frames.{Known, Bare, Object, Answer, Group, Sight, sight, knowns, upset_group}
-use Rattle.insp_law.specs.Frames.{unknown, known_among, has_group, forget_all, added, Way, Holds, given_back, NoneOpen}
+use Rattle.insp_rules.specs.Program.{Kind, Form, Itself, Ordinal, Mapped, Bare as BareOf, Other, Bit, Null, Lost, Alias, Map, Constant}
+use Rattle.insp_rules.specs.Program.{Result, Instruction, Call, CallIn, Return, Program, code_at, handlers_at, locals_at, Shape, nth}
+use Rattle.insp_rules.specs.Program.{first, rest, shape}
+use Rattle.insp_rules.specs.Program.{caught, begun}
+use Rattle.insp_rules.specs.Skeleton.{returned}
+use Rattle.insp_rules.specs.Frames.{Known, Bare, Object, Answer, Group, Sight, sight, knowns, upset_group}
+use Rattle.insp_rules.specs.Frames.{unknown, known_among, has_group, forget_all, added, Way, Holds, given_back, NoneOpen}
 
 -- each of the one list with each of the other
 pub data Both {A B : Type 0} (R : A → B → Type 0) : List A → List B → Type 0 where

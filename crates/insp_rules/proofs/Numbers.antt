@@ -3,17 +3,17 @@ use Rattle.std.proofs.Common.{◌≡◌, ◌⊎◌, inl, inr, ℕ, zero, suc, �
 use Rattle.std.proofs.Common.{refl, sym, ap, ◌∙◌, subst, arith, is_some}
 use Rattle.std.specs.Prelude.{◌==◌, if◌then◌else◌}
 use Rattle.std.proofs.lemmas.Bool.Decides.{eqb_tells}
-use Rattle.insp_law.specs.Program.{Form, Bare as BareOf, Other, Bit, Null, Lost, Alias, Map, Constant, nth}
-use Rattle.insp_law.specs.Frames.{Known, Bare, Object, Answer, Group, Sight, known_among, has_group}
-use Rattle.insp_law.specs.Reached.{Both, none, more, Stands, Context, Renames, Takes, Numbering, IsWhole, back}
-use Rattle.insp_law.specs.Reached as reached
-use Rattle.insp_law.specs.Skeleton.{listed}
-use Rattle.insp_law.specs.Frames.{is_below}
-use Rattle.insp_law.specs.Numbers.{size, snoc, put_in, gather, up_to, spot, only_if, numbered_groups, number_all, coarse, order, is_bit}
-use Rattle.insp_law.specs.Numbers.{is_local, has_object, drops_in}
-use Rattle.insp_law.specs.Numbers.{tells, canonical, context_of, CanonicalNumbers}
-use Rattle.insp_law.proofs.Lists.{none_some, is_same, below_or_not, below_is, is_below_is}
-use Rattle.insp_law.proofs.Among.{Back, found, missing, backs, Tells}
+use Rattle.insp_rules.specs.Program.{Form, Bare as BareOf, Other, Bit, Null, Lost, Alias, Map, Constant, nth}
+use Rattle.insp_rules.specs.Frames.{Known, Bare, Object, Answer, Group, Sight, known_among, has_group}
+use Rattle.insp_rules.specs.Reached.{Both, none, more, Stands, Context, Renames, Takes, Numbering, IsWhole, back}
+use Rattle.insp_rules.specs.Reached as reached
+use Rattle.insp_rules.specs.Skeleton.{listed}
+use Rattle.insp_rules.specs.Frames.{is_below}
+use Rattle.insp_rules.specs.Numbers.{size, snoc, put_in, gather, up_to, spot, only_if, numbered_groups, number_all, coarse, order, is_bit}
+use Rattle.insp_rules.specs.Numbers.{is_local, has_object, drops_in}
+use Rattle.insp_rules.specs.Numbers.{tells, canonical, context_of, CanonicalNumbers}
+use Rattle.insp_rules.proofs.Lists.{none_some, is_same, below_or_not, below_is, is_below_is}
+use Rattle.insp_rules.proofs.Backs.{Tells}
 
 either : (a b : Bool) → (if a then true else b) ≡ true → (a ≡ true) ⊎ (b ≡ true)
 either true b e = inl refl
