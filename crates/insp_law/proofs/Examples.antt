@@ -8,7 +8,7 @@ use Rattle.ts_tree.specs.declared.parts.To.{To}
 use Rattle.ts_tree.specs.declared.parts.To.TheVariants as tos
 use Rattle.ts_tree.specs.declared.parts.TypeName.TheVariants as types
 use Rattle.ts_tree.specs.Typestate.{One, ByAnswer, Method as Offer, Typestate}
-use Rattle.insp_rules.specs.Program.{Class, Result, Void, Instruction, Make, Call, CallIn, CallOut, Keep, Return, Program, Method, code_at}
+use Rattle.insp_rules.specs.Program.{Class, Result, Void, Instruction, Make, Call, CallIn, CallOut, Keep, Return, Throw, Program, Method, code_at}
 use Rattle.insp_rules.specs.Program.{Shape, shape, rest}
 use Rattle.insp_rules.specs.Skeleton.{put, offered_at, fresh_of}
 use Rattle.insp_rules.specs.Frames.{Known, unknown, Object, Answer, Element, At, Group, Sight, group, sight, known_among, has_group}
@@ -235,7 +235,7 @@ good (reached.enters {c = c} {at = at} {f = f} method k words r e) = let z = goo
 good (reached.leaves words r e o) = tt
 good (reached.returns {c = c} {at = at} {f = f} method k words r e l takes) =
     let z = good r in absurd (no_call_in at f method k words z.1 (at_root c at (CallIn method k words) z.0 e))
-good (reached.throws {c = c} {at = at} to r h) = let z = good r in absurd (no_handler c at to z.0 h)
+good (reached.throws {c = c} {at = at} to i r h e leaves) = let z = good r in absurd (no_handler c at to z.0 h)
 good (reached.throws_amid {c = c} {at = at} to name k has g r h e q) = let z = good r in absurd (no_handler c at to z.0 h)
 good (reached.throws_through {c = c} {at = at} to method k words r h e) = let z = good r in absurd (no_handler c at to z.0 h)
 
@@ -244,6 +244,7 @@ holds at f i (begins gs bare) e = record {
   calls = λ name k has q. absurd (two i (Make c) (Call name k has) (sym (some_is e)) q (λ z. cc));
   hands = λ k u q. absurd (two i (Make c) (CallOut k u) (sym (some_is e)) q (λ z. cc));
   keeps = λ k q. absurd (two i (Make c) (Keep k) (sym (some_is e)) q (λ z. cc));
+  throws = λ q. absurd (two i (Make c) Throw (sym (some_is e)) q (λ z. cc));
   open_behind = λ to after w. (next 0 to (sight (shape [] []) gs 0) after i (begins gs bare) e w).kept;
   returns = λ words q g x l over gone. none_some (sym (bare g) ∙ l);
 }
@@ -254,6 +255,7 @@ holds at f i (made gs n first bare) e = record {
       (subst (λ b. frames.CallHolds done b (sight (shape [] (Object 0 ∷ [])) gs n)) (let d : 0 ≡ k = cc in d) call));
   hands = λ k u q. absurd (two i (Call done 0 Void) (CallOut k u) (sym (some_is e)) q (λ z. cc));
   keeps = λ k q. absurd (two i (Call done 0 Void) (Keep k) (sym (some_is e)) q (λ z. cc));
+  throws = λ q. absurd (two i (Call done 0 Void) Throw (sym (some_is e)) q (λ z. cc));
   open_behind = λ to after w. (next 1 to (sight (shape [] (Object 0 ∷ [])) gs n) after i (made gs n first bare) e w).kept;
   returns = λ words q. absurd (two i (Call done 0 Void) (Return words) (sym (some_is e)) q (λ z. cc));
 }
@@ -267,6 +269,7 @@ holds at f i (called gs n bare) e = record {
   calls = λ name k has q. absurd (two i (Return 0) (Call name k has) (sym (some_is e)) q (λ z. cc));
   hands = λ k u q. absurd (two i (Return 0) (CallOut k u) (sym (some_is e)) q (λ z. cc));
   keeps = λ k q. absurd (two i (Return 0) (Keep k) (sym (some_is e)) q (λ z. cc));
+  throws = λ q. absurd (two i (Return 0) Throw (sym (some_is e)) q (λ z. cc));
   open_behind = λ to after w. (next 2 to (sight (shape [] []) gs n) after i (called gs n bare) e w).kept;
   returns = λ words q g x l over gone. none_some (sym (bare g) ∙ l);
 }

@@ -6,7 +6,7 @@ use Rattle.std.specs.Prelude.{◌==◌, if◌then◌else◌}
 use Rattle.std.specs.List.{AllByRecursion}
 use Rattle.std.proofs.lemmas.Bool.Decides.{eqb_tells}
 use Rattle.mg_text.specs.Call.{Name}
-use Rattle.insp_rules.specs.Program.{Class, Result, Instruction, Call, CallIn, CallOut, Keep, Make, Return, Program, code_at, locals_at}
+use Rattle.insp_rules.specs.Program.{Class, Result, Instruction, Call, CallIn, CallOut, Keep, Make, Return, Throw, Program, code_at, locals_at}
 use Rattle.insp_rules.specs.Program.{Shape, nth, first, rest, shape}
 use Rattle.insp_rules.specs.Program.{popped, pushed, begun}
 use Rattle.insp_rules.specs.Skeleton.{Value, Plain, Nil, Bit, Map, Constant, Ref, Again, Said, returned, Thing, Frame, State, frame, state}
@@ -463,7 +463,7 @@ module _ (p : Program) (numbering : Numbering) (roots : List Context) (inspected
 
   pub hands_none : {s : State} → Inv p numbering roots s → (m at : ℕ) (t : Shape Value) (fs : List Frame) (i : Instruction) (k : ℕ) →
       s.stack ≡ frame m at t ∷ fs → code_at p m at ≡ Some i →
-      (i ≡ Keep k) ⊎ ((u : Option Class) × (i ≡ CallOut k u))
+      (i ≡ Keep k) ⊎ (i ≡ Throw) × (k ≡ 1) ⊎ ((u : Option Class) × (i ≡ CallOut k u))
       ⊎ ((name : Name) × (has : Result) × (i ≡ Call name k has)) →
       AllByRecursion (λ v. skeleton.is_followed v ≡ false) (first k t.operands)
   hands_none (over right) m at t fs i k q e which = absurd (cc)
@@ -480,11 +480,12 @@ module _ (p : Program) (numbering : Numbering) (roots : List Context) (inspected
       holds : Holds p c.held top.at i f
       holds = inspected.holds c top.at f i r here
 
-      without : (i ≡ Keep k) ⊎ ((u : Option Class) × (i ≡ CallOut k u))
+      without : (i ≡ Keep k) ⊎ (i ≡ Throw) × (k ≡ 1) ⊎ ((u : Option Class) × (i ≡ CallOut k u))
           ⊎ ((name : Name) × (has : Result) × (i ≡ Call name k has)) → NoneFollowed (first k f.shape.operands)
       without (inl w) = holds.keeps k w
-      without (inr (inl w)) = holds.hands k w.0 w.1
-      without (inr (inr w)) = (holds.calls w.0 k w.1 w.2).plain
+      without (inr (inl w)) = subst (λ a. NoneFollowed (first a f.shape.operands)) (sym w.1) (holds.throws w.0)
+      without (inr (inr (inl w))) = holds.hands k w.0 w.1
+      without (inr (inr (inr w))) = (holds.calls w.0 k w.1 w.2).plain
 
 pub runs_are_safe : RunsAreSafe
 runs_are_safe p numbering roots inspected begin s b r =

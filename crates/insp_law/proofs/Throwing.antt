@@ -5,16 +5,16 @@ use Rattle.std.proofs.Common.{refl, sym, ap, ◌∙◌, subst, arith}
 use Rattle.std.specs.Prelude.{◌==◌, if◌then◌else◌}
 use Rattle.std.proofs.lemmas.Bool.Decides.{eqb_tells}
 use Rattle.mg_text.specs.Call.{Name}
-use Rattle.insp_rules.specs.Program.{Result, Call, CallIn, Program, code_at, handlers_at, Shape, nth, first, caught}
-use Rattle.insp_rules.specs.Skeleton.{Value, Thing, Frame, State, frame, state, values, put, upset, upset_all, among, Unwinds, out}
+use Rattle.insp_rules.specs.Program.{Result, Instruction, Call, CallIn, Program, code_at, handlers_at, Shape, nth, first, caught}
+use Rattle.insp_rules.specs.Skeleton.{Value, Plain, Ref, LeavesAll, Thing, Frame, State, frame, state, values, put, upset, upset_all, among, Unwinds, out}
 use Rattle.insp_rules.specs.Skeleton.{caught_in, passes, stops}
 use Rattle.insp_rules.specs.Frames.{Known, unknown, Object, Group, Sight, known_among, upset_group}
-use Rattle.insp_rules.specs.Reached.{Both, none, more, Context, Numbering, Takes, Renames, handed_over, upset_if, caught_before}
+use Rattle.insp_rules.specs.Reached.{Both, none, more, Context, Numbering, Takes, Renames, handed_over, upset_if, caught_before, MayLeaveAll}
 use Rattle.insp_rules.specs.Reached.{caught_upon, Found}
 use Rattle.insp_rules.specs.Reached as reached
 use Rattle.insp_law.specs.Laws.{IsRight}
 use Rattle.insp_rules.proofs.Lists.{some_is, none_some, both_first, Put, is, isnt, putting, put_same, put_other}
-use Rattle.insp_law.proofs.Fitting.{Says, others, Accords, Kin, kin, Fit, fresh}
+use Rattle.insp_law.proofs.Fitting.{Says, bare, object, answer, operand, others, Accords, Kin, kin, Fit, fresh}
 use Rattle.insp_law.proofs.Carrying.{forgetting_all, renamed}
 use Rattle.insp_law.proofs.Calls.{upset_is, IsGood, upset_good}
 use Rattle.insp_law.proofs.Steps.{AllRight, regroup}
@@ -118,6 +118,58 @@ module _ (p : Program) (numbering : Numbering) (roots : List Context) where
   abbrev Inv_of : State → Type 0
   Inv_of = Inv p numbering roots
 
+  -- the frame that goes on where a throw came upon the objects that its call hands over
+  come_upon : (h : ℕ → Thing) (n : ℕ) → AllRight h n → (c : Context) (f : Sight) (hold : ℕ → ℕ) (mark mark' : ℕ) (obj : ℕ → ℕ) (stale : ℕ → Bool)
+      (m to : ℕ) (t : Shape Value) (fs : List Frame) (k : ℕ) →
+      Found p numbering roots (reached.Reached c to (numbering.tidy c.held (caught_upon (first k f.shape.operands) f))) → m ≡ c.method →
+      Fit h obj stale c.held hold mark mark' f t → ((g : ℕ) → stale g ≡ true → known_among g (first k f.shape.operands) ≡ true) →
+      mark' ≤ n → mark ≤ n → Below p numbering roots h c hold mark fs →
+      Inv p numbering roots (state (frame m to (caught values t) ∷ fs) (upset_all (first k t.operands) h) n)
+  come_upon h n right c f hold mark mark' obj stale m to t fs k r same fit stales low low' below =
+      runs r same
+      (renamed h' obj c.held hold mark n (caught_upon args f) (numbering.tidy c.held (caught_upon args f)) (caught values t) tidies fits)
+      (λ a x d above. tidies.had a x d above)
+      (below_keeps p numbering roots h h' below (λ o less. touched o less) (λ o less. upset_kind (first k t.operands) h o))
+      low' (upset_rights (first k t.operands) h n right)
+    where
+      args : List Known
+      args = first k f.shape.operands
+
+      h' : ℕ → Thing
+      h' = upset_all (first k t.operands) h
+
+      handed : Both (Says h obj f.groups stale) (first k f.shape.operands) (first k t.operands)
+      handed = both_first (Says h obj f.groups stale) k fit.fits.operands
+
+      is_among : (g : ℕ) (x : Group) → f.groups g ≡ Some x → among (obj g) (first k t.operands) ≡ known_among g (first k f.shape.operands)
+      is_among g x e = among_same h obj f.groups stale fit.sits.apart g x e handed
+
+      fits : Fit (upset_all (first k t.operands) h) obj fresh c.held hold mark n (caught_upon (first k f.shape.operands) f) (caught values t)
+      fits = caught_fit h (upset_all (first k t.operands) h) obj stale c.held hold mark mark' n f t (first k f.shape.operands) fit low
+          (λ g x e q. upset_hit (first k t.operands) h (obj g) (is_among g x e ∙ q))
+          (λ g x e q. upset_missed (first k t.operands) h (obj g) (is_among g x e ∙ q))
+          stales
+
+      tidies : Renames c.held (caught_upon (first k f.shape.operands) f) (numbering.tidy c.held (caught_upon (first k f.shape.operands) f))
+      tidies = numbering.renames c.held (caught_upon (first k f.shape.operands) f) (fit_whole (upset_all (first k t.operands) h) obj fresh c.held hold
+          mark n (caught_upon (first k f.shape.operands) f) (caught values t) fits)
+
+      touched : (o : ℕ) → o < mark →
+          (upset_all (first k t.operands) h o ≡ h o) ⊎ ((i : ℕ) × (i < c.held) × (o ≡ hold i))
+      touched o less = go (among o (first k t.operands)) refl
+        where
+          pick : (g : ℕ) → o ≡ obj g → (g < c.held) × (obj g ≡ hold g) ⊎ (c.held ≤ g) × (mark ≤ obj g) →
+              (upset_all (first k t.operands) h o ≡ h o) ⊎ ((i : ℕ) × (i < c.held) × (o ≡ hold i))
+          pick g q (inl z) = inr (g, z.0, q ∙ z.1)
+          pick g q (inr z) = let w = z.1 in absurd (omega (arith, w, less, q))
+
+          go : (b : Bool) → among o (first k t.operands) ≡ b →
+              (upset_all (first k t.operands) h o ≡ h o) ⊎ ((i : ℕ) × (i < c.held) × (o ≡ hold i))
+          go false e = inl (upset_missed (first k t.operands) h o e)
+          go true e =
+              let z = among_known h obj f.groups stale o handed e in
+              pick z.0 z.3 (fit.sits.sits z.0 z.1 z.2)
+
   -- out of a method, to the first frame that catches it
   pub unwinds : (h : ℕ → Thing) (n : ℕ) → AllRight h n → {c : Context} {hold : ℕ → ℕ} {mark : ℕ} {fs : List Frame} {s : State} →
       Below p numbering roots h c hold mark fs → mark ≤ n → Unwinds p h n fs s → Inv p numbering roots s
@@ -133,56 +185,15 @@ module _ (p : Program) (numbering : Numbering) (roots : List Context) where
   unwinds h n right (waits method k words r m l fit had takes held le below) low (passes u) = unwinds h n right below (omega (arith, le, low)) u
   unwinds h n right (waits {c = c} {f = f} {hold = hold} {mark = mark} {mark' = mark'} {obj = obj} method k words r m l fit had takes held le below) low
       (caught_in {m = m0} {at = at0} {s = t} {fs = fs} callee k' words' to l0 catches) =
-      runs (Found.throws_through to method k words r (subst (λ j. Contains (handlers_at p j at0) to) m catches) l) m
-      (renamed h' obj c.held hold mark n (caught_upon args f) (numbering.tidy c.held (caught_upon args f)) (caught values t) tidies fits)
-      (λ a x d above. tidies.had a x d above)
-      (below_keeps p numbering roots h h' below (λ o less. touched o less) (λ o less. upset_kind (first k' t.operands) h o))
-      (omega (arith, le, low)) (upset_rights (first k' t.operands) h n right)
+      subst (λ j. Inv p numbering roots (state (frame m0 to (caught values t) ∷ fs) (upset_all (first j t.operands) h) n)) same
+      (come_upon h n right c f hold mark mark' obj (handed_over (first k f.shape.operands)) m0 to t fs k
+      (Found.throws_through to method k words r (subst (λ j. Contains (handlers_at p j at0) to) m catches) l) m fit (λ g q. q) low
+      (omega (arith, le, low)) below)
     where
-      args : List Known
-      args = first k f.shape.operands
-
-      h' : ℕ → Thing
-      h' = upset_all (first k' t.operands) h
-
-      same : k' ≡ k
+      same : k ≡ k'
       same =
           let q : CallIn method k words ≡ CallIn callee k' words' = some_is (sym l ∙ sym (ap (λ i. code_at p i at0) m) ∙ l0) in
           cc
-
-      handed : Both (Says h obj f.groups (handed_over (first k f.shape.operands))) (first k f.shape.operands) (first k' t.operands)
-      handed = subst (λ j. Both (Says h obj f.groups (handed_over (first k f.shape.operands))) (first k f.shape.operands) (first j t.operands))
-          (sym same) (both_first (Says h obj f.groups (handed_over (first k f.shape.operands))) k fit.fits.operands)
-
-      is_among : (g : ℕ) (x : Group) → f.groups g ≡ Some x → among (obj g) (first k' t.operands) ≡ known_among g (first k f.shape.operands)
-      is_among g x e = among_same h obj f.groups (handed_over (first k f.shape.operands)) fit.sits.apart g x e handed
-
-      fits : Fit (upset_all (first k' t.operands) h) obj fresh c.held hold mark n (caught_upon (first k f.shape.operands) f) (caught values t)
-      fits = caught_fit h (upset_all (first k' t.operands) h) obj (handed_over (first k f.shape.operands)) c.held hold mark mark' n f t
-          (first k f.shape.operands) fit low
-          (λ g x e q. upset_hit (first k' t.operands) h (obj g) (is_among g x e ∙ q))
-          (λ g x e q. upset_missed (first k' t.operands) h (obj g) (is_among g x e ∙ q))
-          (λ g q. q)
-
-      tidies : Renames c.held (caught_upon (first k f.shape.operands) f) (numbering.tidy c.held (caught_upon (first k f.shape.operands) f))
-      tidies = numbering.renames c.held (caught_upon (first k f.shape.operands) f) (fit_whole (upset_all (first k' t.operands) h) obj fresh c.held hold
-          mark n (caught_upon (first k f.shape.operands) f) (caught values t) fits)
-
-      touched : (o : ℕ) → o < mark →
-          (upset_all (first k' t.operands) h o ≡ h o) ⊎ ((i : ℕ) × (i < c.held) × (o ≡ hold i))
-      touched o less = go (among o (first k' t.operands)) refl
-        where
-          pick : (g : ℕ) → o ≡ obj g → (g < c.held) × (obj g ≡ hold g) ⊎ (c.held ≤ g) × (mark ≤ obj g) →
-              (upset_all (first k' t.operands) h o ≡ h o) ⊎ ((i : ℕ) × (i < c.held) × (o ≡ hold i))
-          pick g q (inl z) = inr (g, z.0, q ∙ z.1)
-          pick g q (inr z) = let w = z.1 in absurd (omega (arith, w, less, q))
-
-          go : (b : Bool) → among o (first k' t.operands) ≡ b →
-              (upset_all (first k' t.operands) h o ≡ h o) ⊎ ((i : ℕ) × (i < c.held) × (o ≡ hold i))
-          go false e = inl (upset_missed (first k' t.operands) h o e)
-          go true e =
-              let z = among_known h obj f.groups (handed_over (first k f.shape.operands)) o handed e in
-              pick z.0 z.3 (fit.sits.sits z.0 z.1 z.2)
 
   -- in the frame that runs
   module _ (h : ℕ → Thing) (n : ℕ) (c : Context) (f : Sight) (hold : ℕ → ℕ) (mark : ℕ) (obj : ℕ → ℕ) (m at : ℕ) (t : Shape Value)
@@ -192,9 +203,34 @@ module _ (p : Program) (numbering : Numbering) (roots : List Context) where
     here : Contains (handlers_at p c.method at) to
     here = subst (λ j. Contains (handlers_at p j at) to) same catches
 
-    pub caught_here : Inv p numbering roots (state (frame m to (caught values t) ∷ fs) h n)
-    caught_here =
-        runs (Found.throws to r here) same
+    -- a call that hasn't begun
+    pub unbegun_here : (callee k words : ℕ) → code_at p m at ≡ Some (CallIn callee k words) →
+        Inv p numbering roots (state (frame m to (caught values t) ∷ fs) (upset_all (first k t.operands) h) n)
+    unbegun_here callee k words e =
+        come_upon h n right c f hold mark n obj fresh m to t fs k
+        (Found.throws_through to callee k words r here (subst (λ j. code_at p j at ≡ Some (CallIn callee k words)) same e)) same fit
+        (λ g q. absurd (true≢false (sym q))) (omega arith) low below
+
+    -- what is known of an object there
+    known_there : (g : ℕ) (a : Known) (v : Value) → Says h obj f.groups fresh a v → a ≡ Object g → (o : ℕ) × (v ≡ Ref o) × (o ≡ obj g)
+    known_there g a v (bare s) q = absurd (cc)
+    known_there g a v (answer x e k) q = absurd (cc)
+    known_there g a v (object {g = g'} {o = o} x e k) q =
+        let w : g' ≡ g = cc in
+        (o, refl, k ∙ ap obj w)
+
+    may_leave : (i : Instruction) → LeavesAll h i t → MayLeaveAll i f
+    may_leave i leaves = record {
+      no_call = leaves.no_call;
+      on_null = λ name k has g x e q l.
+          let z = known_there g (nth unknown f.shape.operands k) (nth Plain t.operands k) (operand h obj f.groups fresh f.shape t fit.fits k) q in
+          (fit.kinds g x l).null (ap (λ a. (h a).null) (sym z.2) ∙ leaves.on_null name k has z.0 e z.1);
+    }
+
+    pub caught_here : (i : Instruction) → code_at p m at ≡ Some i → LeavesAll h i t →
+        Inv p numbering roots (state (frame m to (caught values t) ∷ fs) h n)
+    caught_here i e leaves =
+        runs (Found.throws to i r here (subst (λ j. code_at p j at ≡ Some i) same e) (may_leave i leaves)) same
         (renamed h obj c.held hold mark n (caught_before f) (numbering.tidy c.held (caught_before f)) (caught values t) tidies fits)
         (λ a x d above. tidies.had a x d above) below low right
       where

@@ -17,7 +17,7 @@ use Rattle.insp_law.proofs.Jumping.{jumped}
 use Rattle.insp_law.proofs.Calling.{tells, calls, calls_made}
 use Rattle.insp_law.proofs.Standing.{bottom, Inv, over, runs, runs_tidy, goes, enters, root_fit, interrupts_keep}
 use Rattle.insp_law.proofs.Returning.{come_back}
-use Rattle.insp_law.proofs.Throwing.{unwinds, caught_here, caught_amid}
+use Rattle.insp_law.proofs.Throwing.{unwinds, caught_here, unbegun_here, caught_amid}
 
 loose_ref : {P : Type 0} (v : Value) (o : ℕ) → skeleton.is_loose v ≡ true → v ≡ Ref o → P
 loose_ref v o l e = absurd (true≢false (sym l ∙ ap skeleton.is_loose e))
@@ -103,8 +103,11 @@ module _ (p : Program) (numbering : Numbering) (roots : List Context) (inspected
   pub throws_keep : {s t : State} → Inv p numbering roots s → Throws p s t → Inv p numbering roots t
   throws_keep (over right) throw = elim throw [ ]
   throws_keep (runs {c = c} {f = f} {hold = hold} {mark = mark} {obj = obj} r same fit had below low right)
-      (skeleton.before {m = m} {at = at} {s = s} {fs = fs} {h = h} {n = n} to catches) =
-      caught_here p numbering roots h n c f hold mark obj m at s fs r same fit below low right to catches
+      (skeleton.before {m = m} {at = at} {s = s} {fs = fs} {h = h} {n = n} to i catches e leaves) =
+      caught_here p numbering roots h n c f hold mark obj m at s fs r same fit below low right to catches i e leaves
+  throws_keep (runs {c = c} {f = f} {hold = hold} {mark = mark} {obj = obj} r same fit had below low right)
+      (skeleton.unbegun {m = m} {at = at} {s = s} {fs = fs} {h = h} {n = n} to callee k words catches e) =
+      unbegun_here p numbering roots h n c f hold mark obj m at s fs r same fit below low right to catches callee k words e
   throws_keep (runs {c = c} {f = f} {hold = hold} {mark = mark} {obj = obj} r same fit had below low right)
       (skeleton.amid {m = m} {at = at} {s = s} {fs = fs} {h = h} {n = n} to name k has o catches e q) =
       let z = ref_known h obj f.groups fresh (nth unknown f.shape.operands k) (nth Plain s.operands k) o

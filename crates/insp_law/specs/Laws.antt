@@ -11,7 +11,7 @@ use Rattle.ts_tree.specs.Typestate.{ByAnswer, Method as Offer, Typestate}
 use Rattle.ts_tree.specs.Calls.{may_end, Path}
 use Rattle.insp_rules.specs.Program.{Class, Bare as BareOf, Other, Null, Lost, Alias}
 use Rattle.insp_rules.specs.Program as program
-use Rattle.insp_rules.specs.Program.{Result, Void, Instruction, Make, Call, CallOut, Keep, Return, Program, code_at, Shape, nth, first}
+use Rattle.insp_rules.specs.Program.{Result, Void, Instruction, Make, Call, CallOut, Keep, Return, Throw, Program, code_at, Shape, nth, first}
 use Rattle.insp_rules.specs.Program.{locals_at, begun}
 use Rattle.insp_rules.specs.Skeleton.{Value, Plain, Nil, Bit, Map, Constant, Ref, Again, is_loose, is_followed, Thing, Frame, State, frame}
 use Rattle.insp_rules.specs.Skeleton.{state, values, result, begins, place, someone_has}
@@ -97,10 +97,10 @@ pub record IsSafe (p : Program) (roots : List Context) (s : State) : Type 0 wher
   -- calls of protocols are on objects
   pub on_objects : (m at : ℕ) (shape : Shape Value) (fs : List Frame) (name : Name) (k : ℕ) (has : Result) →
       s.stack ≡ frame m at shape ∷ fs → code_at p m at ≡ Some (Call name k has) → (o : ℕ) × (nth Plain shape.operands k ≡ Ref o)
-  -- no object is handed out
+  -- no object is handed out, kept or thrown
   pub hands_none : (m at : ℕ) (shape : Shape Value) (fs : List Frame) (i : Instruction) (k : ℕ) →
       s.stack ≡ frame m at shape ∷ fs → code_at p m at ≡ Some i →
-      (i ≡ Keep k) ⊎ ((c : Option Class) × (i ≡ CallOut k c)) ⊎ ((name : Name) × (has : Result) × (i ≡ Call name k has)) →
+      (i ≡ Keep k) ⊎ (i ≡ Throw) × (k ≡ 1) ⊎ ((c : Option Class) × (i ≡ CallOut k c)) ⊎ ((name : Name) × (has : Result) × (i ≡ Call name k has)) →
       AllByRecursion (λ v. is_followed v ≡ false) (first k shape.operands)
   -- an object that no frame has behind a step, though one had it before, may be left, or it is what a method gives back that wasn't called by
   -- the program

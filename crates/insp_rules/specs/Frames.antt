@@ -12,7 +12,7 @@ use Rattle.insp_rules.specs.Program.{Class, Kind, Truth, Constants, Form, Itself
 use Rattle.insp_rules.specs.Program.{Alias, Map}
 use Rattle.insp_rules.specs.Program.{Constant, Result, Void, Words, Boolean, Of, related, Comparison, Arm, Instruction, Go, Either, IfNull}
 use Rattle.insp_rules.specs.Program.{IfSame}
-use Rattle.insp_rules.specs.Program.{IfSign, IfNumbers, Switch, Make, Call, CallOut, Keep, Return, Program, number_of, arm_of, goes_for}
+use Rattle.insp_rules.specs.Program.{IfSign, IfNumbers, Switch, Make, Call, CallOut, Keep, Return, Throw, Program, number_of, arm_of, goes_for}
 use Rattle.insp_rules.specs.Program.{compares}
 use Rattle.insp_rules.specs.Program.{is_zero_by, agree, Shape, Kit, nth, first, rest, filled, shape, popped, pushed, straight, way}
 use Rattle.insp_rules.specs.Program as program
@@ -342,6 +342,7 @@ pub record Holds (p : Program) (held at : ℕ) (i : Instruction) (f : Sight) : T
   pub calls : (name : Name) (k : ℕ) (has : Result) → i ≡ Call name k has → CallHolds name k f
   pub hands : (k : ℕ) (c : Option Class) → i ≡ CallOut k c → NoneFollowed (first k f.shape.operands)
   pub keeps : (k : ℕ) → i ≡ Keep k → NoneFollowed (first k f.shape.operands)
+  pub throws : i ≡ Throw → NoneFollowed (first 1 f.shape.operands)
   pub open_behind : (to : ℕ) (after : Sight) → Way p held i at f to after → NoneOpen held after
   pub returns : (words : ℕ) → i ≡ Return words → (g : ℕ) (x : Group) → f.groups g ≡ Some x → held ≤ g →
       known_among g (given_back words f.shape ∷ []) ≡ false → finished x ≡ true

@@ -6,7 +6,7 @@ use Rattle.insp_rules.specs.Program.{Kind, Form, Itself, Ordinal, Mapped, Bare a
 use Rattle.insp_rules.specs.Program.{Result, Instruction, Call, CallIn, Return, Program, code_at, handlers_at, locals_at, Shape, nth}
 use Rattle.insp_rules.specs.Program.{first, rest, shape}
 use Rattle.insp_rules.specs.Program.{caught, begun}
-use Rattle.insp_rules.specs.Skeleton.{returned}
+use Rattle.insp_rules.specs.Skeleton.{returned, IsNoCallIn}
 use Rattle.insp_rules.specs.Frames.{Known, Bare, Object, Answer, Group, Sight, sight, knowns, upset_group}
 use Rattle.insp_rules.specs.Frames.{unknown, known_among, has_group, forget_all, added, Way, Holds, given_back, NoneOpen}
 
@@ -166,6 +166,13 @@ abbrev pub caught_upon : List Known → Sight → Sight
 caught_upon args f = sight (caught knowns (shape (forget_all (handed_over args) f.shape.locals) []))
     (λ g. upset_if (known_among g args) (f.groups g)) f.count
 
+-- a throw there leaves all objects as they were: the instruction is no call of a method of the program, and no call of a protocol on an object
+-- but on one that may be null
+pub record MayLeaveAll (i : Instruction) (f : Sight) : Type 0 where
+  pub no_call : IsNoCallIn i
+  pub on_null : (name : Name) (k : ℕ) (has : Result) (g : ℕ) (x : Group) → i ≡ Call name k has → nth unknown f.shape.operands k ≡ Object g →
+      f.groups g ≡ Some x → x.null ≡ true
+
 -- ---- what is reached
 
 pub data Fact : Type 0 where
@@ -198,8 +205,9 @@ pub data Found (p : Program) (numbering : Numbering) (roots : List Context) : Fa
       (takes : Takes method (first k f.shape.operands) f (numbering.context method (first k f.shape.operands) f)) →
       Found p numbering roots (Reached c (suc at)
       (numbering.tidy c.held (resumed takes.old (numbering.context method (first k f.shape.operands) f).held k words e f)))
-  throws : {c : Context} {at : ℕ} {f : Sight} (to : ℕ) → Found p numbering roots (Reached c at f) →
-      Contains (handlers_at p c.method at) to → Found p numbering roots (Reached c to (numbering.tidy c.held (caught_before f)))
+  throws : {c : Context} {at : ℕ} {f : Sight} (to : ℕ) (i : Instruction) → Found p numbering roots (Reached c at f) →
+      Contains (handlers_at p c.method at) to → code_at p c.method at ≡ Some i → MayLeaveAll i f →
+      Found p numbering roots (Reached c to (numbering.tidy c.held (caught_before f)))
   throws_amid : {c : Context} {at : ℕ} {f : Sight} (to : ℕ) (name : Name) (k : ℕ) (has : Result) (g : ℕ) →
       Found p numbering roots (Reached c at f) → Contains (handlers_at p c.method at) to →
       code_at p c.method at ≡ Some (Call name k has) → nth unknown f.shape.operands k ≡ Object g →

@@ -322,6 +322,11 @@ pub data Step (p : Program) : State → State → Type 0 where
 abbrev pub IsNoCallIn : Instruction → Type 0
 IsNoCallIn i = (callee k words : ℕ) → i ≡ CallIn callee k words → ⊥
 
+-- a throw there leaves all objects as they were: the instruction is no call of a method of the program, and no call of a protocol on an object
+pub record LeavesAll (h : ℕ → Thing) (i : Instruction) (s : Shape Value) : Type 0 where
+  pub no_call : IsNoCallIn i
+  pub on_null : (name : Name) (k : ℕ) (has : Result) (o : ℕ) → i ≡ Call name k has → nth Plain s.operands k ≡ Ref o → (h o).null ≡ true
+
 -- whether one of these is the object
 abbrev pub among : ℕ → List Value → Bool
 among o [] = false
@@ -343,10 +348,15 @@ pub data Unwinds (p : Program) (h : ℕ → Thing) (n : ℕ) : List Frame → St
   stops : {f : Frame} {fs : List Frame} (i : Instruction) → code_at p f.method f.at ≡ Some i → IsNoCallIn i →
       Unwinds p h n (f ∷ fs) (state (f ∷ fs) h n)
 
--- each instruction may throw; a call of a protocol also when it came to the object
+-- Each instruction may throw. A call of a protocol has come to the object then, but where that is null; the arguments of a call of a method of
+-- the program are come upon, also where the method hasn't begun; elsewhere all objects are as they were.
 pub data Throws (p : Program) : State → State → Type 0 where
-  before : {m at : ℕ} {s : Shape Value} {fs : List Frame} {h : ℕ → Thing} {n : ℕ} (to : ℕ) → Contains (handlers_at p m at) to →
+  before : {m at : ℕ} {s : Shape Value} {fs : List Frame} {h : ℕ → Thing} {n : ℕ} (to : ℕ) (i : Instruction) →
+      Contains (handlers_at p m at) to → code_at p m at ≡ Some i → LeavesAll h i s →
       Throws p (state (frame m at s ∷ fs) h n) (state (frame m to (caught values s) ∷ fs) h n)
+  unbegun : {m at : ℕ} {s : Shape Value} {fs : List Frame} {h : ℕ → Thing} {n : ℕ} (to callee k words : ℕ) →
+      Contains (handlers_at p m at) to → code_at p m at ≡ Some (CallIn callee k words) →
+      Throws p (state (frame m at s ∷ fs) h n) (state (frame m to (caught values s) ∷ fs) (upset_all (first k s.operands) h) n)
   amid : {m at : ℕ} {s : Shape Value} {fs : List Frame} {h : ℕ → Thing} {n : ℕ} (to : ℕ) (name : Name) (k : ℕ) (has : Result) (o : ℕ) →
       Contains (handlers_at p m at) to → code_at p m at ≡ Some (Call name k has) → nth Plain s.operands k ≡ Ref o →
       Throws p (state (frame m at s ∷ fs) h n) (state (frame m to (caught values s) ∷ fs) (put o (upset (h o)) h) n)
