@@ -19,7 +19,7 @@ pub loose_none : (o : ℕ) (v : Value) (vs : List Value) → is_loose v ≡ true
 loose_none o Plain vs l = refl
 loose_none o Nil vs l = refl
 loose_none o (Bit b) vs l = refl
-loose_none o (Map m) vs l = refl
+loose_none o (Map m class) vs l = refl
 loose_none o (Constant class label) vs l = refl
 loose_none o (Ref a) vs l = absurd (true≢false (sym l))
 loose_none o (Again t a) vs l = refl

@@ -10,6 +10,8 @@ use Rattle.insp_rules.specs.Program.{Load, Store}
 use Rattle.insp_rules.specs.Program.{Forget, Cast, Index, TakeOrdinal, Go, Either, IfNull, IfSame, IfSign, IfNumbers, Switch, Make, Call}
 use Rattle.insp_rules.specs.Program.{CallIn}
 use Rattle.insp_rules.specs.Program as program
+use Rattle.std.specs.Str.{bytes_eq}
+use Rattle.std.specs.Prelude.{if◌then◌else◌}
 use Rattle.insp_rules.specs.Program.{CallOut, Keep, Return, Throw, Shape, nth, popped, pushed, straight}
 use Rattle.insp_rules.specs.Skeleton.{Value, Plain, Nil, Ref, Said, Bit, Map, Constant, Again, is_loose, Thing, values, begins, place}
 use Rattle.insp_rules.specs.Skeleton as skeleton
@@ -99,7 +101,7 @@ module _ (h : ℕ → Thing) (obj : ℕ → ℕ) (groups : ℕ → Option Group)
       bears Null = laws.null
       bears Lost = laws.lost refl
       bears (Alias t) = laws.alias refl
-      bears (program.Map m) = laws.map
+      bears (program.Map m class) = laws.map
       bears (program.Constant class label) = laws.constant
 
       casts : (a : Known) (b : Value) → Says h obj groups stale a b → Says h obj groups stale (cast a) b
@@ -115,16 +117,20 @@ module _ (h : ℕ → Thing) (obj : ℕ → ℕ) (groups : ℕ → Option Group)
       casts a b (answer x e i) = answer x e i
 
       loose_index : (b d : Value) → is_loose (skeleton.index b d) ≡ true
-      loose_index (Map m) (Said (Ordinal class) label) = refl
-      loose_index (Map m) (Said (Itself kind) label) = refl
-      loose_index (Map m) (Said (Mapped n class) label) = refl
-      loose_index (Map m) Plain = refl
-      loose_index (Map m) Nil = refl
-      loose_index (Map m) (Bit b) = refl
-      loose_index (Map m) (Map n) = refl
-      loose_index (Map m) (Constant class label) = refl
-      loose_index (Map m) (Ref o) = refl
-      loose_index (Map m) (Again t o) = refl
+      loose_index (Map m class) (Said (Ordinal other) label) = go (bytes_eq class other)
+        where
+          go : (b : Bool) → is_loose (if b then Said (Mapped m) label else Plain) ≡ true
+          go true = refl
+          go false = refl
+      loose_index (Map m class) (Said (Itself kind) label) = refl
+      loose_index (Map m class) (Said (Mapped n) label) = refl
+      loose_index (Map m class) Plain = refl
+      loose_index (Map m class) Nil = refl
+      loose_index (Map m class) (Bit b) = refl
+      loose_index (Map m class) (Map n other) = refl
+      loose_index (Map m class) (Constant other label) = refl
+      loose_index (Map m class) (Ref o) = refl
+      loose_index (Map m class) (Again t o) = refl
       loose_index Plain d = refl
       loose_index Nil d = refl
       loose_index (Bit b) d = refl
@@ -150,18 +156,24 @@ module _ (h : ℕ → Thing) (obj : ℕ → ℕ) (groups : ℕ → Option Group)
       indexes a c b d (bare laws.map) (bare s) = loosely b d
       indexes a c b d (bare laws.map) (object x e i) = loosely b d
       indexes a c b d (bare laws.map) (answer {form = Itself kind} x e i) = loosely b d
-      indexes a c b d (bare laws.map) (answer {form = Mapped n class} x e i) = loosely b d
-      indexes a c b d (bare laws.map) (answer {form = Ordinal class} x e i) = answer x e i
+      indexes a c b d (bare laws.map) (answer {form = Mapped n} x e i) = loosely b d
+      indexes a c b d (bare (laws.map {m = m} {class = class})) (answer {g = g} {form = Ordinal other} {label = label} x e i) =
+          go (bytes_eq class other)
+        where
+          go : (t : Bool) → Says h obj groups stale (if t then Answer g (Mapped m) else Bare Other)
+              (if t then Said (Mapped m) label else Plain)
+          go true = answer x e i
+          go false = bare (laws.other refl)
 
       loose_ordinal : (b : Value) → is_loose (skeleton.ordinal b) ≡ true
       loose_ordinal (Said (Itself (Constants class)) label) = refl
       loose_ordinal (Said (Itself program.Truth) label) = refl
       loose_ordinal (Said (Ordinal class) label) = refl
-      loose_ordinal (Said (Mapped n class) label) = refl
+      loose_ordinal (Said (Mapped n) label) = refl
       loose_ordinal Plain = refl
       loose_ordinal Nil = refl
       loose_ordinal (Bit b) = refl
-      loose_ordinal (Map n) = refl
+      loose_ordinal (Map n class) = refl
       loose_ordinal (Constant class label) = refl
       loose_ordinal (Ref o) = refl
       loose_ordinal (Again t o) = refl
@@ -172,7 +184,7 @@ module _ (h : ℕ → Thing) (obj : ℕ → ℕ) (groups : ℕ → Option Group)
       ordinals a b (answer {form = Itself (Constants class)} x e i) = answer x e i
       ordinals a b (answer {form = Itself program.Truth} x e i) = bare (laws.other (loose_ordinal b))
       ordinals a b (answer {form = Ordinal class} x e i) = bare (laws.other (loose_ordinal b))
-      ordinals a b (answer {form = Mapped n class} x e i) = bare (laws.other (loose_ordinal b))
+      ordinals a b (answer {form = Mapped n} x e i) = bare (laws.other (loose_ordinal b))
 
   pub data Alike : Option (Shape Known) → Option (Shape Value) → Type 0 where
     neither : Alike None None

@@ -346,24 +346,23 @@ module _ (h : ℕ → Thing) (obj : ℕ → ℕ) (held : ℕ) (hold : ℕ → �
     jumped to u (skeleton.switch arms other number e asked_not) = go (switches h obj held hold mark n f t fit top topv (operand_of 0))
       where
         go : Switched h obj held hold mark n f t fit (nth unknown f.shape.operands 0) (nth Plain t.operands 0) → Goes_to (goes_for arms other number) (popped 1 t) h n
-        go (asks_number g m c l x y z) = none_some (sym asked_not ∙ y)
+        go (asks_number g m l x y z) = none_some (sym asked_not ∙ y)
         go (no_number x) = plain (goes_for arms other number) (popped 1 f.shape) (popped 1 t) (frames.switch arms other number e x) (pops_of 1)
-    jumped to u (skeleton.mapped arms other m class label e asked_for) = go (switches h obj held hold mark n f t fit top topv (operand_of 0))
+    jumped to u (skeleton.mapped arms other m label e asked_for) = go (switches h obj held hold mark n f t fit top topv (operand_of 0))
       where
-        number : Option ℕ
-        number = number_of p m class label
+        number : ℕ
+        number = number_of p m label
 
         go : Switched h obj held hold mark n f t fit (nth unknown f.shape.operands 0) (nth Plain t.operands 0) →
-            Goes_to (goes_for arms other (number_of p m class label)) (popped 1 t) h n
-        go (no_number x) = plain (goes_for arms other number) (popped 1 f.shape) (popped 1 t) (frames.switch arms other number e x) (pops_of 1)
-        go (asks_number g m' c l x y z) =
-            let w : (m', c, l) ≡ (m, class, label) = some_is (sym y ∙ asked_for) in
-            let m_is : m' ≡ m = ap (λ (c : ℕ × Name × Name). c.0) w in
-            let c_is : c ≡ class = ap (λ (c : ℕ × Name × Name). c.1) w in
-            let l_is : l ≡ label = ap (λ (c : ℕ × Name × Name). c.2) w in
+            Goes_to (goes_for arms other (Some (number_of p m label))) (popped 1 t) h n
+        go (no_number x) =
+            plain (goes_for arms other (Some number)) (popped 1 f.shape) (popped 1 t) (frames.switch arms other (Some number) e x) (pops_of 1)
+        go (asks_number g m' l x y z) =
+            let w : (m', l) ≡ (m, label) = some_is (sym y ∙ asked_for) in
+            let m_is : m' ≡ m = ap (λ (c : ℕ × Name). c.0) w in
+            let l_is : l ≡ label = ap (λ (c : ℕ × Name). c.1) w in
             subst (λ to. Goes_to to (popped 1 t) h n) (chosen_goes arms other number)
             (refines (goes_for arms other (chosen arms number)) 1
-            (λ l. is_choice (chosen arms number) (chosen arms (number_of p m class l))) label g z.x (choice_is (chosen arms number)) z.live
+            (λ l. is_choice (chosen arms number) (chosen arms (number_of p m l))) label g z.x (choice_is (chosen arms number)) z.live
             (z.said ∙ ap (λ c. Some c) l_is)
-            (λ d r. frames.mapped arms other g m class (chosen arms number) z.x d e
-            (x ∙ ap (λ d. Some (g, d, c)) m_is ∙ ap (λ d. Some (g, m, d)) c_is) z.live r))
+            (λ d r. frames.mapped arms other g m (chosen arms number) z.x d e (x ∙ ap (λ d. Some (g, d)) m_is) z.live r))

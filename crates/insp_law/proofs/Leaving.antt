@@ -61,7 +61,7 @@ among_it : (o : ℕ) (v : Value) → among o (v ∷ []) ≡ true → v ≡ Ref o
 among_it o Plain e = absurd (true≢false (sym e))
 among_it o Nil e = absurd (true≢false (sym e))
 among_it o (Bit b) e = absurd (true≢false (sym e))
-among_it o (Map m) e = absurd (true≢false (sym e))
+among_it o (Map m class) e = absurd (true≢false (sym e))
 among_it o (Constant c l) e = absurd (true≢false (sym e))
 among_it o (Again t a) e = absurd (true≢false (sym e))
 among_it o (Said form l) e = absurd (true≢false (sym e))
@@ -78,7 +78,7 @@ among_first o (suc k) [] e = absurd (true≢false (sym e))
 among_first o (suc k) (Plain ∷ vs) e = among_first o k vs e
 among_first o (suc k) (Nil ∷ vs) e = among_first o k vs e
 among_first o (suc k) (Bit b ∷ vs) e = among_first o k vs e
-among_first o (suc k) (Map m ∷ vs) e = among_first o k vs e
+among_first o (suc k) (Map m class ∷ vs) e = among_first o k vs e
 among_first o (suc k) (Constant c l ∷ vs) e = among_first o k vs e
 among_first o (suc k) (Again t a ∷ vs) e = among_first o k vs e
 among_first o (suc k) (Said form l ∷ vs) e = among_first o k vs e
@@ -198,7 +198,7 @@ module _ (p : Program) (numbering : Numbering) (roots : List Context) (inspected
   among_one o Plain vs e = refl
   among_one o Nil vs e = refl
   among_one o (Bit b) vs e = refl
-  among_one o (Map m) vs e = refl
+  among_one o (Map m class) vs e = refl
   among_one o (Constant c l) vs e = refl
   among_one o (Again t a) vs e = refl
   among_one o (Said form l) vs e = refl
@@ -436,7 +436,7 @@ module _ (p : Program) (numbering : Numbering) (roots : List Context) (inspected
   loose_free Plain l = refl
   loose_free Nil l = refl
   loose_free (Bit b) l = refl
-  loose_free (Map m) l = refl
+  loose_free (Map m class) l = refl
   loose_free (Constant c x) l = refl
   loose_free (Ref a) l = absurd (true≢false (sym l))
   loose_free (Again t a) l = absurd (true≢false (sym l))

@@ -230,7 +230,7 @@ pub outcome_of : (held : ℕ) (h : ℕ → Thing) (obj : ℕ → ℕ) (gs : ℕ 
     SomeOutcome held gs a
 outcome_of held h obj gs a v (bare {b = b} r) = some_outcome (Plainly (kept_plain b)) reached.bare
 outcome_of held h obj gs a v (answer {form = Ordinal c} x e i) = some_outcome (Plainly Other) (reached.answer_form refl)
-outcome_of held h obj gs a v (answer {form = Mapped m c} x e i) = some_outcome (Plainly Other) (reached.answer_form refl)
+outcome_of held h obj gs a v (answer {form = Mapped m} x e i) = some_outcome (Plainly Other) (reached.answer_form refl)
 outcome_of held h obj gs a v (answer {g = g} {form = Itself kind} x e i) = go (Rattle.insp_rules.proofs.Lists.below_or_not g held)
   where
     go : (g < held) ⊎ (held ≤ g) → SomeOutcome held gs (Answer g (Itself kind))

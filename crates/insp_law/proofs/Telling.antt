@@ -28,7 +28,7 @@ nulled_loose : (os : List ℕ) (vs : List Value) (v : Value) → is_loose v ≡ 
 nulled_loose os vs Plain l = refl
 nulled_loose os vs Nil l = refl
 nulled_loose os vs (Bit b) l = refl
-nulled_loose os vs (Map b) l = refl
+nulled_loose os vs (Map b class) l = refl
 nulled_loose os vs (Constant b c) l = refl
 nulled_loose os vs (Ref b) l = absurd (true≢false (sym l))
 nulled_loose os vs (Again b c) l = refl
@@ -66,7 +66,7 @@ asked_shows (Ref a) w z e = none_some e
 asked_shows Nil w z e = none_some e
 asked_shows Plain w z e = refl
 asked_shows (Bit b) w z e = refl
-asked_shows (Map b) w z e = refl
+asked_shows (Map b class) w z e = refl
 asked_shows (Constant b l) w z e = refl
 asked_shows (Again b l) w z e = refl
 asked_shows (Said b l) w z e = refl
@@ -77,7 +77,7 @@ nulled_nothing (Ref a ∷ vs) = ap (λ z. Ref a ∷ z) (nulled_nothing vs)
 nulled_nothing (Nil ∷ vs) = ap (λ z. Nil ∷ z) (nulled_nothing vs)
 nulled_nothing (Plain ∷ vs) = ap (λ z. Plain ∷ z) (nulled_nothing vs)
 nulled_nothing (Bit b ∷ vs) = ap (λ z. Bit b ∷ z) (nulled_nothing vs)
-nulled_nothing (Map b ∷ vs) = ap (λ z. Map b ∷ z) (nulled_nothing vs)
+nulled_nothing (Map b class ∷ vs) = ap (λ z. Map b class ∷ z) (nulled_nothing vs)
 nulled_nothing (Constant b l ∷ vs) = ap (λ z. Constant b l ∷ z) (nulled_nothing vs)
 nulled_nothing (Again b l ∷ vs) = ap (λ z. Again b l ∷ z) (nulled_nothing vs)
 nulled_nothing (Said b l ∷ vs) = ap (λ z. Said b l ∷ z) (nulled_nothing vs)
@@ -91,16 +91,15 @@ pub sign_none : (q : Comparison) (v : Value) (l : Name) → skeleton.sign_asks q
 sign_none q (Bit b) l e = none_some e
 sign_none q Plain l e = refl
 sign_none q Nil l e = refl
-sign_none q (Map b) l e = refl
+sign_none q (Map b class) l e = refl
 sign_none q (Constant b c) l e = refl
 sign_none q (Ref b) l e = refl
 sign_none q (Again b c) l e = refl
 sign_none q (Said b c) l e = refl
 
 -- a switch goes to the arm that it chooses
-pub chosen_goes : (arms : List Arm) (other : ℕ) (n : Option ℕ) → goes_for arms other (chosen arms n) ≡ goes_for arms other n
-chosen_goes arms other None = refl
-chosen_goes arms other (Some n) = go (arm_of arms n) refl
+pub chosen_goes : (arms : List Arm) (other n : ℕ) → goes_for arms other (chosen arms n) ≡ goes_for arms other (Some n)
+chosen_goes arms other n = go (arm_of arms n) refl
   where
     go : (o : Option ℕ) → arm_of arms n ≡ o → goes_for arms other (option_and_then (λ to. Some n) o) ≡ goes_for arms other (Some n)
     go None e = sym (ap (λ (z : Option ℕ). elim z [ None ↦ other | Some to ↦ to ]) e)
@@ -114,7 +113,7 @@ loose_shows : (v : Value) → is_loose v ≡ true → skeleton.null_shows v ≡ 
 loose_shows Plain l = refl
 loose_shows Nil l = refl
 loose_shows (Bit b) l = refl
-loose_shows (Map b) l = refl
+loose_shows (Map b class) l = refl
 loose_shows (Constant b c) l = refl
 loose_shows (Ref b) l = absurd (true≢false (sym l))
 loose_shows (Again b c) l = refl
@@ -124,7 +123,7 @@ loose_left : (v w : Value) → is_loose v ≡ true → skeleton.same_shows v w �
 loose_left Plain w l = refl
 loose_left Nil w l = absurd (true≢false (sym l))
 loose_left (Bit b) w l = refl
-loose_left (Map b) w l = refl
+loose_left (Map b class) w l = refl
 loose_left (Constant b c) w l = refl
 loose_left (Ref b) w l = absurd (true≢false (sym l))
 loose_left (Again b c) w l = refl
@@ -134,7 +133,7 @@ loose_right : (o : ℕ) (w : Value) → is_loose w ≡ true → skeleton.same_sh
 loose_right o Plain l = refl
 loose_right o Nil l = absurd (true≢false (sym l))
 loose_right o (Bit b) l = refl
-loose_right o (Map b) l = refl
+loose_right o (Map b class) l = refl
 loose_right o (Constant b c) l = refl
 loose_right o (Ref b) l = absurd (true≢false (sym l))
 loose_right o (Again b c) l = refl
@@ -144,7 +143,7 @@ nil_right : (w : Value) → is_loose w ≡ true → skeleton.same_shows Nil w �
 nil_right Plain l = refl
 nil_right Nil l = refl
 nil_right (Bit b) l = refl
-nil_right (Map b) l = refl
+nil_right (Map b class) l = refl
 nil_right (Constant b c) l = refl
 nil_right (Ref b) l = absurd (true≢false (sym l))
 nil_right (Again b c) l = refl
@@ -173,7 +172,7 @@ module _ (h : ℕ → Thing) where
   same_none Nil w z e = none_some e
   same_none Plain w z e = refl
   same_none (Bit b) w z e = refl
-  same_none (Map b) w z e = refl
+  same_none (Map b class) w z e = refl
   same_none (Constant b l) w z e = refl
   same_none (Again b l) w z e = refl
   same_none (Said b l) w z e = refl
@@ -186,7 +185,7 @@ module _ (h : ℕ → Thing) where
   null_dead Nil q o e = no_one o e
   null_dead Plain q o e = no_one o e
   null_dead (Bit b) q o e = no_one o e
-  null_dead (Map b) q o e = no_one o e
+  null_dead (Map b class) q o e = no_one o e
   null_dead (Constant b c) q o e = no_one o e
   null_dead (Again b c) q o e = no_one o e
   null_dead (Said b c) q o e = no_one o e
@@ -196,7 +195,7 @@ module _ (h : ℕ → Thing) where
   null_sure Nil q o e = absurd (cc)
   null_sure Plain q o e = absurd (cc)
   null_sure (Bit b) q o e = absurd (cc)
-  null_sure (Map b) q o e = absurd (cc)
+  null_sure (Map b class) q o e = absurd (cc)
   null_sure (Constant b c) q o e = absurd (cc)
   null_sure (Again b c) q o e = absurd (cc)
   null_sure (Said b c) q o e = absurd (cc)
@@ -221,19 +220,19 @@ module _ (h : ℕ → Thing) where
   same_dead Nil Nil q o e = no_one o e
   same_dead Nil Plain q o e = no_one o e
   same_dead Nil (Bit b) q o e = no_one o e
-  same_dead Nil (Map b) q o e = no_one o e
+  same_dead Nil (Map b class) q o e = no_one o e
   same_dead Nil (Constant b c) q o e = no_one o e
   same_dead Nil (Again b c) q o e = no_one o e
   same_dead Nil (Said b c) q o e = no_one o e
   same_dead (Ref a) Plain q o e = no_one o e
   same_dead (Ref a) (Bit b) q o e = no_one o e
-  same_dead (Ref a) (Map b) q o e = no_one o e
+  same_dead (Ref a) (Map b class) q o e = no_one o e
   same_dead (Ref a) (Constant b c) q o e = no_one o e
   same_dead (Ref a) (Again b c) q o e = no_one o e
   same_dead (Ref a) (Said b c) q o e = no_one o e
   same_dead Plain w q o e = no_one o e
   same_dead (Bit b) w q o e = no_one o e
-  same_dead (Map b) w q o e = no_one o e
+  same_dead (Map b class) w q o e = no_one o e
   same_dead (Constant b c) w q o e = no_one o e
   same_dead (Again b c) w q o e = no_one o e
   same_dead (Said b c) w q o e = no_one o e
@@ -249,19 +248,19 @@ module _ (h : ℕ → Thing) where
   same_sure Nil Nil q o e = absurd (cc)
   same_sure Nil Plain q o e = absurd (cc)
   same_sure Nil (Bit b) q o e = absurd (cc)
-  same_sure Nil (Map b) q o e = absurd (cc)
+  same_sure Nil (Map b class) q o e = absurd (cc)
   same_sure Nil (Constant b c) q o e = absurd (cc)
   same_sure Nil (Again b c) q o e = absurd (cc)
   same_sure Nil (Said b c) q o e = absurd (cc)
   same_sure (Ref a) Plain q o e = absurd (cc)
   same_sure (Ref a) (Bit b) q o e = absurd (cc)
-  same_sure (Ref a) (Map b) q o e = absurd (cc)
+  same_sure (Ref a) (Map b class) q o e = absurd (cc)
   same_sure (Ref a) (Constant b c) q o e = absurd (cc)
   same_sure (Ref a) (Again b c) q o e = absurd (cc)
   same_sure (Ref a) (Said b c) q o e = absurd (cc)
   same_sure Plain w q o e = absurd (cc)
   same_sure (Bit b) w q o e = absurd (cc)
-  same_sure (Map b) w q o e = absurd (cc)
+  same_sure (Map b class) w q o e = absurd (cc)
   same_sure (Constant b c) w q o e = absurd (cc)
   same_sure (Again b c) w q o e = absurd (cc)
   same_sure (Said b c) w q o e = absurd (cc)
@@ -347,21 +346,21 @@ module _ (h : ℕ → Thing) (obj : ℕ → ℕ) (held : ℕ) (hold : ℕ → �
   may_same (Object g) (Bare (program.Bit c)) v w s t b r = none_some r
   may_same (Object g) (Bare Lost) v w s t b r = none_some r
   may_same (Object g) (Bare (Alias c)) v w s t b r = none_some r
-  may_same (Object g) (Bare (program.Map c)) v w s t b r = none_some r
+  may_same (Object g) (Bare (program.Map c class)) v w s t b r = none_some r
   may_same (Object g) (Bare (program.Constant c l)) v w s t b r = none_some r
   may_same (Bare Null) (Answer m form) v w s t b r = none_some r
   may_same (Bare Null) (Bare Other) v w s t b r = none_some r
   may_same (Bare Null) (Bare (program.Bit c)) v w s t b r = none_some r
   may_same (Bare Null) (Bare Lost) v w s t b r = none_some r
   may_same (Bare Null) (Bare (Alias c)) v w s t b r = none_some r
-  may_same (Bare Null) (Bare (program.Map c)) v w s t b r = none_some r
+  may_same (Bare Null) (Bare (program.Map c class)) v w s t b r = none_some r
   may_same (Bare Null) (Bare (program.Constant c l)) v w s t b r = none_some r
   may_same (Answer m form) c v w s t b r = none_some r
   may_same (Bare Other) c v w s t b r = none_some r
   may_same (Bare (program.Bit a)) c v w s t b r = none_some r
   may_same (Bare Lost) c v w s t b r = none_some r
   may_same (Bare (Alias a)) c v w s t b r = none_some r
-  may_same (Bare (program.Map a)) c v w s t b r = none_some r
+  may_same (Bare (program.Map a class)) c v w s t b r = none_some r
   may_same (Bare (program.Constant a l)) c v w s t b r = none_some r
 
   pub may_compare : (q : Comparison) (a c : Known) (v w : Value) → Says h obj f.groups fresh a v → Says h obj f.groups fresh c w → (b : Bool) →
@@ -373,7 +372,7 @@ module _ (h : ℕ → Thing) (obj : ℕ → ℕ) (held : ℕ) (hold : ℕ → �
   may_compare q (Bare (program.Bit x)) (Bare Null) v w s t b r = none_some r
   may_compare q (Bare (program.Bit x)) (Bare Lost) v w s t b r = none_some r
   may_compare q (Bare (program.Bit x)) (Bare (Alias c)) v w s t b r = none_some r
-  may_compare q (Bare (program.Bit x)) (Bare (program.Map c)) v w s t b r = none_some r
+  may_compare q (Bare (program.Bit x)) (Bare (program.Map c class)) v w s t b r = none_some r
   may_compare q (Bare (program.Bit x)) (Bare (program.Constant c l)) v w s t b r = none_some r
   may_compare q (Object g) c v w s t b r = none_some r
   may_compare q (Answer g form) c v w s t b r = none_some r
@@ -381,7 +380,7 @@ module _ (h : ℕ → Thing) (obj : ℕ → ℕ) (held : ℕ) (hold : ℕ → �
   may_compare q (Bare Null) c v w s t b r = none_some r
   may_compare q (Bare Lost) c v w s t b r = none_some r
   may_compare q (Bare (Alias a)) c v w s t b r = none_some r
-  may_compare q (Bare (program.Map a)) c v w s t b r = none_some r
+  may_compare q (Bare (program.Map a class)) c v w s t b r = none_some r
   may_compare q (Bare (program.Constant a l)) c v w s t b r = none_some r
 
   -- what is known of the answer that a test is about
@@ -399,7 +398,7 @@ module _ (h : ℕ → Thing) (obj : ℕ → ℕ) (held : ℕ) (hold : ℕ → �
   signs q a v (object x e k) = no_sign refl
   signs q a v (answer {form = Itself (Constants c)} x e k) = no_sign refl
   signs q a v (answer {form = Ordinal c} x e k) = no_sign refl
-  signs q a v (answer {form = Mapped m c} x e k) = no_sign refl
+  signs q a v (answer {form = Mapped m} x e k) = no_sign refl
   signs Equal a v (answer {g = g} {form = Itself Truth} {label = l} x e k) =
       asks_sign g l refl refl (record { x = x; live = e; said = or_none g k })
   signs Unequal a v (answer {g = g} {form = Itself Truth} {label = l} x e k) =
@@ -438,25 +437,25 @@ module _ (h : ℕ → Thing) (obj : ℕ → ℕ) (held : ℕ) (hold : ℕ → �
   choices (Answer g (Itself (Constants a))) (Bare Lost) v w s t = no_constant refl
   choices (Answer g (Itself (Constants a))) (Bare (program.Bit b)) v w s t = no_constant refl
   choices (Answer g (Itself (Constants a))) (Bare (Alias b)) v w s t = no_constant refl
-  choices (Answer g (Itself (Constants a))) (Bare (program.Map b)) v w s t = no_constant refl
+  choices (Answer g (Itself (Constants a))) (Bare (program.Map b class)) v w s t = no_constant refl
   choices (Bare (program.Constant b other)) (Object m) v w s t = no_constant refl
   choices (Bare (program.Constant b other)) (Bare c) v w s t = no_constant refl
   choices (Bare (program.Constant b other)) (Answer m (Itself Truth)) v w s t = no_constant refl
   choices (Bare (program.Constant b other)) (Answer m (Ordinal c)) v w s t = no_constant refl
-  choices (Bare (program.Constant b other)) (Answer m (Mapped c d)) v w s t = no_constant refl
+  choices (Bare (program.Constant b other)) (Answer m (Mapped c)) v w s t = no_constant refl
   choices (Answer g (Itself Truth)) c v w s t = no_constant refl
   choices (Answer g (Ordinal a)) c v w s t = no_constant refl
-  choices (Answer g (Mapped a b)) c v w s t = no_constant refl
+  choices (Answer g (Mapped a)) c v w s t = no_constant refl
   choices (Object g) c v w s t = no_constant refl
   choices (Bare Other) c v w s t = no_constant refl
   choices (Bare Null) c v w s t = no_constant refl
   choices (Bare Lost) c v w s t = no_constant refl
   choices (Bare (program.Bit a)) c v w s t = no_constant refl
   choices (Bare (Alias a)) c v w s t = no_constant refl
-  choices (Bare (program.Map a)) c v w s t = no_constant refl
+  choices (Bare (program.Map a class)) c v w s t = no_constant refl
 
   pub data Switched (a : Known) (v : Value) : Type 0 where
-    asks_number : (g m : ℕ) (class label : Name) → frames.switch_asks a ≡ Some (g, m, class) → skeleton.switch_asks v ≡ Some (m, class, label) →
+    asks_number : (g m : ℕ) (label : Name) → frames.switch_asks a ≡ Some (g, m) → skeleton.switch_asks v ≡ Some (m, label) →
         Heard g label → Switched a v
     no_number : frames.switch_asks a ≡ None → Switched a v
 
@@ -465,8 +464,8 @@ module _ (h : ℕ → Thing) (obj : ℕ → ℕ) (held : ℕ) (hold : ℕ → �
   switches a v (object x e k) = no_number refl
   switches a v (answer {form = Itself c} x e k) = no_number refl
   switches a v (answer {form = Ordinal c} x e k) = no_number refl
-  switches a v (answer {g = g} {form = Mapped m c} {label = l} x e k) =
-      asks_number g m c l refl refl (record { x = x; live = e; said = or_none g k })
+  switches a v (answer {g = g} {form = Mapped m} {label = l} x e k) =
+      asks_number g m l refl refl (record { x = x; live = e; said = or_none g k })
 
   -- ---- tests that tell whether objects are null
 

@@ -27,7 +27,7 @@ pub data Bears : BareOf → Value → Type 0 where
   null : Bears Null Nil
   again : {t : Typestate} {o : ℕ} → Bears (Alias t) (Again t o)
   alias : {t : Typestate} {v : Value} → is_loose v ≡ true → Bears (Alias t) v
-  map : {m : ℕ} → Bears (program.Map m) (Map m)
+  map : {m : ℕ} {class : Name} → Bears (program.Map m class) (Map m class)
   constant : {class label : Name} → Bears (program.Constant class label) (Constant class label)
 
 -- an argument of a method to begin with

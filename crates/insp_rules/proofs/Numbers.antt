@@ -255,7 +255,7 @@ module _ (os : List ℕ) (once : Once os) (groups : ℕ → Option Group) where
 bit_plain : (b : BareOf) → is_bit b ≡ true → reached.is_plain b ≡ true
 bit_plain (Bit c) e = refl
 bit_plain Other e = refl
-bit_plain (Map m) e = refl
+bit_plain (Map m class) e = refl
 bit_plain (Constant class label) e = refl
 bit_plain Null e = absurd (true≢false (sym e))
 bit_plain Lost e = absurd (true≢false (sym e))
@@ -272,7 +272,7 @@ drop_bits f b e = go (has_object f.shape.locals) (has_object f.shape.operands) e
 drop_local : (b : BareOf) → is_local b ≡ true → reached.is_plain b ≡ true
 drop_local (Bit c) e = refl
 drop_local Other e = refl
-drop_local (Map m) e = refl
+drop_local (Map m class) e = refl
 drop_local (Constant class label) e = refl
 drop_local Null e = absurd (true≢false (sym e))
 drop_local Lost e = absurd (true≢false (sym e))

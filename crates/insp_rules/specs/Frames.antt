@@ -62,7 +62,7 @@ cast x = x
 
 -- what a switch map has at the place of a constant
 abbrev pub index : Known → Known → Known
-index (Bare (Map m)) (Answer g (Ordinal class)) = Answer g (Mapped m class)
+index (Bare (Map m class)) (Answer g (Ordinal other)) = if bytes_eq class other then Answer g (Mapped m) else Bare Other
 index _ _ = Bare Other
 
 abbrev pub ordinal : Known → Known
@@ -204,14 +204,14 @@ constant_asks (Answer g (Itself (Constants a))) (Bare (Constant b other)) = if b
 constant_asks (Bare (Constant b other)) (Answer g (Itself (Constants a))) = if bytes_eq a b then Some (g, other) else None
 constant_asks _ _ = None
 
--- the group of whose answer a switch map has the number, with the map and the class
-abbrev pub switch_asks : Known → Option (ℕ × ℕ × Name)
-switch_asks (Answer g (Mapped m class)) = Some (g, m, class)
+-- the group of whose answer a switch map has the number, with the map
+abbrev pub switch_asks : Known → Option (ℕ × ℕ)
+switch_asks (Answer g (Mapped m)) = Some (g, m)
 switch_asks _ = None
 
 -- the number by which a switch chooses: that of an arm, or none
-abbrev pub chosen : List Arm → Option ℕ → Option ℕ
-chosen arms number = option_and_then (λ n. option_and_then (λ to. Some n) (arm_of arms n)) number
+abbrev pub chosen : List Arm → ℕ → Option ℕ
+chosen arms number = option_and_then (λ to. Some number) (arm_of arms number)
 
 abbrev pub is_choice : Option ℕ → Option ℕ → Bool
 is_choice None None = true
@@ -280,9 +280,9 @@ pub data Way (p : Program) (held : ℕ) (i : Instruction) (at : ℕ) (f : Sight)
       Way p held i at f (way b there at) (with_shape f (popped 2 f.shape))
   switch : (arms : List Arm) (other : ℕ) (number : Option ℕ) → i ≡ Switch arms other →
       switch_asks (nth unknown f.shape.operands 0) ≡ None → Way p held i at f (goes_for arms other number) (with_shape f (popped 1 f.shape))
-  mapped : (arms : List Arm) (other g m : ℕ) (class : Name) (choice : Option ℕ) (x : Group) (e : Element) → i ≡ Switch arms other →
-      switch_asks (nth unknown f.shape.operands 0) ≡ Some (g, m, class) → f.groups g ≡ Some x →
-      refined (λ l. is_choice choice (chosen arms (number_of p m class l))) x.element ≡ Some e →
+  mapped : (arms : List Arm) (other g m : ℕ) (choice : Option ℕ) (x : Group) (e : Element) → i ≡ Switch arms other →
+      switch_asks (nth unknown f.shape.operands 0) ≡ Some (g, m) → f.groups g ≡ Some x →
+      refined (λ l. is_choice choice (chosen arms (number_of p m l))) x.element ≡ Some e →
       Way p held i at f (goes_for arms other choice) (asked g x e (popped 1 f.shape) f)
   makes : (c : Class) → i ≡ Make c → Way p held i at f (suc at) (added (new_group false c) f.shape f)
   leads : (name : Name) (k : ℕ) (has : Result) (g : ℕ) (x : Group) (from to : To) (m : Offer) → i ≡ Call name k has →

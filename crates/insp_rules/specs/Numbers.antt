@@ -60,7 +60,7 @@ is_bit _ = false
 
 -- what isn't handed over to another method
 abbrev pub is_local : BareOf → Bool
-is_local (Map m) = true
+is_local (Map m class) = true
 is_local (Constant class label) = true
 is_local _ = false
 

@@ -30,7 +30,7 @@ pub data Kind : Type 0 where
 pub data Form : Type 0 where
   Itself : Kind → Form
   Ordinal : Name → Form
-  Mapped : ℕ → Name → Form
+  Mapped : ℕ → Form
 
 -- what is known of a value that has nothing to do with an object that is followed:
 pub data Bare : Type 0 where
@@ -43,8 +43,8 @@ pub data Bare : Type 0 where
   Lost : Bare
   -- perhaps it is an object with this typestate, and it isn't known which
   Alias : Typestate → Bare
-  -- the switch map of this number; a constant of a class
-  Map : ℕ → Bare
+  -- the switch map of this number, which has constants of the class of this name; a constant of a class
+  Map : ℕ → Name → Bare
   Constant : Name → Name → Bare
 
 -- what an instruction puts on the operands: one of those that it took, the last one has number 0; or a value of its own
@@ -120,9 +120,8 @@ pub record Method : Type 0 where
   -- how many locals there are besides the arguments
   pub locals : ℕ
 
--- in a switch map a constant of a class has this number
+-- in a switch map the constant with this label has this number
 pub record Entry : Type 0 where
-  pub class : Name
   pub label : Name
   pub number : ℕ
 
@@ -139,15 +138,15 @@ handlers_at p m at = elim (slice_get p.methods m) [ None ↦ [] | Some method �
 abbrev pub locals_at : Program → ℕ → ℕ
 locals_at p m = elim (slice_get p.methods m) [ None ↦ zero | Some method ↦ method.locals ]
 
-abbrev pub number_in : List Entry → Name → Name → Option ℕ
-number_in [] class label = None
-number_in (e ∷ es) class label =
-    if bytes_eq e.class class then (if bytes_eq e.label label then Some e.number else number_in es class label)
-    else number_in es class label
+-- the number that the last entry of a constant has
+abbrev pub number_in : List Entry → Name → Option ℕ
+number_in [] label = None
+number_in (e ∷ es) label =
+    elim (number_in es label) [ None ↦ if bytes_eq e.label label then Some e.number else None | Some number ↦ Some number ]
 
--- the number that a switch map has for a constant
-abbrev pub number_of : Program → ℕ → Name → Name → Option ℕ
-number_of p m class label = option_and_then (λ es. number_in es class label) (slice_get p.maps m)
+-- the number that a switch map has for a constant: 0 where it has no entry of it
+abbrev pub number_of : Program → ℕ → Name → ℕ
+number_of p m label = elim (option_and_then (λ es. number_in es label) (slice_get p.maps m)) [ None ↦ zero | Some number ↦ number ]
 
 -- the arm for a number, or for none
 abbrev pub arm_of : List Arm → ℕ → Option ℕ

@@ -31,7 +31,7 @@ is_plain (Bit b) = true
 is_plain Null = false
 is_plain Lost = false
 is_plain (Alias t) = false
-is_plain (Map m) = true
+is_plain (Map m class) = true
 is_plain (Constant class label) = true
 
 -- what a place knows after the groups were numbered anew, `old` telling what number each had
@@ -92,7 +92,7 @@ pub data Outcome : Type 0 where
 
 -- what the caller knows of such a value
 abbrev pub kept_plain : BareOf → BareOf
-kept_plain (Map m) = Other
+kept_plain (Map m class) = Other
 kept_plain (Constant class label) = Other
 kept_plain b = b
 
@@ -104,7 +104,7 @@ pub record Exit : Type 0 where
 abbrev pub is_itself : Form → Bool
 is_itself (Itself kind) = true
 is_itself (Ordinal class) = false
-is_itself (Mapped m class) = false
+is_itself (Mapped m) = false
 
 pub data Outcomes (held : ℕ) (groups : ℕ → Option Group) : Known → Outcome → Type 0 where
   bare : {b : BareOf} → Outcomes held groups (Bare b) (Plainly (kept_plain b))

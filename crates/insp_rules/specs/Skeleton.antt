@@ -21,7 +21,7 @@ pub data Value : Type 0 where
   Plain : Value
   Nil : Value
   Bit : Bool → Value
-  Map : ℕ → Value
+  Map : ℕ → Name → Value
   Constant : Name → Name → Value
   Ref : ℕ → Value
   Again : Typestate → ℕ → Value
@@ -72,12 +72,12 @@ bare (program.Bit b) = Bit b
 bare program.Null = Nil
 bare program.Lost = Plain
 bare (program.Alias t) = Plain
-bare (program.Map m) = Map m
+bare (program.Map m class) = Map m class
 bare (program.Constant class label) = Constant class label
 
 -- what a switch map has at the place of a constant
 abbrev pub index : Value → Value → Value
-index (Map m) (Said (Ordinal class) label) = Said (Mapped m class) label
+index (Map m class) (Said (Ordinal other) label) = if bytes_eq class other then Said (Mapped m) label else Plain
 index _ _ = Plain
 
 abbrev pub ordinal : Value → Value
@@ -232,9 +232,9 @@ constant_asks (Said (Itself (Constants a)) label) (Constant b other) = if bytes_
 constant_asks (Constant b other) (Said (Itself (Constants a)) label) = if bytes_eq a b then Some (label, other) else None
 constant_asks _ _ = None
 
--- the label of a constant whose number in a switch map is at hand, with the map and the class
-abbrev pub switch_asks : Value → Option (ℕ × Name × Name)
-switch_asks (Said (Mapped m class) label) = Some (m, class, label)
+-- the label of a constant whose number in a switch map is at hand, with the map
+abbrev pub switch_asks : Value → Option (ℕ × Name)
+switch_asks (Said (Mapped m) label) = Some (m, label)
 switch_asks _ = None
 
 -- `Jumps p h i at s to t`: the instruction there takes the frame to this place
@@ -259,9 +259,9 @@ pub data Jumps (p : Program) (h : ℕ → Thing) (i : Instruction) (at : ℕ) (s
       Tells (comparing c (nth Plain s.operands 1) (nth Plain s.operands 0)) b → Jumps p h i at s (way b there at) (popped 2 s)
   switch : (arms : List Arm) (other : ℕ) (number : Option ℕ) → i ≡ Switch arms other →
       switch_asks (nth Plain s.operands 0) ≡ None → Jumps p h i at s (goes_for arms other number) (popped 1 s)
-  mapped : (arms : List Arm) (other m : ℕ) (class label : Name) → i ≡ Switch arms other →
-      switch_asks (nth Plain s.operands 0) ≡ Some (m, class, label) →
-      Jumps p h i at s (goes_for arms other (number_of p m class label)) (popped 1 s)
+  mapped : (arms : List Arm) (other m : ℕ) (label : Name) → i ≡ Switch arms other →
+      switch_asks (nth Plain s.operands 0) ≡ Some (m, label) →
+      Jumps p h i at s (goes_for arms other (Some (number_of p m label))) (popped 1 s)
 
 -- what a method gives back
 abbrev pub result : ℕ → Shape Value → Value
