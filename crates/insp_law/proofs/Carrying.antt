@@ -11,7 +11,7 @@ use Rattle.insp_rules.specs.Reached as reached
 use Rattle.insp_law.specs.Laws.{Bears}
 use Rattle.insp_law.specs.Laws as laws
 use Rattle.insp_rules.proofs.Lists.{some_is, none_some, both_map, Put, is, isnt, putting, put_same, put_other}
-use Rattle.insp_law.proofs.Fitting.{Says, bare, object, answer, Accords, Kin, kin_kind, Fits, Sits, Fit, Had, fresh, or_none}
+use Rattle.insp_law.proofs.Fitting.{Says, bare, object, answer, Accords, Kin, kin_kind, Fits, Sits, Fit, fresh, or_none}
 
 pub both_over : {A B C : Type 0} (R : A → B → Type 0) (S : B → C → Type 0) (T : A → C → Type 0) →
     ((a : A) (b : B) (c : C) → R a b → S b c → T a c) → {xs : List A} {ys : List B} {zs : List C} → Both R xs ys → Both S ys zs → Both T xs zs

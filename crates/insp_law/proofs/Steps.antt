@@ -11,9 +11,8 @@ use Rattle.insp_rules.specs.Frames.{Known, Bare, unknown, Group, Sight, group}
 use Rattle.insp_rules.specs.Frames.{with_shape, added, Way}
 use Rattle.insp_rules.specs.Frames.{new_group}
 use Rattle.insp_rules.specs.Frames as frames
-use Rattle.insp_rules.specs.Reached.{more}
 use Rattle.insp_rules.proofs.Lists.{Put, is, isnt, putting, put_same, put_other}
-use Rattle.insp_law.proofs.Fitting.{Says, object, Accords, Kin, kin, Fits, Sits, Fit, fresh, pops, pushes}
+use Rattle.insp_law.proofs.Fitting.{Says, Accords, Kin, kin, Fits, Sits, Fit, fresh, pops, pushes}
 use Rattle.insp_law.proofs.Fitting.{operand, others, straights, alike_some}
 use Rattle.insp_law.proofs.Carrying.{heap_fit, add_fit}
 use Rattle.insp_law.proofs.Calls.{handed_is, IsGood, handed_good}

@@ -12,7 +12,6 @@ use Rattle.insp_rules.specs.Frames.{Known, unknown, Object, Group, Sight, known_
 use Rattle.insp_rules.specs.Reached.{Both, none, more, Context, Numbering, Takes, Renames, handed_over, upset_if, caught_before, MayLeaveAll}
 use Rattle.insp_rules.specs.Reached.{caught_upon, Found}
 use Rattle.insp_rules.specs.Reached as reached
-use Rattle.insp_law.specs.Laws.{IsRight}
 use Rattle.insp_rules.proofs.Lists.{some_is, none_some, both_first, Put, is, isnt, putting, put_same, put_other}
 use Rattle.insp_law.proofs.Fitting.{Says, bare, object, answer, operand, others, Accords, Kin, kin, Fit, fresh}
 use Rattle.insp_law.proofs.Carrying.{forgetting_all, renamed}
