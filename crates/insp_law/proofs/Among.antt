@@ -5,7 +5,7 @@ use Rattle.std.proofs.Common.{refl, sym, ap, ◌∙◌}
 use Rattle.std.specs.Prelude.{◌==◌, if◌then◌else◌}
 use Rattle.std.proofs.lemmas.Bool.Decides.{eqb_tells}
 use Rattle.insp_rules.specs.Program.{Bare as BareOf, Shape}
-use Rattle.insp_rules.specs.Skeleton.{Value, Plain, Nil, Bit, Map, Constant, Ref, Again, Said, is_loose, Thing, among, has_it}
+use Rattle.insp_rules.specs.Skeleton.{Value, Plain, Nil, Bit, Map, Constant, Ref, Again, Another, Said, is_loose, Thing, among, has_it}
 use Rattle.insp_rules.specs.Frames.{Known, Group, Sight, known_among, has_group}
 use Rattle.insp_rules.specs.Reached.{Both, none, more, Stands, IsWhole}
 use Rattle.insp_rules.specs.Reached as reached
@@ -23,6 +23,7 @@ loose_none o (Map m class) vs l = refl
 loose_none o (Constant class label) vs l = refl
 loose_none o (Ref a) vs l = absurd (true≢false (sym l))
 loose_none o (Again t a) vs l = refl
+loose_none o (Another t) vs l = refl
 loose_none o (Said form label) vs l = refl
 
 pub bears_none : (o : ℕ) {b : BareOf} {v : Value} (vs : List Value) → Bears b v → among o (v ∷ vs) ≡ among o vs
@@ -31,7 +32,7 @@ bears_none o {v = v} vs (laws.lost l) = loose_none o v vs l
 bears_none o vs laws.bit = refl
 bears_none o vs laws.null = refl
 bears_none o vs laws.again = refl
-bears_none o {v = v} vs (laws.alias l) = loose_none o v vs l
+bears_none o vs laws.another = refl
 bears_none o vs laws.map = refl
 bears_none o vs laws.constant = refl
 

@@ -145,7 +145,7 @@ module _ (h : ℕ → Thing) (obj : ℕ → ℕ) (held : ℕ) (hold : ℕ → �
     left_both h' groups o c has xs vs ws skeleton.truth e b = more (others h' obj groups fresh) b
     left_both h' groups o c has xs vs ws skeleton.plain e b = more (others h' obj groups fresh) b
     left_both h' groups o c has xs vs ws (skeleton.again r) e b = more (bare laws.again) b
-    left_both h' groups o c has xs vs ws (skeleton.another r) e b = more (bare (laws.alias refl)) b
+    left_both h' groups o c has xs vs ws (skeleton.another r) e b = more (bare laws.another) b
 
     left_none : (o : ℕ) (c : Class) (has : Result) (vs ws : List Value) → Leaves o c has vs ws → fresh_of c has ≡ None
     left_none o c has vs ws skeleton.nothing = refl

@@ -190,7 +190,7 @@ plainly p (laws.lost l) = laws.other l
 plainly p laws.bit = laws.other refl
 plainly p laws.null = absurd (true≢false (sym p))
 plainly p laws.again = absurd (true≢false (sym p))
-plainly p (laws.alias l) = laws.other l
+plainly p laws.another = absurd (true≢false (sym p))
 plainly p laws.map = laws.other refl
 plainly p laws.constant = laws.other refl
 

@@ -8,12 +8,12 @@ use Rattle.ts_tree.specs.Calls.{by_label}
 use Rattle.insp_rules.specs.Program.{Form, Itself, Ordinal, Mapped, Constants, Bare as BareOf, Other, Null, Lost, Alias, Instruction, Move}
 use Rattle.insp_rules.specs.Program.{Load, Store}
 use Rattle.insp_rules.specs.Program.{Forget, Cast, Index, TakeOrdinal, Go, Either, IfNull, IfSame, IfSign, IfNumbers, Switch, Make, Call}
-use Rattle.insp_rules.specs.Program.{CallIn}
+use Rattle.insp_rules.specs.Program.{CallNull, CallIn}
 use Rattle.insp_rules.specs.Program as program
 use Rattle.std.specs.Str.{bytes_eq}
 use Rattle.std.specs.Prelude.{if◌then◌else◌}
 use Rattle.insp_rules.specs.Program.{CallOut, Keep, Return, Throw, Shape, nth, popped, pushed, straight}
-use Rattle.insp_rules.specs.Skeleton.{Value, Plain, Nil, Ref, Said, Bit, Map, Constant, Again, is_loose, Thing, values, begins, place}
+use Rattle.insp_rules.specs.Skeleton.{Value, Plain, Nil, Ref, Said, Bit, Map, Constant, Again, Another, is_loose, Thing, values, begins, place}
 use Rattle.insp_rules.specs.Skeleton as skeleton
 use Rattle.insp_law.specs.Laws.{Bears}
 use Rattle.insp_law.specs.Laws as laws
@@ -100,7 +100,7 @@ module _ (h : ℕ → Thing) (obj : ℕ → ℕ) (groups : ℕ → Option Group)
       bears (program.Bit b) = laws.bit
       bears Null = laws.null
       bears Lost = laws.lost refl
-      bears (Alias t) = laws.alias refl
+      bears (Alias t) = laws.another
       bears (program.Map m class) = laws.map
       bears (program.Constant class label) = laws.constant
 
@@ -110,7 +110,7 @@ module _ (h : ℕ → Thing) (obj : ℕ → ℕ) (groups : ℕ → Option Group)
       casts a b (bare laws.bit) = bare laws.bit
       casts a b (bare laws.null) = bare laws.null
       casts a b (bare laws.again) = bare laws.again
-      casts a b (bare (laws.alias l)) = bare (laws.alias l)
+      casts a b (bare laws.another) = bare laws.another
       casts a b (bare laws.map) = bare laws.map
       casts a b (bare laws.constant) = bare laws.constant
       casts a b (object x e i) = object x e i
@@ -131,12 +131,14 @@ module _ (h : ℕ → Thing) (obj : ℕ → ℕ) (groups : ℕ → Option Group)
       loose_index (Map m class) (Constant other label) = refl
       loose_index (Map m class) (Ref o) = refl
       loose_index (Map m class) (Again t o) = refl
+      loose_index (Map m class) (Another t) = refl
       loose_index Plain d = refl
       loose_index Nil d = refl
       loose_index (Bit b) d = refl
       loose_index (Constant class label) d = refl
       loose_index (Ref o) d = refl
       loose_index (Again t o) d = refl
+      loose_index (Another t) d = refl
       loose_index (Said form label) d = refl
 
       loosely : (b d : Value) → Says h obj groups stale (Bare Other) (skeleton.index b d)
@@ -151,7 +153,7 @@ module _ (h : ℕ → Thing) (obj : ℕ → ℕ) (groups : ℕ → Option Group)
       indexes a c b d (bare laws.bit) s = loosely b d
       indexes a c b d (bare laws.null) s = loosely b d
       indexes a c b d (bare laws.again) s = loosely b d
-      indexes a c b d (bare (laws.alias l)) s = loosely b d
+      indexes a c b d (bare laws.another) s = loosely b d
       indexes a c b d (bare laws.constant) s = loosely b d
       indexes a c b d (bare laws.map) (bare s) = loosely b d
       indexes a c b d (bare laws.map) (object x e i) = loosely b d
@@ -177,6 +179,7 @@ module _ (h : ℕ → Thing) (obj : ℕ → ℕ) (groups : ℕ → Option Group)
       loose_ordinal (Constant class label) = refl
       loose_ordinal (Ref o) = refl
       loose_ordinal (Again t o) = refl
+      loose_ordinal (Another t) = refl
 
       ordinals : (a : Known) (b : Value) → Says h obj groups stale a b → Says h obj groups stale (frames.ordinal a) (skeleton.ordinal b)
       ordinals a b (bare s) = bare (laws.other (loose_ordinal b))
@@ -240,8 +243,9 @@ module _ (h : ℕ → Thing) (obj : ℕ → ℕ) (groups : ℕ → Option Group)
   straights (Switch x y) s t f = neither
   straights (Make x) s t f = neither
   straights (Call x y z) s t f = neither
+  straights CallNull s t f = neither
   straights (CallIn x y z) s t f = neither
-  straights (CallOut x y) s t f = neither
+  straights (CallOut x) s t f = neither
   straights (Keep x) s t f = neither
   straights (Return x) s t f = neither
   straights Throw s t f = neither

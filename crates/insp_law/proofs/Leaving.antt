@@ -1,27 +1,28 @@
--- An object that no frame has behind a step may be left; calls of protocols are on objects; none is handed out.
-use Rattle.std.proofs.Common.{◌≡◌, ◌⊎◌, inl, inr, ℕ, zero, suc, ◌<◌, ◌≤◌, Bool, true, false, true≢false, List, [], ◌∷◌, Contains, Option}
+-- An object that no frame has behind a step may be left.
+use Rattle.std.proofs.Common.{◌≡◌, ◌⊎◌, inl, inr, ℕ, zero, suc, ◌<◌, ◌≤◌, Bool, true, false, true≢false, List, [], ◌∷◌}
 use Rattle.std.proofs.Common.{Some, None}
 use Rattle.std.proofs.Common.{refl, sym, ap, ◌∙◌, subst, arith}
 use Rattle.std.specs.Prelude.{◌==◌, if◌then◌else◌}
-use Rattle.std.specs.List.{AllByRecursion}
 use Rattle.std.proofs.lemmas.Bool.Decides.{eqb_tells}
-use Rattle.mg_text.specs.Call.{Name}
-use Rattle.insp_rules.specs.Program.{Class, Result, Instruction, Call, CallIn, CallOut, Keep, Make, Return, Throw, Program, code_at, locals_at}
+use Rattle.insp_rules.specs.Program.{Instruction, Call, CallIn, CallOut, Keep, Make, Return, Program, locals_at, taken, plainly}
 use Rattle.insp_rules.specs.Program.{Shape, nth, first, rest, shape}
 use Rattle.insp_rules.specs.Program.{popped, pushed, begun}
-use Rattle.insp_rules.specs.Skeleton.{Value, Plain, Nil, Bit, Map, Constant, Ref, Again, Said, returned, Thing, Frame, State, frame, state}
+use Rattle.insp_rules.specs.Skeleton.{Value, Plain, Nil, Bit, Map, Constant, Ref, Again, Another, Said, returned, Thing, Frame, State, frame, state}
 use Rattle.insp_rules.specs.Skeleton.{values, result, Step, among, has_it}
 use Rattle.insp_rules.specs.Skeleton.{someone_has}
+use Rattle.insp_rules.specs.Skeleton.{instruction_at}
 use Rattle.insp_rules.specs.Skeleton as skeleton
-use Rattle.insp_rules.specs.Frames.{Known, unknown, Object, Group, Sight, known_among, has_group, Holds, CallHolds}
-use Rattle.insp_rules.specs.Frames.{given_back, NoneFollowed, is_followed, finished}
+use Rattle.insp_rules.specs.Frames.{Group, Sight, known_among, has_group, Holds}
+use Rattle.insp_rules.specs.Frames.{given_back, finished}
 use Rattle.insp_rules.specs.Reached.{Both, none, more, Context, Numbering, Inspected, Found, Reached, Left, Outcomes, New, Takes}
-use Rattle.insp_rules.specs.Reached.{handed_over, resumed}
+use Rattle.insp_rules.specs.Reached.{handed_over, resumed, Outside}
+use Rattle.insp_rules.specs.Frames.{seen_at}
 use Rattle.insp_rules.specs.Reached as reached
 use Rattle.insp_law.specs.Laws.{Begins, MayBeLeft, IsSafe, RunsAreSafe, Moves, Interrupts, GivesBack}
 use Rattle.insp_law.specs.Laws as laws
-use Rattle.insp_rules.proofs.Lists.{some_is, both_first}
-use Rattle.insp_law.proofs.Fitting.{Says, bare, others, object, answer, Fit, fresh, or_none, operand, Accords}
+use Rattle.insp_rules.proofs.Lists.{both_first}
+use Rattle.insp_law.proofs.Seeing.{seen, one_done}
+use Rattle.insp_law.proofs.Fitting.{Says, others, Fit, fresh, or_none, operand, Accords}
 use Rattle.insp_law.proofs.Calls.{may_be_left}
 use Rattle.insp_law.proofs.Steps.{Goes, moved, makes, makes_outside, goes_outside, keeps}
 use Rattle.insp_law.proofs.Jumping.{jumped}
@@ -30,7 +31,6 @@ use Rattle.insp_rules.proofs.Backs.{Tells}
 use Rattle.insp_law.proofs.Among.{among_same, has_same, has_known}
 use Rattle.insp_law.proofs.Standing.{Below, bottom, waits, interrupted, Inv, over, runs}
 use Rattle.insp_law.proofs.Returning.{Comes, gives, SomeOutcome, some_outcome, given_outcome}
-use Rattle.insp_law.proofs.Whole.{runs_keep, all_right}
 
 -- ---- tests that are one or the other
 
@@ -50,7 +50,7 @@ one_of : {P : Type 0} (a : Bool) → a ≡ true → a ≡ false → P
 one_of a e d = absurd (true≢false (sym e ∙ d))
 
 -- where it isn't null it may be left
-abbrev LeftIf : Thing → Type 0
+abbrev pub LeftIf : Thing → Type 0
 LeftIf x = x.null ≡ false → MayBeLeft x
 
 may_leave : (x : Group) (thing : Thing) → Accords x thing → finished x ≡ true → LeftIf thing
@@ -64,6 +64,7 @@ among_it o (Bit b) e = absurd (true≢false (sym e))
 among_it o (Map m class) e = absurd (true≢false (sym e))
 among_it o (Constant c l) e = absurd (true≢false (sym e))
 among_it o (Again t a) e = absurd (true≢false (sym e))
+among_it o (Another t) e = absurd (true≢false (sym e))
 among_it o (Said form l) e = absurd (true≢false (sym e))
 among_it o (Ref a) e = go (eqb_tells a o)
   where
@@ -81,6 +82,7 @@ among_first o (suc k) (Bit b ∷ vs) e = among_first o k vs e
 among_first o (suc k) (Map m class ∷ vs) e = among_first o k vs e
 among_first o (suc k) (Constant c l ∷ vs) e = among_first o k vs e
 among_first o (suc k) (Again t a ∷ vs) e = among_first o k vs e
+among_first o (suc k) (Another t ∷ vs) e = among_first o k vs e
 among_first o (suc k) (Said form l ∷ vs) e = among_first o k vs e
 among_first o (suc k) (Ref a ∷ vs) e = go (a == o) e (among_first o k vs)
   where
@@ -93,8 +95,8 @@ module _ (p : Program) (numbering : Numbering) (roots : List Context) (inspected
   -- the held objects of a frame are among the arguments of the call that waits for it
   below_has : {h : ℕ → Thing} {c : Context} {hold : ℕ → ℕ} {mark : ℕ} {fs : List Frame} → Below p numbering roots h c hold mark fs → (i : ℕ) →
       i < c.held → someone_has (hold i) fs ≡ true
-  below_has (bottom root e) i less = absurd (omega (arith, less, e))
-  below_has (interrupted j root none_held r m l no_call fit had le below) i less = absurd (omega (arith, less, none_held))
+  below_has (bottom outer e) i less = absurd (omega (arith, less, e))
+  below_has (interrupted j outer none_held r m l no_call fit had le below) i less = absurd (omega (arith, less, none_held))
   below_has {h} (waits {f = f} {hold' = hold'} {obj = obj} {top = top} {fs = fs} method k words r m e fit had takes held le below) i less =
       let x = takes.all i less in
       let l = takes.live i x.0 x.1 in
@@ -111,7 +113,7 @@ module _ (p : Program) (numbering : Numbering) (roots : List Context) (inspected
       (fs : List Frame) (r : Found p numbering roots (reached.Reached c at f)) (same : m ≡ c.method)
       (fit : Fit h obj fresh c.held hold mark n f t) (below : Below p numbering roots h c hold mark fs) where
     -- one instruction of the frame that runs
-    leaves_one : (i : Instruction) → code_at p m at ≡ Some i → (to : ℕ) (u : Shape Value) (h' : ℕ → Thing) (n' : ℕ) →
+    leaves_one : (i : Instruction) → instruction_at p h m at t ≡ Some i → (to : ℕ) (u : Shape Value) (h' : ℕ → Thing) (n' : ℕ) →
         Goes h obj c.held hold mark n p i at f to u h' n' → (o : ℕ) → someone_has o (frame m at t ∷ fs) ≡ true →
         someone_has o (frame m to u ∷ fs) ≡ false → LeftIf (h' o)
     leaves_one i e to u h' n' g o had gone = go (either_has (has_it o t) (someone_has o fs) had)
@@ -120,7 +122,7 @@ module _ (p : Program) (numbering : Numbering) (roots : List Context) (inspected
         gone_both = none_has (has_it o u) (someone_has o fs) gone
 
         holds : Holds p c.held at i f
-        holds = inspected.holds c at f i r (subst (λ j. code_at p j at ≡ Some i) same e)
+        holds = inspected.holds c at f i r (seen fit p m c.method at same e)
 
         own : (a : ℕ) (x : Group) → f.groups a ≡ Some x → o ≡ obj a → (a < c.held) × (obj a ≡ hold a) ⊎ (c.held ≤ a) × (mark ≤ obj a) →
             LeftIf (h' o)
@@ -154,14 +156,14 @@ module _ (p : Program) (numbering : Numbering) (roots : List Context) (inspected
     result_is (suc (suc w)) = others h obj f.groups fresh
 
     -- a frame that nobody of the program waits for
-    leaves_last : (has : ℕ) → code_at p m at ≡ Some (Return has) → c.held ≡ 0 → (o : ℕ) → has_it o t ≡ true →
+    leaves_last : (has : ℕ) → instruction_at p h m at t ≡ Some (Return has) → c.held ≡ 0 → (o : ℕ) → has_it o t ≡ true →
         LeftIf (h o) ⊎ (result has t ≡ Ref o)
     leaves_last has e held o had =
         let z = has_known h obj f.groups fresh o f.shape t fit.fits had in
         go z.0 z.1 z.2 z.3 (known_among z.0 (given_back has f.shape ∷ [])) refl
       where
-        here : code_at p c.method at ≡ Some (Return has)
-        here = subst (λ j. code_at p j at ≡ Some (Return has)) same e
+        here : seen_at p c.method at f ≡ Some (Return has)
+        here = seen fit p m c.method at same e
 
         go : (a : ℕ) (x : Group) → f.groups a ≡ Some x → o ≡ obj a → (b : Bool) → known_among a (given_back has f.shape ∷ []) ≡ b →
             LeftIf (h o) ⊎ (result has t ≡ Ref o)
@@ -174,14 +176,14 @@ module _ (p : Program) (numbering : Numbering) (roots : List Context) (inspected
             ((inspected.holds c at f (Return has) r here).returns has refl a x l (omega (arith, held)) k)))
 
     -- a frame that goes back to one that waited for it
-    leaves_back : (has : ℕ) → code_at p m at ≡ Some (Return has) → (o : ℕ) → has_it o t ≡ true → has_it o (pushed (result has t) (shape [] [])) ≡ false →
+    leaves_back : (has : ℕ) → instruction_at p h m at t ≡ Some (Return has) → (o : ℕ) → has_it o t ≡ true → has_it o (pushed (result has t) (shape [] [])) ≡ false →
         ((g : ℕ) → g < c.held → o ≡ hold g → LeftIf (h o)) → LeftIf (h o)
     leaves_back has e o had gone theirs =
         let z = has_known h obj f.groups fresh o f.shape t fit.fits had in
         go z.0 z.1 z.2 z.3 (fit.sits.sits z.0 z.1 z.2)
       where
-        here : code_at p c.method at ≡ Some (Return has)
-        here = subst (λ j. code_at p j at ≡ Some (Return has)) same e
+        here : seen_at p c.method at f ≡ Some (Return has)
+        here = seen fit p m c.method at same e
 
         go : (a : ℕ) (x : Group) → f.groups a ≡ Some x → o ≡ obj a → (a < c.held) × (obj a ≡ hold a) ⊎ (c.held ≤ a) × (mark ≤ obj a) →
             LeftIf (h o)
@@ -201,6 +203,7 @@ module _ (p : Program) (numbering : Numbering) (roots : List Context) (inspected
   among_one o (Map m class) vs e = refl
   among_one o (Constant c l) vs e = refl
   among_one o (Again t a) vs e = refl
+  among_one o (Another t) vs e = refl
   among_one o (Said form l) vs e = refl
   among_one o (Ref a) vs e = go (a == o) e
     where
@@ -217,13 +220,13 @@ module _ (p : Program) (numbering : Numbering) (roots : List Context) (inspected
   -- a return to a frame that waited
   leaves_returning : (h : ℕ → Thing) (n : ℕ) (has : ℕ) (c : Context) (m at : ℕ) (f : Sight) (hold : ℕ → ℕ) (mark : ℕ) (obj : ℕ → ℕ)
       (u : Shape Value) (top : Frame) (fs : List Frame) (callee k : ℕ) → Found p numbering roots (reached.Reached c at f) → m ≡ c.method →
-      code_at p m at ≡ Some (Return has) → Fit h obj fresh c.held hold mark n f u → mark ≤ n →
-      code_at p top.method top.at ≡ Some (CallIn callee k has) → Below p numbering roots h c hold mark (top ∷ fs) → (o : ℕ) →
+      instruction_at p h m at u ≡ Some (Return has) → Fit h obj fresh c.held hold mark n f u → mark ≤ n →
+      instruction_at p h top.method top.at top.shape ≡ Some (CallIn callee k has) → Below p numbering roots h c hold mark (top ∷ fs) → (o : ℕ) →
       someone_has o (frame m at u ∷ top ∷ fs) ≡ true →
       someone_has o (frame top.method (suc top.at) (shape top.shape.locals (returned values has (result has u) (rest k top.shape.operands))) ∷ fs) ≡ false → LeftIf (h o)
   leaves_returning h n has c m at g hold' mark' objs u top fs callee k r is_c e inner low e0
-      (interrupted j root none_held r0 is_c0 l no_call fit had le below) o had_it gone =
-      absurd (no_call callee k has (some_is (sym l ∙ sym (ap (λ i. code_at p i top.at) is_c0) ∙ e0)))
+      (interrupted {c = c0} j outer none_held r0 is_c0 l no_call fit had le below) o had_it gone =
+      absurd (no_call callee k has (one_done fit p top.method c0.method top.at is_c0 l e0))
   leaves_returning h n has c m at g hold' mark' objs u top fs callee k r is_c e inner low e0
       (waits {c = c0} {f = f} {hold = hold} {mark = mark} {obj = obj} method k' words' r0 is_c0 l fit had takes held le below) o had_it gone =
       go (given_outcome c.held h objs g u inner.fits has) (either_has (has_it o u) (someone_has o (top ∷ fs)) had_it)
@@ -233,14 +236,14 @@ module _ (p : Program) (numbering : Numbering) (roots : List Context) (inspected
 
       same : k ≡ k'
       same =
-          let q : CallIn method k' words' ≡ CallIn callee k has = some_is (sym l ∙ sym (ap (λ i. code_at p i top.at) is_c0) ∙ e0) in
+          let q : CallIn method k' words' ≡ CallIn callee k has = one_done fit p top.method c0.method top.at is_c0 l e0 in
           cc
 
-      here_call : code_at p c0.method top.at ≡ Some (CallIn method k' has)
+      here_call : seen_at p c0.method top.at f ≡ Some (CallIn method k' has)
       here_call =
-          let q : CallIn method k' words' ≡ CallIn callee k has = some_is (sym l ∙ sym (ap (λ i. code_at p i top.at) is_c0) ∙ e0) in
+          let q : CallIn method k' words' ≡ CallIn callee k has = one_done fit p top.method c0.method top.at is_c0 l e0 in
           let w : words' ≡ has = cc in
-          subst (λ w. code_at p c0.method top.at ≡ Some (CallIn method k' w)) w l
+          subst (λ w. seen_at p c0.method top.at f ≡ Some (CallIn method k' w)) w l
 
       gone_both : (has_it o (shape top.shape.locals (returned values has (result has u) (rest k' top.shape.operands))) ≡ false) × (someone_has o fs ≡ false)
       gone_both = none_has (has_it o (shape top.shape.locals (returned values has (result has u) (rest k' top.shape.operands)))) (someone_has o fs)
@@ -251,8 +254,8 @@ module _ (p : Program) (numbering : Numbering) (roots : List Context) (inspected
           given_alone o has u (rest k' top.shape.operands)
           (none_has (among o top.shape.locals) (among o (returned values has (result has u) (rest k' top.shape.operands))) gone_both.0).1
 
-      here : code_at p c.method at ≡ Some (Return has)
-      here = subst (λ j. code_at p j at ≡ Some (Return has)) is_c e
+      here : seen_at p c.method at g ≡ Some (Return has)
+      here = seen inner p m c.method at is_c e
 
       go : SomeOutcome (numbering.context method (first k' f.shape.operands) f).held g.groups (given_back has g.shape) →
           (has_it o u ≡ true) ⊎ (someone_has o (top ∷ fs) ≡ true) → LeftIf (h o)
@@ -304,18 +307,18 @@ module _ (p : Program) (numbering : Numbering) (roots : List Context) (inspected
                   of_caller z.0 z.1 z.2 z.3 (fit.sits.sits z.0 z.1 z.2)
 
   bottom_is : {h : ℕ → Thing} {c : Context} {hold : ℕ → ℕ} {mark : ℕ} {fs : List Frame} → Below p numbering roots h c hold mark fs → fs ≡ [] →
-      Contains roots c × (c.held ≡ 0)
-  bottom_is (bottom root e) q = (root, e)
+      Found p numbering roots (Outside c) × (c.held ≡ 0)
+  bottom_is (bottom outer e) q = (outer, e)
   bottom_is (waits method k words r m e fit had takes held le below) q = absurd (cc)
-  bottom_is (interrupted j root none_held r m l no_call fit had le below) q = absurd (cc)
+  bottom_is (interrupted j outer none_held r m l no_call fit had le below) q = absurd (cc)
 
-  -- a frame above one that was interrupted is of a context to begin with
+  -- a frame above one that was interrupted is of a context that was entered from outside
   above_is : {h : ℕ → Thing} {c : Context} {hold : ℕ → ℕ} {mark : ℕ} {top : Frame} {fs : List Frame} →
-      Below p numbering roots h c hold mark (top ∷ fs) → (i : Instruction) → code_at p top.method top.at ≡ Some i → skeleton.IsNoCallIn i →
-      Contains roots c × (c.held ≡ 0)
-  above_is (waits {top = top} method k words r m e fit had takes held le below) i d no_call =
-      absurd (no_call method k words (some_is (sym d ∙ ap (λ j. code_at p j top.at) m ∙ e)))
-  above_is (interrupted j root none_held r m l no_call' fit had le below) i d no_call = (root, none_held)
+      Below p numbering roots h c hold mark (top ∷ fs) → (i : Instruction) → instruction_at p h top.method top.at top.shape ≡ Some i →
+      skeleton.IsNoCallIn i → Found p numbering roots (Outside c) × (c.held ≡ 0)
+  above_is (waits {c = c} {top = top} method k words r m e fit had takes held le below) i d no_call =
+      absurd (no_call method k words (sym (one_done fit p top.method c.method top.at m e d)))
+  above_is (interrupted j outer none_held r m l no_call' fit had le below) i d no_call = (outer, none_held)
 
   pub leaves : {s t : State} → Inv p numbering roots s → Step p s t → (o : ℕ) → someone_has o s.stack ≡ true → someone_has o t.stack ≡ false →
       LeftIf (t.things o) ⊎ GivesBack p s o
@@ -337,29 +340,30 @@ module _ (p : Program) (numbering : Numbering) (roots : List Context) (inspected
       inl (leaves_one h n c f hold mark obj m at s fs r same fit below (Call name k has) e (suc at)
       (shape s.locals (skeleton.told has label (rest (suc k) s.operands))) (skeleton.put q (skeleton.called (h q) name (Some label)) h) n
       (tells h obj c.held hold mark n p (Call name k has) at f s fit right low name k has q label refl v there may
-      ((inspected.holds c at f (Call name k has) r (subst (λ j. code_at p j at ≡ Some (Call name k has)) same e)).calls name k has refl)) o had gone)
+      ((inspected.holds c at f (Call name k has) r (seen fit p m c.method at same e)).calls name k has refl)) o had gone)
   leaves (runs {c = c} {f = f} {hold = hold} {mark = mark} {obj = obj} r same fit h0 below low right)
       (skeleton.calls {m = m} {at = at} {s = s} {fs = fs} {h = h} {n = n} name k has q vs e v there may lefts) o had gone =
       inl (leaves_one h n c f hold mark obj m at s fs r same fit below (Call name k has) e (suc at)
       (shape s.locals vs) (skeleton.put q (skeleton.called (h q) name None) h) n
       (calls h obj c.held hold mark n p (Call name k has) at f s fit right low name k has q vs refl v there may lefts
-      ((inspected.holds c at f (Call name k has) r (subst (λ j. code_at p j at ≡ Some (Call name k has)) same e)).calls name k has refl)) o had gone)
+      ((inspected.holds c at f (Call name k has) r (seen fit p m c.method at same e)).calls name k has refl)) o had gone)
   leaves (runs {c = c} {f = f} {hold = hold} {mark = mark} {obj = obj} r same fit h0 below low right)
       (skeleton.calls_made {m = m} {at = at} {s = s} {fs = fs} {h = h} {n = n} name k has q d null e v there may new) o had gone =
       inl (leaves_one h n c f hold mark obj m at s fs r same fit below (Call name k has) e (suc at)
       (shape s.locals (Ref n ∷ rest (suc k) s.operands)) (skeleton.put n (skeleton.handed null d) (skeleton.put q (skeleton.called (h q) name None) h))
       (suc n)
       (calls_made h obj c.held hold mark n p (Call name k has) at f s fit right low name k has d null q refl v there may new
-      ((inspected.holds c at f (Call name k has) r (subst (λ j. code_at p j at ≡ Some (Call name k has)) same e)).calls name k has refl)) o had gone)
+      ((inspected.holds c at f (Call name k has) r (seen fit p m c.method at same e)).calls name k has refl)) o had gone)
   leaves (runs {c = c} {f = f} {hold = hold} {mark = mark} {obj = obj} r same fit h0 below low right)
-      (skeleton.outside {m = m} {at = at} {s = s} {fs = fs} {h = h} {n = n} k e) o had gone =
-      inl (leaves_one h n c f hold mark obj m at s fs r same fit below (CallOut k None) e (suc at)
-      (pushed Plain (popped k s)) h n (goes_outside h obj c.held hold mark n p (CallOut k None) at f s fit right low k refl) o had gone)
+      (skeleton.outside {m = m} {at = at} {s = s} {fs = fs} {h = h} {n = n} v e q) o had gone =
+      inl (leaves_one h n c f hold mark obj m at s fs r same fit below (CallOut v) e (suc at)
+      (shape s.locals (plainly Plain v.result (rest (taken v) s.operands))) h n
+      (goes_outside h obj c.held hold mark n p (CallOut v) at f s fit right low v refl q) o had gone)
   leaves (runs {c = c} {f = f} {hold = hold} {mark = mark} {obj = obj} r same fit h0 below low right)
-      (skeleton.outside_made {m = m} {at = at} {s = s} {fs = fs} {h = h} {n = n} k d null e) o had gone =
-      inl (leaves_one h n c f hold mark obj m at s fs r same fit below (CallOut k (Some d)) e (suc at)
-      (pushed (Ref n) (popped k s)) (skeleton.put n (skeleton.handed null d) h) (suc n)
-      (makes_outside h obj c.held hold mark n p (CallOut k (Some d)) at f s fit right low k d null refl) o had gone)
+      (skeleton.outside_made {m = m} {at = at} {s = s} {fs = fs} {h = h} {n = n} v d null e q) o had gone =
+      inl (leaves_one h n c f hold mark obj m at s fs r same fit below (CallOut v) e (suc at)
+      (pushed (Ref n) (popped (taken v) s)) (skeleton.put n (skeleton.handed null d) h) (suc n)
+      (makes_outside h obj c.held hold mark n p (CallOut v) at f s fit right low v d null refl q) o had gone)
   leaves (runs {c = c} {f = f} {hold = hold} {mark = mark} {obj = obj} r same fit h0 below low right)
       (skeleton.keeps {m = m} {at = at} {s = s} {fs = fs} {h = h} {n = n} k e) o had gone =
       inl (leaves_one h n c f hold mark obj m at s fs r same fit below (Keep k) e (suc at) (popped k s) h n
@@ -390,6 +394,11 @@ module _ (p : Program) (numbering : Numbering) (roots : List Context) (inspected
       (laws.calls_back {m = m} {at = at} {s = s} {fs = fs} i e no_call d root is_root args bs) o had gone =
       one_of (someone_has o (frame m at s ∷ fs)) had
       (none_has (has_it o (begun values (locals_at p d.method) args)) (someone_has o (frame m at s ∷ fs)) gone).1
+  leaves_interrupting (runs r same fit h0 below low right)
+      (laws.calls_meant {m = m} {at = at} {s = s} {fs = fs} v method e meant) o had gone =
+      one_of (someone_has o (frame m at s ∷ fs)) had
+      (none_has (has_it o (begun values (locals_at p method) (skeleton.let_go_all (first (taken v) s.operands)))) (someone_has o (frame m at s ∷ fs))
+      gone).1
   leaves_interrupting (runs {c = c} {f = f} {hold = hold} {mark = mark} {obj = obj} r same fit h0 below low right)
       (laws.goes_back {m = m} {at = at} {m0 = m0} {at0 = at0} {s = s} {s0 = s0} {fs = fs} {h = h} {n = n} has i e e0 no_call) o had gone =
       pick (either_has (has_it o s) (someone_has o (frame m0 at0 s0 ∷ fs)) had) (above_is below i e0 no_call).1
@@ -408,95 +417,3 @@ module _ (p : Program) (numbering : Numbering) (roots : List Context) (inspected
       someone_has o t.stack ≡ false → LeftIf (t.things o) ⊎ GivesBack p s o
   leaves_moving i (inl step) = leaves i step
   leaves_moving i (inr step) = leaves_interrupting i step
-
-  -- ---- calls are on objects, and none is handed out
-
-  pub on_objects : {s : State} → Inv p numbering roots s → (m at : ℕ) (t : Shape Value) (fs : List Frame) (name : Name) (k : ℕ) (has : Result) →
-      s.stack ≡ frame m at t ∷ fs → code_at p m at ≡ Some (Call name k has) → (o : ℕ) × (nth Plain t.operands k ≡ Ref o)
-  on_objects (over right) m at t fs name k has q e = absurd (cc)
-  on_objects (runs {c = c} {f = f} {obj = obj} {top = top} {h = h} r same fit h0 below low right) m at t fs name k has q e =
-      go (nth unknown f.shape.operands k) (nth Plain top.shape.operands k) (operand h obj f.groups fresh f.shape top.shape fit.fits k) ch.receiver refl
-    where
-      is_top : top ≡ frame m at t
-      is_top = cc
-
-      here : code_at p c.method top.at ≡ Some (Call name k has)
-      here = ap (λ j. code_at p j top.at) (sym same) ∙ ap (λ (b : Frame). code_at p b.method b.at) is_top ∙ e
-
-      ch : CallHolds name k f
-      ch = (inspected.holds c top.at f (Call name k has) r here).calls name k has refl
-
-      go : (a : Known) (v : Value) → Says h obj f.groups fresh a v → a ≡ Object ch.g → nth Plain top.shape.operands k ≡ v →
-          (o : ℕ) × (nth Plain t.operands k ≡ Ref o)
-      go a v (bare r) d w = absurd (cc)
-      go a v (answer x l i) d w = absurd (cc)
-      go a v (object {o = o} x l i) d w = (o, ap (λ (b : Frame). nth Plain b.shape.operands k) (sym is_top) ∙ w)
-
-  loose_free : (v : Value) → skeleton.is_loose v ≡ true → skeleton.is_followed v ≡ false
-  loose_free Plain l = refl
-  loose_free Nil l = refl
-  loose_free (Bit b) l = refl
-  loose_free (Map m class) l = refl
-  loose_free (Constant c x) l = refl
-  loose_free (Ref a) l = absurd (true≢false (sym l))
-  loose_free (Again t a) l = absurd (true≢false (sym l))
-  loose_free (Said form x) l = refl
-
-  free : (h : ℕ → Thing) (obj : ℕ → ℕ) (groups : ℕ → Option Group) (a : Known) (v : Value) → Says h obj groups fresh a v →
-      is_followed a ≡ false → skeleton.is_followed v ≡ false
-  free h obj groups a v (bare (laws.other l)) e = loose_free v l
-  free h obj groups a v (bare (laws.lost l)) e = loose_free v l
-  free h obj groups a v (bare laws.bit) e = refl
-  free h obj groups a v (bare laws.null) e = refl
-  free h obj groups a v (bare laws.again) e = absurd (true≢false e)
-  free h obj groups a v (bare (laws.alias l)) e = loose_free v l
-  free h obj groups a v (bare laws.map) e = refl
-  free h obj groups a v (bare laws.constant) e = refl
-  free h obj groups a v (object x l i) e = absurd (true≢false e)
-  free h obj groups a v (answer x l i) e = refl
-
-  -- where none is known to be followed none is
-  all_free : (h : ℕ → Thing) (obj : ℕ → ℕ) (groups : ℕ → Option Group) {xs : List Known} {vs : List Value} →
-      Both (Says h obj groups fresh) xs vs → NoneFollowed xs → AllByRecursion (λ v. skeleton.is_followed v ≡ false) vs
-  all_free h obj groups none e = tt
-  all_free h obj groups (more {a = a} {b = v} r rs) e = (free h obj groups a v r e.0, all_free h obj groups rs e.1)
-
-  pub hands_none : {s : State} → Inv p numbering roots s → (m at : ℕ) (t : Shape Value) (fs : List Frame) (i : Instruction) (k : ℕ) →
-      s.stack ≡ frame m at t ∷ fs → code_at p m at ≡ Some i →
-      (i ≡ Keep k) ⊎ (i ≡ Throw) × (k ≡ 1) ⊎ ((u : Option Class) × (i ≡ CallOut k u))
-      ⊎ ((name : Name) × (has : Result) × (i ≡ Call name k has)) →
-      AllByRecursion (λ v. skeleton.is_followed v ≡ false) (first k t.operands)
-  hands_none (over right) m at t fs i k q e which = absurd (cc)
-  hands_none (runs {c = c} {f = f} {obj = obj} {top = top} {h = h} r same fit h0 below low right) m at t fs i k q e which =
-      subst (λ (b : Frame). AllByRecursion (λ v. skeleton.is_followed v ≡ false) (first k b.shape.operands)) is_top
-      (all_free h obj f.groups (both_first (Says h obj f.groups fresh) k fit.fits.operands) (without which))
-    where
-      is_top : top ≡ frame m at t
-      is_top = cc
-
-      here : code_at p c.method top.at ≡ Some i
-      here = ap (λ j. code_at p j top.at) (sym same) ∙ ap (λ (b : Frame). code_at p b.method b.at) is_top ∙ e
-
-      holds : Holds p c.held top.at i f
-      holds = inspected.holds c top.at f i r here
-
-      without : (i ≡ Keep k) ⊎ (i ≡ Throw) × (k ≡ 1) ⊎ ((u : Option Class) × (i ≡ CallOut k u))
-          ⊎ ((name : Name) × (has : Result) × (i ≡ Call name k has)) → NoneFollowed (first k f.shape.operands)
-      without (inl w) = holds.keeps k w
-      without (inr (inl w)) = subst (λ a. NoneFollowed (first a f.shape.operands)) (sym w.1) (holds.throws w.0)
-      without (inr (inr (inl w))) = holds.hands k w.0 w.1
-      without (inr (inr (inr w))) = (holds.calls w.0 k w.1 w.2).plain
-
-pub runs_are_safe : RunsAreSafe
-runs_are_safe p numbering roots inspected begin s b r =
-    let i = runs_keep p numbering roots inspected begin b r in
-    record {
-      right = all_right p numbering roots inspected i;
-      on_objects = on_objects p numbering roots inspected i;
-      hands_none = hands_none p numbering roots inspected i;
-      leaves = λ t step o there had gone. pick t o there (leaves_moving p numbering roots inspected i step o had gone);
-    }
-  where
-    pick : (t : State) (o : ℕ) → (t.things o).null ≡ false → LeftIf (t.things o) ⊎ GivesBack p s o → MayBeLeft (t.things o) ⊎ GivesBack p s o
-    pick t o there (inl w) = inl (w there)
-    pick t o there (inr w) = inr w

@@ -1,4 +1,5 @@
 pub mod Fitting
+pub mod Seeing
 pub mod Carrying
 pub mod Calls
 pub mod Steps
@@ -11,4 +12,6 @@ pub mod Returning
 pub mod Throwing
 pub mod Whole
 pub mod Leaving
+pub mod Handing
+pub mod Safe
 pub mod Examples

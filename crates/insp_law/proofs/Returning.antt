@@ -3,9 +3,9 @@ use Rattle.std.proofs.Common.{◌≡◌, ◌≢◌, ◌⊎◌, inl, inr, ℕ, ze
 use Rattle.std.proofs.Common.{refl, sym, ap, ◌∙◌, subst, arith}
 use Rattle.mg_text.specs.Call.{Name}
 use Rattle.insp_rules.specs.Program.{Itself, Ordinal, Mapped, Bare as BareOf, Other, CallIn, Return}
-use Rattle.insp_rules.specs.Program.{Program, code_at, Shape, nth, first, rest, filled, shape, popped}
-use Rattle.insp_rules.specs.Skeleton.{Value, Plain, Thing, Frame, frame, state, values, result, returned, put}
-use Rattle.insp_rules.specs.Frames.{Known, Bare, unknown, knowns, Object, Answer, Group, Sight, sight, known_among, forget_all, given_back}
+use Rattle.insp_rules.specs.Program.{Program, Shape, nth, first, rest, filled, shape, popped}
+use Rattle.insp_rules.specs.Skeleton.{Value, Plain, Thing, Frame, frame, state, values, result, returned, put, instruction_at}
+use Rattle.insp_rules.specs.Frames.{Known, Bare, unknown, knowns, Object, Answer, Group, Sight, sight, known_among, forget_all, given_back, seen_at}
 use Rattle.insp_rules.specs.Reached.{Both, none, more, Stands, Context, Numbering, Takes, Renames, Outcome, Plainly, Held, Told, New, Exit}
 use Rattle.insp_rules.specs.Reached.{kept_plain}
 use Rattle.insp_rules.specs.Reached.{Outcomes, is_itself, back, by_exit, groups_behind, handed_over, resumed, Found}
@@ -13,6 +13,7 @@ use Rattle.insp_rules.specs.Reached as reached
 use Rattle.insp_law.specs.Laws.{Bears}
 use Rattle.insp_law.specs.Laws as laws
 use Rattle.insp_rules.proofs.Lists.{some_is, none_some, both_filled, both_rest, put_other}
+use Rattle.insp_law.proofs.Seeing.{one_done}
 use Rattle.insp_law.proofs.Fitting.{Says, bare, others, object, answer, Accords, Fits, Fit, fresh, or_none}
 use Rattle.insp_law.proofs.Fitting.{operand}
 use Rattle.insp_law.proofs.Carrying.{Carries, forgetting_all, add_fit}
@@ -152,7 +153,7 @@ module _ (h : ℕ → Thing) (n : ℕ) (held : ℕ) (hold : ℕ → ℕ) (mark m
   kept_bears laws.bit = laws.bit
   kept_bears laws.null = laws.null
   kept_bears laws.again = laws.again
-  kept_bears (laws.alias l) = laws.alias l
+  kept_bears laws.another = laws.another
   kept_bears laws.map = laws.other refl
   kept_bears laws.constant = laws.other refl
 
@@ -252,13 +253,13 @@ given_outcome held h obj f t fits (suc (suc w)) = some_outcome (Plainly Other) r
 module _ (p : Program) (numbering : Numbering) (roots : List Context) where
   pub come_back : (h : ℕ → Thing) (n : ℕ) (c : Context) (at : ℕ) (f : Sight) (hold : ℕ → ℕ) (mark : ℕ) (obj : ℕ → ℕ)
       (u : Shape Value) (top : Frame) (fs : List Frame) (callee k words : ℕ) → Found p numbering roots (reached.Reached c at f) →
-      code_at p c.method at ≡ Some (Return words) → Fit h obj fresh c.held hold mark n f u → mark ≤ n → AllRight h n →
-      code_at p top.method top.at ≡ Some (CallIn callee k words) → Below p numbering roots h c hold mark (top ∷ fs) →
+      seen_at p c.method at f ≡ Some (Return words) → Fit h obj fresh c.held hold mark n f u → mark ≤ n → AllRight h n →
+      instruction_at p h top.method top.at top.shape ≡ Some (CallIn callee k words) → Below p numbering roots h c hold mark (top ∷ fs) →
       Inv p numbering roots
       (state (frame top.method (suc top.at) (shape top.shape.locals (returned values words (result words u) (rest k top.shape.operands))) ∷ fs) h n)
   come_back h n c at g hold' mark' objs u top fs callee k words r e inner low right e0
-      (interrupted j root none_held r0 m l no_call fit had le below) =
-      absurd (no_call callee k words (some_is (sym l ∙ sym (ap (λ i. code_at p i top.at) m) ∙ e0)))
+      (interrupted {c = c0} j outer none_held r0 m l no_call fit had le below) =
+      absurd (no_call callee k words (one_done fit p top.method c0.method top.at m l e0))
   come_back h n c at g hold' mark' objs u top fs callee k words r e inner low right e0
       (waits {c = c0} {f = f} {hold = hold} {mark = mark} {obj = obj} method k' words' r0 m l fit had takes held le below) =
       subst (λ j. Inv p numbering roots (state (frame top.method (suc top.at)
@@ -266,7 +267,7 @@ module _ (p : Program) (numbering : Numbering) (roots : List Context) where
       (go (given_outcome c.held h objs g u inner.fits words))
     where
       same_call : CallIn method k' words' ≡ CallIn callee k words
-      same_call = some_is (sym l ∙ sym (ap (λ i. code_at p i top.at) m) ∙ e0)
+      same_call = one_done fit p top.method c0.method top.at m l e0
 
       same : k' ≡ k
       same = let q = same_call in cc
@@ -286,5 +287,5 @@ module _ (p : Program) (numbering : Numbering) (roots : List Context) where
           runs_tidy p numbering roots h n c0 (resumed takes.old (numbering.context method (first k' f.shape.operands) f).held k' words
           (record { groups = g.groups; outcome = o }) f) hold mark comes.after_objs
           (frame top.method (suc top.at) (shape top.shape.locals (returned values words (result words u) (rest k' top.shape.operands)))) fs
-          (Found.returns method k' words r0 (subst (λ w. code_at p c0.method top.at ≡ Some (CallIn method k' w)) same_words l)
+          (Found.returns method k' words r0 (subst (λ w. seen_at p c0.method top.at f ≡ Some (CallIn method k' w)) same_words l)
           (Found.leaves words r e outcomes) takes) m comes.after_fit below (omega (arith, le, low)) right

@@ -1,18 +1,21 @@
 -- What holds at each moment of a run, and that each step keeps it.
-use Rattle.std.proofs.Common.{◌≡◌, ◌⊎◌, inl, inr, ℕ, ◌<◌, ◌≤◌, true, List, [], ◌∷◌, Contains, Option, Some}
+use Rattle.std.proofs.Common.{◌≡◌, ◌⊎◌, inl, inr, ℕ, ◌<◌, ◌≤◌, true, true≢false, List, [], ◌∷◌, Option, Some}
 use Rattle.std.proofs.Common.{refl, sym, ap, ◌∙◌, subst, arith}
-use Rattle.insp_rules.specs.Program.{Instruction, CallIn, Program, code_at, locals_at, Shape, first}
+use Rattle.insp_rules.specs.Program.{Instruction, CallIn, CallOut, taken, Program, locals_at, Shape, first}
 use Rattle.insp_rules.specs.Program.{filled, turned, begun}
-use Rattle.insp_rules.specs.Skeleton.{Value, Plain, Thing, Frame, State, frame, state, values}
-use Rattle.insp_rules.specs.Skeleton.{IsNoCallIn}
-use Rattle.insp_rules.specs.Frames.{Known, unknown, Group, Sight, known_among}
-use Rattle.insp_rules.specs.Reached.{Both, none, Stands, Context, Numbering, Takes, Renames}
-use Rattle.insp_rules.specs.Reached.{handed_over, Reached, Found, entry}
+use Rattle.insp_rules.specs.Skeleton.{Value, Plain, Nil, Bit, Map, Constant, Ref, Again, Another, Said, is_loose, Thing, Frame, State, frame, state}
+use Rattle.insp_rules.specs.Skeleton.{values, IsNoCallIn, instruction_at}
+use Rattle.insp_rules.specs.Skeleton as skeleton
+use Rattle.insp_rules.specs.Frames.{Known, unknown, Group, Sight, known_among, seen_at}
+use Rattle.insp_rules.specs.Reached.{Both, none, more, Stands, Context, Numbering, Takes, Renames}
+use Rattle.insp_rules.specs.Reached.{handed_over, Reached, Outside, Found, entry, outside_context}
+use Rattle.insp_rules.specs.Reached as reached
 use Rattle.insp_rules.specs.Reached.{IsRoot}
 use Rattle.insp_law.specs.Laws.{IsRight, Unheld, Interrupts}
 use Rattle.insp_law.specs.Laws as laws
-use Rattle.insp_rules.proofs.Lists.{some_is, none_some, both_map, both_first, both_filled, both_turned}
-use Rattle.insp_law.proofs.Fitting.{Says, bare, others, Kin, kin, Fit, Had, fresh, or_none}
+use Rattle.insp_rules.proofs.Lists.{none_some, both_map, both_first, both_filled, both_turned}
+use Rattle.insp_law.proofs.Seeing.{seen, one_done}
+use Rattle.insp_law.proofs.Fitting.{Says, bare, object, answer, others, Kin, kin, Fit, Had, fresh, or_none}
 use Rattle.insp_law.proofs.Carrying.{both_over, carried_fits, heap_fit, renamed, stood}
 use Rattle.insp_law.proofs.Steps.{AllRight, Goes}
 use Rattle.insp_law.proofs.Among.{fit_whole, known_live}
@@ -21,20 +24,23 @@ module _ (p : Program) (numbering : Numbering) (roots : List Context) where
   abbrev pub Known_to_be : Context → ℕ → Sight → Type 0
   Known_to_be c at f = Found p numbering roots (Reached c at f)
 
+  abbrev pub From_outside : Context → Type 0
+  From_outside c = Found p numbering roots (Outside c)
+
   -- the frames that wait below one of this context: each waits at the call that this context is of. What the objects that it handed over do
   -- meanwhile isn't known to it; all its objects have numbers below the mark
   pub data Below (h : ℕ → Thing) : Context → (ℕ → ℕ) → ℕ → List Frame → Type 0 where
-    bottom : {c : Context} {hold : ℕ → ℕ} {mark : ℕ} → Contains roots c → c.held ≡ 0 → Below h c hold mark []
+    bottom : {c : Context} {hold : ℕ → ℕ} {mark : ℕ} → From_outside c → c.held ≡ 0 → Below h c hold mark []
     waits : {c : Context} {f : Sight} {hold hold' : ℕ → ℕ} {mark mark' : ℕ} {obj : ℕ → ℕ} {top : Frame} {fs : List Frame} (method k words : ℕ) →
-        Known_to_be c top.at f → top.method ≡ c.method → code_at p c.method top.at ≡ Some (CallIn method k words) →
+        Known_to_be c top.at f → top.method ≡ c.method → seen_at p c.method top.at f ≡ Some (CallIn method k words) →
         Fit h obj (handed_over (first k f.shape.operands)) c.held hold mark mark' f top.shape → Had c.held f →
         (takes : Takes method (first k f.shape.operands) f (numbering.context method (first k f.shape.operands) f)) →
         ((i : ℕ) → i < (numbering.context method (first k f.shape.operands) f).held → hold' i ≡ obj (takes.old i)) → mark ≤ mark' →
         Below h c hold mark fs → Below h (numbering.context method (first k f.shape.operands) f) hold' mark' (top ∷ fs)
-    -- one that was interrupted: a method to begin with was called back
+    -- one that was interrupted: a method was called from outside
     interrupted : {c c' : Context} {f : Sight} {hold hold' : ℕ → ℕ} {mark mark' : ℕ} {obj : ℕ → ℕ} {top : Frame} {fs : List Frame}
-        (i : Instruction) → Contains roots c' → c'.held ≡ 0 → Known_to_be c top.at f → top.method ≡ c.method →
-        code_at p c.method top.at ≡ Some i → IsNoCallIn i → Fit h obj fresh c.held hold mark mark' f top.shape → Had c.held f → mark ≤ mark' →
+        (i : Instruction) → From_outside c' → c'.held ≡ 0 → Known_to_be c top.at f → top.method ≡ c.method →
+        seen_at p c.method top.at f ≡ Some i → IsNoCallIn i → Fit h obj fresh c.held hold mark mark' f top.shape → Had c.held f → mark ≤ mark' →
         Below h c hold mark fs → Below h c' hold' mark' (top ∷ fs)
 
   pub data Inv : State → Type 0 where
@@ -59,10 +65,10 @@ module _ (p : Program) (numbering : Numbering) (roots : List Context) where
   pub below_keeps : (h h' : ℕ → Thing) {c : Context} {hold : ℕ → ℕ} {mark : ℕ} {fs : List Frame} → Below h c hold mark fs →
       ((o : ℕ) → o < mark → (h' o ≡ h o) ⊎ ((i : ℕ) × (i < c.held) × (o ≡ hold i))) → ((o : ℕ) → o < mark → Kin (h' o) (h o)) →
       Below h' c hold mark fs
-  below_keeps h h' (bottom root e) same kinds = bottom root e
-  below_keeps h h' (interrupted {c = c} {c' = c'} {f = f} {hold = hold} {hold' = hold'} {mark = mark} {mark' = mark'} {obj = obj} {top = top} i root
+  below_keeps h h' (bottom outer e) same kinds = bottom outer e
+  below_keeps h h' (interrupted {c = c} {c' = c'} {f = f} {hold = hold} {hold' = hold'} {mark = mark} {mark' = mark'} {obj = obj} {top = top} i outer
       none_held r m e no_call fit had le below) same kinds =
-      interrupted i root none_held r m e no_call
+      interrupted i outer none_held r m e no_call
       (heap_fit h h' obj fresh c.held hold mark mark' mark' f top.shape (omega arith)
       (λ g x l. inr (stays (obj g) (same (obj g) (fit.sits.bounded g x l)))) (λ g x l. kinds (obj g) (fit.sits.bounded g x l)) fit)
       had le (below_keeps h h' below (λ o less. inl (stays o (same o (omega (arith, less, le))))) (λ o less. kinds o (omega (arith, less, le))))
@@ -105,11 +111,11 @@ module _ (p : Program) (numbering : Numbering) (roots : List Context) where
       (fs : List Frame) (r : Known_to_be c at f) (same : m ≡ c.method) (fit : Fit h obj fresh c.held hold mark n f t) (had : Had c.held f)
       (below : Below h c hold mark fs) (low : mark ≤ n) (right : AllRight h n) where
     -- one instruction
-    pub goes : (i : Instruction) → code_at p m at ≡ Some i → (to : ℕ) (u : Shape Value) (h' : ℕ → Thing) (n' : ℕ) →
+    pub goes : (i : Instruction) → instruction_at p h m at t ≡ Some i → (to : ℕ) (u : Shape Value) (h' : ℕ → Thing) (n' : ℕ) →
         Goes h obj c.held hold mark n p i at f to u h' n' → Inv (state (frame m to u ∷ fs) h' n')
     goes i e to u h' n' g =
         runs_tidy h' n' c g.after hold mark g.objs (frame m to u) fs
-        (Found.steps i r (subst (λ k. code_at p k at ≡ Some i) same e) g.way) same g.fit
+        (Found.steps i r (seen fit p m c.method at same e) g.way) same g.fit
         (below_keeps h h' below (λ o less. touched o less (g.touches o (omega (arith, less, low)))) (λ o less. g.kinds o (omega (arith, less, low))))
         (let l = g.more in omega (arith, low, l)) g.right
       where
@@ -124,7 +130,7 @@ module _ (p : Program) (numbering : Numbering) (roots : List Context) where
             pick (inr q) = let l = q.1 in let w = s.3 in absurd (omega (arith, less, l, w))
 
     -- a call of a method of the program
-    pub enters : (callee k words : ℕ) → code_at p m at ≡ Some (CallIn callee k words) →
+    pub enters : (callee k words : ℕ) → instruction_at p h m at t ≡ Some (CallIn callee k words) →
         Inv (state (frame callee 0 (begun values (locals_at p callee) (first k t.operands)) ∷ frame m at t ∷ fs) h n)
     enters callee k words e =
         runs_tidy h n d (entry p d) (λ i. obj (takes.old i)) n (λ i. obj (takes.old i))
@@ -162,8 +168,8 @@ module _ (p : Program) (numbering : Numbering) (roots : List Context) where
         }) had takes (λ i less. refl) low below)
         (omega arith) right
       where
-        here : code_at p c.method at ≡ Some (CallIn callee k words)
-        here = subst (λ j. code_at p j at ≡ Some (CallIn callee k words)) same e
+        here : seen_at p c.method at f ≡ Some (CallIn callee k words)
+        here = seen fit p m c.method at same e
 
         xs : List Known
         xs = first k f.shape.operands
@@ -214,13 +220,44 @@ module _ (p : Program) (numbering : Numbering) (roots : List Context) where
       nothing : {P : Type 0} (g : ℕ) (x : Group) → c.groups g ≡ Some x → P
       nothing g x e = none_some (sym (root.groups g) ∙ e)
 
+  -- what a method outside was handed
+  let_go_loose : (v : Value) → is_loose v ≡ true → skeleton.let_go v ≡ v
+  let_go_loose Plain l = refl
+  let_go_loose Nil l = refl
+  let_go_loose (Bit b) l = refl
+  let_go_loose (Map m class) l = refl
+  let_go_loose (Constant class label) l = refl
+  let_go_loose (Ref o) l = absurd (true≢false (sym l))
+  let_go_loose (Again t o) l = absurd (true≢false (sym l))
+  let_go_loose (Another t) l = absurd (true≢false (sym l))
+  let_go_loose (Said form label) l = refl
+
+  lets_go_one : (h : ℕ → Thing) (obj : ℕ → ℕ) (groups : ℕ → Option Group) (a : Known) (v : Value) → Says h obj groups fresh a v →
+      Unheld (reached.let_go a) (skeleton.let_go v)
+  lets_go_one h obj groups a v (bare (laws.other l)) = laws.bare (laws.other (ap is_loose (let_go_loose v l) ∙ l))
+  lets_go_one h obj groups a v (bare (laws.lost l)) = laws.bare (laws.lost (ap is_loose (let_go_loose v l) ∙ l))
+  lets_go_one h obj groups a v (bare laws.bit) = laws.bare laws.bit
+  lets_go_one h obj groups a v (bare laws.null) = laws.bare laws.null
+  lets_go_one h obj groups a v (bare laws.again) = laws.bare (laws.lost refl)
+  lets_go_one h obj groups a v (bare laws.another) = laws.bare (laws.lost refl)
+  lets_go_one h obj groups a v (bare laws.map) = laws.bare (laws.other refl)
+  lets_go_one h obj groups a v (bare laws.constant) = laws.bare (laws.other refl)
+  lets_go_one h obj groups a v (object x e i) = laws.bare (laws.lost refl)
+  lets_go_one h obj groups a v (answer x e i) = laws.bare (laws.other refl)
+
+  lets_go : (h : ℕ → Thing) (obj : ℕ → ℕ) (groups : ℕ → Option Group) {xs : List Known} {vs : List Value} →
+      Both (Says h obj groups fresh) xs vs → Both Unheld (reached.let_go_all xs) (skeleton.let_go_all vs)
+  lets_go h obj groups none = none
+  lets_go h obj groups (more {a = a} {b = v} r rs) = more (lets_go_one h obj groups a v r) (lets_go h obj groups rs)
+
   -- one frame goes on as it was
   pub goes_on : (h : ℕ → Thing) (n : ℕ) {c : Context} {hold : ℕ → ℕ} {mark : ℕ} {top : Frame} {fs : List Frame} →
-      Below h c hold mark (top ∷ fs) → (i : Instruction) → code_at p top.method top.at ≡ Some i → IsNoCallIn i → mark ≤ n → AllRight h n →
+      Below h c hold mark (top ∷ fs) → (i : Instruction) → instruction_at p h top.method top.at top.shape ≡ Some i → IsNoCallIn i → mark ≤ n →
+      AllRight h n →
       Inv (state (top ∷ fs) h n)
   goes_on h n (waits {c = c} {top = top} method k words r m e fit had takes held le below) i d no_call low right =
-      absurd (no_call method k words (some_is (sym d ∙ ap (λ j. code_at p j top.at) m ∙ e)))
-  goes_on h n (interrupted {c = c} {f = f} {hold = hold} {mark = mark} {mark' = mark'} {obj = obj} {top = top} j root none_held r m e no_call' fit had
+      absurd (no_call method k words (sym (one_done fit p top.method c.method top.at m e d)))
+  goes_on h n (interrupted {c = c} {f = f} {hold = hold} {mark = mark} {mark' = mark'} {obj = obj} {top = top} j outer none_held r m e no_call' fit had
       le below) i d no_call low right =
       runs r m (heap_fit h h obj fresh c.held hold mark mark' n f top.shape low (λ g x l. inr refl) (λ g x l. kin refl) fit) had below
       (omega (arith, le, low)) right
@@ -232,5 +269,22 @@ module _ (p : Program) (numbering : Numbering) (roots : List Context) where
   interrupts_keep (runs {c = c} {f = f} {mark = mark} r same fit had below low right)
       (laws.calls_back {m = m} {at = at} {s = s} {fs = fs} {h = h} {n = n} i e no_call d root is_root args bs) =
       runs_tidy h n d (entry p d) (λ i. i) n (λ i. i) (frame d.method 0 (begun values (locals_at p d.method) args)) (frame m at s ∷ fs)
-      (Found.begins (Found.root root is_root)) refl (root_fit h n d is_root args bs)
-      (interrupted i root is_root.held r same (subst (λ j. code_at p j at ≡ Some i) same e) no_call fit had low below) (omega arith) right
+      (Found.begins (Found.called (Found.root root is_root))) refl (root_fit h n d is_root args bs)
+      (interrupted i (Found.root root is_root) is_root.held r same (seen fit p m c.method at same e) no_call fit had low below) (omega arith) right
+  interrupts_keep (runs {c = c} {f = f} {mark = mark} {obj = obj} r same fit had below low right)
+      (laws.calls_meant {m = m} {at = at} {s = s} {fs = fs} {h = h} {n = n} v method e meant) =
+      runs_tidy h n (outside_context method args) (entry p (outside_context method args)) (λ i. i) n (λ i. i)
+      (frame method 0 (begun values (locals_at p method) (skeleton.let_go_all (first (taken v) s.operands)))) (frame m at s ∷ fs)
+      (Found.begins (Found.called out)) refl
+      (root_fit h n (outside_context method args) (record { held = refl; groups = λ g. refl }) (skeleton.let_go_all (first (taken v) s.operands))
+      (lets_go h obj f.groups (both_first (Says h obj f.groups fresh) (taken v) fit.fits.operands)))
+      (interrupted (CallOut v) out refl r same here (λ callee k words q. absurd (cc)) fit had low below) (omega arith) right
+    where
+      args : List Known
+      args = first (taken v) f.shape.operands
+
+      here : seen_at p c.method at f ≡ Some (CallOut v)
+      here = seen fit p m c.method at same e
+
+      out : Found p numbering roots (Outside (outside_context method (first (taken v) f.shape.operands)))
+      out = Found.meant v method r here meant

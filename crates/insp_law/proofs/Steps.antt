@@ -1,9 +1,9 @@
 -- What an instruction of the frame that runs comes to; moves, and objects that are made.
-use Rattle.std.proofs.Common.{◌≡◌, ◌⊎◌, inl, inr, ℕ, suc, ◌<◌, ◌≤◌, Bool, true, false, Option, Some, None}
+use Rattle.std.proofs.Common.{◌≡◌, ◌⊎◌, inl, inr, ℕ, suc, ◌<◌, ◌≤◌, Bool, true, false, List, Option, Some, None}
 use Rattle.std.proofs.Common.{refl, sym, ap, ◌∙◌, subst, arith}
-use Rattle.insp_rules.specs.Program.{Class, Other}
-use Rattle.insp_rules.specs.Program.{Instruction, Make, CallOut, Keep, Program}
-use Rattle.insp_rules.specs.Program.{Shape, nth, popped}
+use Rattle.insp_rules.specs.Program.{Class, Result, Void, Words, Boolean, Of}
+use Rattle.insp_rules.specs.Program.{Invocation, taken, class_of, plainly, Instruction, Make, CallOut, Keep, Program}
+use Rattle.insp_rules.specs.Program.{Shape, shape, nth, rest, popped}
 use Rattle.insp_rules.specs.Program.{pushed, straight}
 use Rattle.insp_rules.specs.Skeleton.{Value, Plain, Ref, Thing, values, put, made}
 use Rattle.insp_rules.specs.Skeleton.{handed}
@@ -11,8 +11,9 @@ use Rattle.insp_rules.specs.Frames.{Known, Bare, unknown, Group, Sight, group}
 use Rattle.insp_rules.specs.Frames.{with_shape, added, Way}
 use Rattle.insp_rules.specs.Frames.{new_group}
 use Rattle.insp_rules.specs.Frames as frames
-use Rattle.insp_rules.proofs.Lists.{Put, is, isnt, putting, put_same, put_other}
-use Rattle.insp_law.proofs.Fitting.{Says, Accords, Kin, kin, Fits, Sits, Fit, fresh, pops, pushes}
+use Rattle.insp_rules.specs.Reached.{Both, more}
+use Rattle.insp_rules.proofs.Lists.{both_filled, Put, is, isnt, putting, put_same, put_other}
+use Rattle.insp_law.proofs.Fitting.{Says, Accords, Kin, kin, Fits, Sits, Fit, fresh, pops}
 use Rattle.insp_law.proofs.Fitting.{operand, others, straights, alike_some}
 use Rattle.insp_law.proofs.Carrying.{heap_fit, add_fit}
 use Rattle.insp_law.proofs.Calls.{handed_is, IsGood, handed_good}
@@ -158,14 +159,24 @@ module _ (h : ℕ → Thing) (obj : ℕ → ℕ) (held : ℕ) (hold : ℕ → �
     pub makes : (c : Class) → i ≡ Make c → Goes (suc at) (pushed (Ref n) t) (put n (made c) h) (suc n)
     makes c e = adds f.shape t false false c (λ e. e) fit.fits (frames.makes c e)
 
-    pub makes_outside : (k : ℕ) (c : Class) (null : Bool) → i ≡ CallOut k (Some c) →
-        Goes (suc at) (pushed (Ref n) (popped k t)) (put n (handed null c) h) (suc n)
-    makes_outside k c null e = adds (popped k f.shape) (popped k t) true null c (λ e. refl) (pops_of k) (frames.outside_made k c e)
+    pub makes_outside : (v : Invocation) (c : Class) (null : Bool) → i ≡ CallOut v → class_of v.result ≡ Some c →
+        Goes (suc at) (pushed (Ref n) (popped (taken v) t)) (put n (handed null c) h) (suc n)
+    makes_outside v c null e q =
+        adds (popped (taken v) f.shape) (popped (taken v) t) true null c (λ e. refl) (pops_of (taken v)) (frames.outside_made v c e q)
 
-    pub goes_outside : (k : ℕ) → i ≡ CallOut k None → Goes (suc at) (pushed Plain (popped k t)) h n
-    goes_outside k e =
-        plain (suc at) (pushed (Bare Other) (popped k f.shape)) (pushed Plain (popped k t)) (frames.outside k e)
-        (pushes h obj f.groups fresh (popped k f.shape) (popped k t) (Bare Other) Plain (others h obj f.groups fresh) (pops_of k))
+    plain_both : (has : Result) {xs : List Known} {vs : List Value} → Both (Says h obj f.groups fresh) xs vs →
+        Both (Says h obj f.groups fresh) (plainly unknown has xs) (plainly Plain has vs)
+    plain_both Void b = b
+    plain_both (Words m) b = both_filled (Says h obj f.groups fresh) unknown Plain (others h obj f.groups fresh) m b
+    plain_both Boolean b = more (others h obj f.groups fresh) b
+    plain_both (Of name class) b = more (others h obj f.groups fresh) b
+
+    pub goes_outside : (v : Invocation) → i ≡ CallOut v → class_of v.result ≡ None →
+        Goes (suc at) (shape t.locals (plainly Plain v.result (rest (taken v) t.operands))) h n
+    goes_outside v e q =
+        plain (suc at) (shape f.shape.locals (plainly unknown v.result (rest (taken v) f.shape.operands)))
+        (shape t.locals (plainly Plain v.result (rest (taken v) t.operands))) (frames.outside v e q)
+        (record { locals = fit.fits.locals; operands = plain_both v.result (pops_of (taken v)).operands })
 
     pub keeps : (k : ℕ) → i ≡ Keep k → Goes (suc at) (popped k t) h n
     keeps k e = plain (suc at) (popped k f.shape) (popped k t) (frames.keeps k e) (pops_of k)

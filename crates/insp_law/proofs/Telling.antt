@@ -9,7 +9,7 @@ use Rattle.insp_rules.specs.Program.{Truth, Constants, Itself, Ordinal, Mapped, 
 use Rattle.insp_rules.specs.Program.{Comparison, Equal, Unequal, Less, AtLeast, More, AtMost, Arm}
 use Rattle.insp_rules.specs.Program.{arm_of, goes_for, agree, Shape, shape}
 use Rattle.insp_rules.specs.Program as program
-use Rattle.insp_rules.specs.Skeleton.{Value, Plain, Nil, Bit, Map, Constant, Ref, Again, Said, is_loose, Thing}
+use Rattle.insp_rules.specs.Skeleton.{Value, Plain, Nil, Bit, Map, Constant, Ref, Again, Another, Said, is_loose, Thing}
 use Rattle.insp_rules.specs.Skeleton.{listed, nulled, both}
 use Rattle.insp_rules.specs.Skeleton.{Tells, known, either}
 use Rattle.insp_rules.specs.Skeleton as skeleton
@@ -32,12 +32,13 @@ nulled_loose os vs (Map b class) l = refl
 nulled_loose os vs (Constant b c) l = refl
 nulled_loose os vs (Ref b) l = absurd (true≢false (sym l))
 nulled_loose os vs (Again b c) l = refl
+nulled_loose os vs (Another b) l = refl
 nulled_loose os vs (Said b c) l = refl
 
 pub nulled_bears : (os : List ℕ) (vs : List Value) {b : BareOf} {v : Value} → Bears b v → nulled os (v ∷ vs) ≡ v ∷ nulled os vs
 nulled_bears os vs {v = v} (laws.other l) = nulled_loose os vs v l
 nulled_bears os vs {v = v} (laws.lost l) = nulled_loose os vs v l
-nulled_bears os vs {v = v} (laws.alias l) = nulled_loose os vs v l
+nulled_bears os vs laws.another = refl
 nulled_bears os vs laws.bit = refl
 nulled_bears os vs laws.null = refl
 nulled_bears os vs laws.again = refl
@@ -69,6 +70,7 @@ asked_shows (Bit b) w z e = refl
 asked_shows (Map b class) w z e = refl
 asked_shows (Constant b l) w z e = refl
 asked_shows (Again b l) w z e = refl
+asked_shows (Another b) w z e = refl
 asked_shows (Said b l) w z e = refl
 
 nulled_nothing : (vs : List Value) → nulled [] vs ≡ vs
@@ -80,6 +82,7 @@ nulled_nothing (Bit b ∷ vs) = ap (λ z. Bit b ∷ z) (nulled_nothing vs)
 nulled_nothing (Map b class ∷ vs) = ap (λ z. Map b class ∷ z) (nulled_nothing vs)
 nulled_nothing (Constant b l ∷ vs) = ap (λ z. Constant b l ∷ z) (nulled_nothing vs)
 nulled_nothing (Again b l ∷ vs) = ap (λ z. Again b l ∷ z) (nulled_nothing vs)
+nulled_nothing (Another b ∷ vs) = ap (λ z. Another b ∷ z) (nulled_nothing vs)
 nulled_nothing (Said b l ∷ vs) = ap (λ z. Said b l ∷ z) (nulled_nothing vs)
 
 pub shown_nothing : (b : Bool) (s : Shape Value) → skeleton.shown b [] s ≡ s
@@ -95,6 +98,7 @@ sign_none q (Map b class) l e = refl
 sign_none q (Constant b c) l e = refl
 sign_none q (Ref b) l e = refl
 sign_none q (Again b c) l e = refl
+sign_none q (Another b) l e = refl
 sign_none q (Said b c) l e = refl
 
 -- a switch goes to the arm that it chooses
@@ -117,6 +121,7 @@ loose_shows (Map b class) l = refl
 loose_shows (Constant b c) l = refl
 loose_shows (Ref b) l = absurd (true≢false (sym l))
 loose_shows (Again b c) l = refl
+loose_shows (Another b) l = refl
 loose_shows (Said b c) l = refl
 
 loose_left : (v w : Value) → is_loose v ≡ true → skeleton.same_shows v w ≡ []
@@ -127,6 +132,7 @@ loose_left (Map b class) w l = refl
 loose_left (Constant b c) w l = refl
 loose_left (Ref b) w l = absurd (true≢false (sym l))
 loose_left (Again b c) w l = refl
+loose_left (Another b) w l = refl
 loose_left (Said b c) w l = refl
 
 loose_right : (o : ℕ) (w : Value) → is_loose w ≡ true → skeleton.same_shows (Ref o) w ≡ []
@@ -137,6 +143,7 @@ loose_right o (Map b class) l = refl
 loose_right o (Constant b c) l = refl
 loose_right o (Ref b) l = absurd (true≢false (sym l))
 loose_right o (Again b c) l = refl
+loose_right o (Another b) l = refl
 loose_right o (Said b c) l = refl
 
 nil_right : (w : Value) → is_loose w ≡ true → skeleton.same_shows Nil w ≡ []
@@ -147,6 +154,7 @@ nil_right (Map b class) l = refl
 nil_right (Constant b c) l = refl
 nil_right (Ref b) l = absurd (true≢false (sym l))
 nil_right (Again b c) l = refl
+nil_right (Another b) l = refl
 nil_right (Said b c) l = refl
 
 told_is : {b c : Bool} → Tells (Some b) c → b ≡ c
@@ -175,6 +183,7 @@ module _ (h : ℕ → Thing) where
   same_none (Map b class) w z e = refl
   same_none (Constant b l) w z e = refl
   same_none (Again b l) w z e = refl
+  same_none (Another b) w z e = refl
   same_none (Said b l) w z e = refl
 
   abbrev pub AllNull : List ℕ → Type 0
@@ -188,6 +197,7 @@ module _ (h : ℕ → Thing) where
   null_dead (Map b class) q o e = no_one o e
   null_dead (Constant b c) q o e = no_one o e
   null_dead (Again b c) q o e = no_one o e
+  null_dead (Another b) q o e = no_one o e
   null_dead (Said b c) q o e = no_one o e
 
   pub null_sure : (v : Value) → Tells (skeleton.is_nil h v) false → (o : ℕ) → skeleton.null_shows v ≡ o ∷ [] → (h o).null ≡ false
@@ -198,6 +208,7 @@ module _ (h : ℕ → Thing) where
   null_sure (Map b class) q o e = absurd (cc)
   null_sure (Constant b c) q o e = absurd (cc)
   null_sure (Again b c) q o e = absurd (cc)
+  null_sure (Another b) q o e = absurd (cc)
   null_sure (Said b c) q o e = absurd (cc)
 
   pub same_dead : (v w : Value) → Tells (skeleton.are_same h v w) true → AllNull (skeleton.same_shows v w)
@@ -223,18 +234,21 @@ module _ (h : ℕ → Thing) where
   same_dead Nil (Map b class) q o e = no_one o e
   same_dead Nil (Constant b c) q o e = no_one o e
   same_dead Nil (Again b c) q o e = no_one o e
+  same_dead Nil (Another b) q o e = no_one o e
   same_dead Nil (Said b c) q o e = no_one o e
   same_dead (Ref a) Plain q o e = no_one o e
   same_dead (Ref a) (Bit b) q o e = no_one o e
   same_dead (Ref a) (Map b class) q o e = no_one o e
   same_dead (Ref a) (Constant b c) q o e = no_one o e
   same_dead (Ref a) (Again b c) q o e = no_one o e
+  same_dead (Ref a) (Another b) q o e = no_one o e
   same_dead (Ref a) (Said b c) q o e = no_one o e
   same_dead Plain w q o e = no_one o e
   same_dead (Bit b) w q o e = no_one o e
   same_dead (Map b class) w q o e = no_one o e
   same_dead (Constant b c) w q o e = no_one o e
   same_dead (Again b c) w q o e = no_one o e
+  same_dead (Another b) w q o e = no_one o e
   same_dead (Said b c) w q o e = no_one o e
 
   pub same_sure : (v w : Value) → Tells (skeleton.are_same h v w) false → (o : ℕ) → skeleton.same_shows v w ≡ o ∷ [] → (h o).null ≡ false
@@ -251,18 +265,21 @@ module _ (h : ℕ → Thing) where
   same_sure Nil (Map b class) q o e = absurd (cc)
   same_sure Nil (Constant b c) q o e = absurd (cc)
   same_sure Nil (Again b c) q o e = absurd (cc)
+  same_sure Nil (Another b) q o e = absurd (cc)
   same_sure Nil (Said b c) q o e = absurd (cc)
   same_sure (Ref a) Plain q o e = absurd (cc)
   same_sure (Ref a) (Bit b) q o e = absurd (cc)
   same_sure (Ref a) (Map b class) q o e = absurd (cc)
   same_sure (Ref a) (Constant b c) q o e = absurd (cc)
   same_sure (Ref a) (Again b c) q o e = absurd (cc)
+  same_sure (Ref a) (Another b) q o e = absurd (cc)
   same_sure (Ref a) (Said b c) q o e = absurd (cc)
   same_sure Plain w q o e = absurd (cc)
   same_sure (Bit b) w q o e = absurd (cc)
   same_sure (Map b class) w q o e = absurd (cc)
   same_sure (Constant b c) w q o e = absurd (cc)
   same_sure (Again b c) w q o e = absurd (cc)
+  same_sure (Another b) w q o e = absurd (cc)
   same_sure (Said b c) w q o e = absurd (cc)
   -- behind a test that showed that these are null
 
@@ -286,7 +303,7 @@ module _ (h : ℕ → Thing) (obj : ℕ → ℕ) (held : ℕ) (hold : ℕ → �
   may_null a v (bare (laws.lost l)) c e = none_some e
   may_null a v (bare laws.bit) c e = none_some e
   may_null a v (bare laws.again) c e = none_some e
-  may_null a v (bare (laws.alias l)) c e = none_some e
+  may_null a v (bare laws.another) c e = none_some e
   may_null a v (bare laws.map) c e = none_some e
   may_null a v (bare laws.constant) c e = none_some e
   may_null a v (object {g = g} {o = o} x e k) c d = go x.null refl
@@ -499,7 +516,7 @@ module _ (h : ℕ → Thing) (obj : ℕ → ℕ) (held : ℕ) (hold : ℕ → �
   null_are a v (answer x e k) = shows_none refl
   null_are a v (bare (laws.other l)) = shows_none (loose_shows v l)
   null_are a v (bare (laws.lost l)) = shows_none (loose_shows v l)
-  null_are a v (bare (laws.alias l)) = shows_none (loose_shows v l)
+  null_are a v (bare laws.another) = shows_none refl
   null_are a v (bare laws.bit) = shows_none refl
   null_are a v (bare laws.null) = shows_none refl
   null_are a v (bare laws.again) = shows_none refl
@@ -521,7 +538,7 @@ module _ (h : ℕ → Thing) (obj : ℕ → ℕ) (held : ℕ) (hold : ℕ → �
   same_are a c v w (object {g = g} {o = o} x e k) (bare laws.null) = shows_one g o x e k
   same_are a c v w (object {g = g} {o = o} x e k) (bare (laws.other l)) = shows_none (loose_right o w l)
   same_are a c v w (object {g = g} {o = o} x e k) (bare (laws.lost l)) = shows_none (loose_right o w l)
-  same_are a c v w (object {g = g} {o = o} x e k) (bare (laws.alias l)) = shows_none (loose_right o w l)
+  same_are a c v w (object {g = g} {o = o} x e k) (bare laws.another) = shows_none refl
   same_are a c v w (object {g = g} {o = o} x e k) (bare laws.bit) = shows_none refl
   same_are a c v w (object {g = g} {o = o} x e k) (bare laws.again) = shows_none refl
   same_are a c v w (object {g = g} {o = o} x e k) (bare laws.map) = shows_none refl
@@ -531,7 +548,7 @@ module _ (h : ℕ → Thing) (obj : ℕ → ℕ) (held : ℕ) (hold : ℕ → �
   same_are a c v w (bare laws.null) (object {g = g} {o = o} x e k) = shows_one g o x e k
   same_are a c v w (bare laws.null) (bare (laws.other l)) = shows_none (nil_right w l)
   same_are a c v w (bare laws.null) (bare (laws.lost l)) = shows_none (nil_right w l)
-  same_are a c v w (bare laws.null) (bare (laws.alias l)) = shows_none (nil_right w l)
+  same_are a c v w (bare laws.null) (bare laws.another) = shows_none refl
   same_are a c v w (bare laws.null) (bare laws.bit) = shows_none refl
   same_are a c v w (bare laws.null) (bare laws.null) = shows_none refl
   same_are a c v w (bare laws.null) (bare laws.again) = shows_none refl
@@ -540,7 +557,7 @@ module _ (h : ℕ → Thing) (obj : ℕ → ℕ) (held : ℕ) (hold : ℕ → �
   same_are a c v w (bare laws.null) (answer y d l) = shows_none refl
   same_are a c v w (bare (laws.other l)) t = shows_none (loose_left v w l)
   same_are a c v w (bare (laws.lost l)) t = shows_none (loose_left v w l)
-  same_are a c v w (bare (laws.alias l)) t = shows_none (loose_left v w l)
+  same_are a c v w (bare laws.another) t = shows_none refl
   same_are a c v w (bare laws.bit) t = shows_none refl
   same_are a c v w (bare laws.again) t = shows_none refl
   same_are a c v w (bare laws.map) t = shows_none refl

@@ -5,14 +5,15 @@ use Rattle.std.proofs.Common.{refl, sym, ap, ◌∙◌, subst, arith}
 use Rattle.std.specs.Prelude.{◌==◌, if◌then◌else◌}
 use Rattle.std.proofs.lemmas.Bool.Decides.{eqb_tells}
 use Rattle.mg_text.specs.Call.{Name}
-use Rattle.insp_rules.specs.Program.{Result, Instruction, Call, CallIn, Program, code_at, handlers_at, Shape, nth, first, caught}
-use Rattle.insp_rules.specs.Skeleton.{Value, Plain, Ref, LeavesAll, Thing, Frame, State, frame, state, values, put, upset, upset_all, among, Unwinds, out}
+use Rattle.insp_rules.specs.Program.{Result, Instruction, Call, CallIn, Program, handlers_at, Shape, nth, first, caught}
+use Rattle.insp_rules.specs.Skeleton.{instruction_at, Value, Plain, Ref, LeavesAll, Thing, Frame, State, frame, state, values, put, upset, upset_all, among, Unwinds, out}
 use Rattle.insp_rules.specs.Skeleton.{caught_in, passes, stops}
 use Rattle.insp_rules.specs.Frames.{Known, unknown, Object, Group, Sight, known_among, upset_group}
 use Rattle.insp_rules.specs.Reached.{Both, none, more, Context, Numbering, Takes, Renames, handed_over, upset_if, caught_before, MayLeaveAll}
 use Rattle.insp_rules.specs.Reached.{caught_upon, Found}
 use Rattle.insp_rules.specs.Reached as reached
 use Rattle.insp_rules.proofs.Lists.{some_is, none_some, both_first, Put, is, isnt, putting, put_same, put_other}
+use Rattle.insp_law.proofs.Seeing.{seen, one_done}
 use Rattle.insp_law.proofs.Fitting.{Says, bare, object, answer, operand, others, Accords, Kin, kin, Fit, fresh}
 use Rattle.insp_law.proofs.Carrying.{forgetting_all, renamed}
 use Rattle.insp_law.proofs.Calls.{upset_is, IsGood, upset_good}
@@ -172,13 +173,14 @@ module _ (p : Program) (numbering : Numbering) (roots : List Context) where
   -- out of a method, to the first frame that catches it
   pub unwinds : (h : ℕ → Thing) (n : ℕ) → AllRight h n → {c : Context} {hold : ℕ → ℕ} {mark : ℕ} {fs : List Frame} {s : State} →
       Below p numbering roots h c hold mark fs → mark ≤ n → Unwinds p h n fs s → Inv p numbering roots s
-  unwinds h n right (bottom root e) low out = over right
-  unwinds h n right (interrupted i root none_held r m l no_call fit had le below) low (passes u) =
+  unwinds h n right (bottom outer e) low out = over right
+  unwinds h n right (interrupted i outer none_held r m l no_call fit had le below) low (passes u) =
       unwinds h n right below (omega (arith, le, low)) u
-  unwinds h n right {hold = hold'} (interrupted i root none_held r m l no_call fit had le below) low (stops j e no_call') =
-      goes_on p numbering roots h n {hold = hold'} (interrupted i root none_held r m l no_call fit had le below) j e no_call' low right
-  unwinds h n right (interrupted i root none_held r m l no_call fit had le below) low (caught_in {at = at0} callee k' words' to l0 catches) =
-      absurd (no_call callee k' words' (some_is (sym l ∙ sym (ap (λ j. code_at p j at0) m) ∙ l0)))
+  unwinds h n right {hold = hold'} (interrupted i outer none_held r m l no_call fit had le below) low (stops j e no_call') =
+      goes_on p numbering roots h n {hold = hold'} (interrupted i outer none_held r m l no_call fit had le below) j e no_call' low right
+  unwinds h n right (interrupted {c = c} i outer none_held r m l no_call fit had le below) low
+      (caught_in {m = m0} {at = at0} callee k' words' to l0 catches) =
+      absurd (no_call callee k' words' (one_done fit p m0 c.method at0 m l l0))
   unwinds h n right (waits method k words r m l fit had takes held le below) low (stops j e no_call') =
       goes_on p numbering roots h n (waits method k words r m l fit had takes held le below) j e no_call' low right
   unwinds h n right (waits method k words r m l fit had takes held le below) low (passes u) = unwinds h n right below (omega (arith, le, low)) u
@@ -191,7 +193,7 @@ module _ (p : Program) (numbering : Numbering) (roots : List Context) where
     where
       same : k ≡ k'
       same =
-          let q : CallIn method k words ≡ CallIn callee k' words' = some_is (sym l ∙ sym (ap (λ i. code_at p i at0) m) ∙ l0) in
+          let q : CallIn method k words ≡ CallIn callee k' words' = one_done fit p m0 c.method at0 m l l0 in
           cc
 
   -- in the frame that runs
@@ -203,11 +205,11 @@ module _ (p : Program) (numbering : Numbering) (roots : List Context) where
     here = subst (λ j. Contains (handlers_at p j at) to) same catches
 
     -- a call that hasn't begun
-    pub unbegun_here : (callee k words : ℕ) → code_at p m at ≡ Some (CallIn callee k words) →
+    pub unbegun_here : (callee k words : ℕ) → instruction_at p h m at t ≡ Some (CallIn callee k words) →
         Inv p numbering roots (state (frame m to (caught values t) ∷ fs) (upset_all (first k t.operands) h) n)
     unbegun_here callee k words e =
         come_upon h n right c f hold mark n obj fresh m to t fs k
-        (Found.throws_through to callee k words r here (subst (λ j. code_at p j at ≡ Some (CallIn callee k words)) same e)) same fit
+        (Found.throws_through to callee k words r here (seen fit p m c.method at same e)) same fit
         (λ g q. absurd (true≢false (sym q))) (omega arith) low below
 
     -- what is known of an object there
@@ -226,10 +228,10 @@ module _ (p : Program) (numbering : Numbering) (roots : List Context) where
           (fit.kinds g x l).null (ap (λ a. (h a).null) (sym z.2) ∙ leaves.on_null name k has z.0 e z.1);
     }
 
-    pub caught_here : (i : Instruction) → code_at p m at ≡ Some i → LeavesAll h i t →
+    pub caught_here : (i : Instruction) → instruction_at p h m at t ≡ Some i → LeavesAll h i t →
         Inv p numbering roots (state (frame m to (caught values t) ∷ fs) h n)
     caught_here i e leaves =
-        runs (Found.throws to i r here (subst (λ j. code_at p j at ≡ Some i) same e) (may_leave i leaves)) same
+        runs (Found.throws to i r here (seen fit p m c.method at same e) (may_leave i leaves)) same
         (renamed h obj c.held hold mark n (caught_before f) (numbering.tidy c.held (caught_before f)) (caught values t) tidies fits)
         (λ a x d above. tidies.had a x d above) below low right
       where
@@ -244,11 +246,11 @@ module _ (p : Program) (numbering : Numbering) (roots : List Context) where
         tidies : Renames c.held (caught_before f) (numbering.tidy c.held (caught_before f))
         tidies = numbering.renames c.held (caught_before f) (fit_whole h obj fresh c.held hold mark n (caught_before f) (caught values t) fits)
 
-    pub caught_amid : (name : Name) (k : ℕ) (has : Result) (o g : ℕ) (x : Group) → code_at p m at ≡ Some (Call name k has) →
+    pub caught_amid : (name : Name) (k : ℕ) (has : Result) (o g : ℕ) (x : Group) → instruction_at p h m at t ≡ Some (Call name k has) →
         nth unknown f.shape.operands k ≡ Object g → f.groups g ≡ Some x → o ≡ obj g →
         Inv p numbering roots (state (frame m to (caught values t) ∷ fs) (put o (upset (h o)) h) n)
     caught_amid name k has o g x e receiver live at_o =
-        runs (Found.throws_amid to name k has g r here (subst (λ j. code_at p j at ≡ Some (Call name k has)) same e) receiver) same
+        runs (Found.throws_amid to name k has g r here (seen fit p m c.method at same e) receiver) same
         (renamed h' obj c.held hold mark n (caught_upon (Object g ∷ []) f) (numbering.tidy c.held (caught_upon (Object g ∷ []) f))
         (caught values t) tidies fits)
         (λ a x d above. tidies.had a x d above)

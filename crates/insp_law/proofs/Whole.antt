@@ -1,7 +1,7 @@
 -- What holds at each moment of a run.
 use Rattle.std.proofs.Common.{[], ◌∷◌, ◌≡◌, inl, inr, ℕ, suc, ◌<◌, Bool, true, true≢false, List, Option, Some, None}
 use Rattle.std.proofs.Common.{refl, sym, ap, ◌∙◌, subst, arith}
-use Rattle.insp_rules.specs.Program.{Bare as BareOf, Call, CallOut, Keep, Make, Return, Program, code_at, nth, rest, shape}
+use Rattle.insp_rules.specs.Program.{Bare as BareOf, Call, CallOut, Keep, Make, Program, taken, plainly, nth, rest, shape}
 use Rattle.insp_rules.specs.Program.{popped, pushed, begun, locals_at}
 use Rattle.insp_rules.specs.Skeleton.{Value, Plain, Nil, Ref, Said, Thing, Frame, State, frame, state, values, result, Step, Throws, among}
 use Rattle.insp_rules.specs.Skeleton.{has_it}
@@ -11,6 +11,7 @@ use Rattle.insp_rules.specs.Frames.{Known, unknown, Object, Group}
 use Rattle.insp_rules.specs.Reached.{Context, Numbering, Inspected, Found, entry}
 use Rattle.insp_law.specs.Laws.{Begins, IsRight, MayBeLeft, IsSafe, RunsAreSafe, Runs}
 use Rattle.insp_law.specs.Laws as laws
+use Rattle.insp_law.proofs.Seeing.{seen}
 use Rattle.insp_law.proofs.Fitting.{Says, bare, object, answer, fresh, operand}
 use Rattle.insp_law.proofs.Steps.{moved, makes, makes_outside, goes_outside, keeps}
 use Rattle.insp_law.proofs.Jumping.{jumped}
@@ -28,7 +29,7 @@ no_ref {v = v} {o = o} (laws.lost l) e = loose_ref v o l e
 no_ref laws.bit e = absurd (cc)
 no_ref laws.null e = absurd (cc)
 no_ref laws.again e = absurd (cc)
-no_ref {v = v} {o = o} (laws.alias l) e = loose_ref v o l e
+no_ref laws.another e = absurd (cc)
 no_ref laws.map e = absurd (cc)
 no_ref laws.constant e = absurd (cc)
 
@@ -64,29 +65,30 @@ module _ (p : Program) (numbering : Numbering) (roots : List Context) (inspected
       goes p numbering roots h n c f hold mark obj m at s fs r same fit had below low right (Call name k has) e (suc at)
       (shape s.locals (skeleton.told has label (rest (suc k) s.operands))) (skeleton.put o (skeleton.called (h o) name (Some label)) h) n
       (tells h obj c.held hold mark n p (Call name k has) at f s fit right low name k has o label refl q there may
-      ((inspected.holds c at f (Call name k has) r (subst (λ j. code_at p j at ≡ Some (Call name k has)) same e)).calls name k has refl))
+      ((inspected.holds c at f (Call name k has) r (seen fit p m c.method at same e)).calls name k has refl))
   steps_keep (runs {c = c} {f = f} {hold = hold} {mark = mark} {obj = obj} r same fit had below low right)
       (skeleton.calls {m = m} {at = at} {s = s} {fs = fs} {h = h} {n = n} name k has o vs e q there may lefts) =
       goes p numbering roots h n c f hold mark obj m at s fs r same fit had below low right (Call name k has) e (suc at)
       (shape s.locals vs) (skeleton.put o (skeleton.called (h o) name None) h) n
       (calls h obj c.held hold mark n p (Call name k has) at f s fit right low name k has o vs refl q there may lefts
-      ((inspected.holds c at f (Call name k has) r (subst (λ j. code_at p j at ≡ Some (Call name k has)) same e)).calls name k has refl))
+      ((inspected.holds c at f (Call name k has) r (seen fit p m c.method at same e)).calls name k has refl))
   steps_keep (runs {c = c} {f = f} {hold = hold} {mark = mark} {obj = obj} r same fit had below low right)
       (skeleton.calls_made {m = m} {at = at} {s = s} {fs = fs} {h = h} {n = n} name k has o d null e q there may new) =
       goes p numbering roots h n c f hold mark obj m at s fs r same fit had below low right (Call name k has) e (suc at)
       (shape s.locals (Ref n ∷ rest (suc k) s.operands)) (skeleton.put n (skeleton.handed null d) (skeleton.put o (skeleton.called (h o) name None) h))
       (suc n)
       (calls_made h obj c.held hold mark n p (Call name k has) at f s fit right low name k has d null o refl q there may new
-      ((inspected.holds c at f (Call name k has) r (subst (λ j. code_at p j at ≡ Some (Call name k has)) same e)).calls name k has refl))
+      ((inspected.holds c at f (Call name k has) r (seen fit p m c.method at same e)).calls name k has refl))
   steps_keep (runs {c = c} {f = f} {hold = hold} {mark = mark} {obj = obj} r same fit had below low right)
-      (skeleton.outside {m = m} {at = at} {s = s} {fs = fs} {h = h} {n = n} k e) =
-      goes p numbering roots h n c f hold mark obj m at s fs r same fit had below low right (CallOut k None) e (suc at)
-      (pushed Plain (popped k s)) h n (goes_outside h obj c.held hold mark n p (CallOut k None) at f s fit right low k refl)
+      (skeleton.outside {m = m} {at = at} {s = s} {fs = fs} {h = h} {n = n} v e q) =
+      goes p numbering roots h n c f hold mark obj m at s fs r same fit had below low right (CallOut v) e (suc at)
+      (shape s.locals (plainly Plain v.result (rest (taken v) s.operands))) h n
+      (goes_outside h obj c.held hold mark n p (CallOut v) at f s fit right low v refl q)
   steps_keep (runs {c = c} {f = f} {hold = hold} {mark = mark} {obj = obj} r same fit had below low right)
-      (skeleton.outside_made {m = m} {at = at} {s = s} {fs = fs} {h = h} {n = n} k d null e) =
-      goes p numbering roots h n c f hold mark obj m at s fs r same fit had below low right (CallOut k (Some d)) e (suc at)
-      (pushed (Ref n) (popped k s)) (skeleton.put n (skeleton.handed null d) h) (suc n)
-      (makes_outside h obj c.held hold mark n p (CallOut k (Some d)) at f s fit right low k d null refl)
+      (skeleton.outside_made {m = m} {at = at} {s = s} {fs = fs} {h = h} {n = n} v d null e q) =
+      goes p numbering roots h n c f hold mark obj m at s fs r same fit had below low right (CallOut v) e (suc at)
+      (pushed (Ref n) (popped (taken v) s)) (skeleton.put n (skeleton.handed null d) h) (suc n)
+      (makes_outside h obj c.held hold mark n p (CallOut v) at f s fit right low v d null refl q)
   steps_keep (runs {c = c} {f = f} {hold = hold} {mark = mark} {obj = obj} r same fit had below low right)
       (skeleton.keeps {m = m} {at = at} {s = s} {fs = fs} {h = h} {n = n} k e) =
       goes p numbering roots h n c f hold mark obj m at s fs r same fit had below low right (Keep k) e (suc at) (popped k s) h n
@@ -97,7 +99,7 @@ module _ (p : Program) (numbering : Numbering) (roots : List Context) (inspected
   steps_keep (runs {c = c} {f = f} {hold = hold} {mark = mark} {obj = obj} r same fit had below low right)
       (skeleton.returns {m = m} {at = at} {m0 = m0} {at0 = at0} {s = s} {s0 = s0} {fs = fs} {h = h} {n = n} callee k words e e0) =
       come_back p numbering roots h n c at f hold mark obj s (frame m0 at0 s0) fs callee k words r
-      (subst (λ j. code_at p j at ≡ Some (Return words)) same e) fit low right e0 below
+      (seen fit p m c.method at same e) fit low right e0 below
   steps_keep (runs r same fit had below low right) (skeleton.ends words e) = over right
 
   pub throws_keep : {s t : State} → Inv p numbering roots s → Throws p s t → Inv p numbering roots t
@@ -119,8 +121,8 @@ module _ (p : Program) (numbering : Numbering) (roots : List Context) (inspected
   begins_right s b =
       subst (Inv p numbering roots) (sym b.is)
       (runs_tidy p numbering roots b.things 0 b.context (entry p b.context) (λ i. i) 0 (λ i. i)
-      (frame b.context.method 0 (begun values (locals_at p b.context.method) b.args)) [] (Found.begins (Found.root b.root b.is_root)) refl
-      (root_fit p numbering roots b.things 0 b.context b.is_root b.args b.unheld) (bottom b.root b.is_root.held) (omega arith)
+      (frame b.context.method 0 (begun values (locals_at p b.context.method) b.args)) [] (Found.begins (Found.called (Found.root b.root b.is_root))) refl
+      (root_fit p numbering roots b.things 0 b.context b.is_root b.args b.unheld) (bottom (Found.root b.root b.is_root) b.is_root.held) (omega arith)
       (λ o less. absurd (omega (arith, less))))
 
   pub runs_keep : (s : State) → Begins p roots s → {t : State} → Runs p roots s t → Inv p numbering roots t

@@ -15,6 +15,8 @@ use Rattle.insp_rules.specs.Program.{IfSame}
 use Rattle.insp_rules.specs.Program.{IfSign, IfNumbers, Switch, Make, Call, CallOut, Keep, Return, Throw, Program, number_of, arm_of, goes_for}
 use Rattle.insp_rules.specs.Program.{compares}
 use Rattle.insp_rules.specs.Program.{is_zero_by, agree, Shape, Kit, nth, first, rest, filled, shape, popped, pushed, straight, way}
+use Rattle.insp_rules.specs.Program.{Invocation, Receiver, OfNull, Whole, Perhaps, Unknown, taken, class_of, names, is_protocol, done, plainly}
+use Rattle.insp_rules.specs.Program.{code_at}
 use Rattle.insp_rules.specs.Program as program
 use Rattle.insp_rules.specs.Skeleton.{put, thrown_at, offered_at, fresh_of, Tells, both, listed}
 
@@ -252,6 +254,21 @@ told g (Of class followed) xs = Answer g (Itself (Constants class)) ∷ xs
 abbrev pub asked : ℕ → Group → Element → Shape Known → Sight → Sight
 asked g x e s f = sight s (put g (Some (group x.of e x.null)) f.groups) f.count
 
+-- what is known of a receiver
+abbrev pub class_known : Option Group → Receiver
+class_known None = Unknown
+class_known (Some x) = Whole x.of
+
+abbrev pub receiver_of : (ℕ → Option Group) → Known → Receiver
+receiver_of gs (Bare Null) = OfNull
+receiver_of gs (Bare (Alias t)) = Perhaps t
+receiver_of gs (Object g) = class_known (gs g)
+receiver_of gs _ = Unknown
+
+-- what is done at a place by a frame of which this is known
+abbrev pub seen_at : Program → (method place : ℕ) → Sight → Option Instruction
+seen_at p m place f = done unknown (receiver_of f.groups) (code_at p m place) f.shape.operands
+
 -- `Way p held i at f to g`: behind the instruction i at this place may be, at the place `to`, what is known by g
 pub data Way (p : Program) (held : ℕ) (i : Instruction) (at : ℕ) (f : Sight) : ℕ → Sight → Type 0 where
   moves : (s : Shape Known) → straight knowns i f.shape ≡ Some s → Way p held i at f (suc at) (with_shape f s)
@@ -302,9 +319,10 @@ pub data Way (p : Program) (held : ℕ) (i : Instruction) (at : ℕ) (f : Sight)
       m.target ≡ ByAnswer branches →
       Way p held i at f (suc at)
       (behind g (group x.of (Pending branches) false) (told g has (forget_all (is_it g) (rest (suc k) f.shape.operands))) f.shape f)
-  outside : (k : ℕ) → i ≡ CallOut k None → Way p held i at f (suc at) (with_shape f (pushed (Bare Other) (popped k f.shape)))
-  outside_made : (k : ℕ) (c : Class) → i ≡ CallOut k (Some c) →
-      Way p held i at f (suc at) (added (new_group true c) (popped k f.shape) f)
+  outside : (v : Invocation) → i ≡ CallOut v → class_of v.result ≡ None →
+      Way p held i at f (suc at) (with_shape f (shape f.shape.locals (plainly unknown v.result (rest (taken v) f.shape.operands))))
+  outside_made : (v : Invocation) (c : Class) → i ≡ CallOut v → class_of v.result ≡ Some c →
+      Way p held i at f (suc at) (added (new_group true c) (popped (taken v) f.shape) f)
   keeps : (k : ℕ) → i ≡ Keep k → Way p held i at f (suc at) (with_shape f (popped k f.shape))
 
 -- ---- demands
@@ -338,11 +356,45 @@ abbrev pub given_back : ℕ → Shape Known → Known
 given_back (suc zero) s = nth unknown s.operands 0
 given_back _ s = Bare Other
 
+-- a receiver that isn't handed out: the method hands none on, or it is one that the class's files don't have
+pub data StaysHere (v : Invocation) : Type 0 where
+  harmless : v.harmless ≡ true → StaysHere v
+  elsewhere : (c : Class) → v.named ≡ Some c → v.meant ≡ [] → StaysHere v
+
 pub record Holds (p : Program) (held at : ℕ) (i : Instruction) (f : Sight) : Type 0 where
   pub calls : (name : Name) (k : ℕ) (has : Result) → i ≡ Call name k has → CallHolds name k f
-  pub hands : (k : ℕ) (c : Option Class) → i ≡ CallOut k c → NoneFollowed (first k f.shape.operands)
+  pub hands : (v : Invocation) → i ≡ CallOut v → NoneFollowed (first v.words f.shape.operands)
+  pub receives : (v : Invocation) → i ≡ CallOut v → v.has_receiver ≡ true → is_followed (nth unknown f.shape.operands v.words) ≡ true →
+      StaysHere v
   pub keeps : (k : ℕ) → i ≡ Keep k → NoneFollowed (first k f.shape.operands)
   pub throws : i ≡ Throw → NoneFollowed (first 1 f.shape.operands)
   pub open_behind : (to : ℕ) (after : Sight) → Way p held i at f to after → NoneOpen held after
   pub returns : (words : ℕ) → i ≡ Return words → (g : ℕ) (x : Group) → f.groups g ≡ Some x → held ≤ g →
       known_among g (given_back words f.shape ∷ []) ≡ false → finished x ≡ true
+
+-- whether it is a call of a protocol on something of which it isn't known which object it is; in a method of a class that is followed itself only
+-- on what may be an object that is followed
+abbrev pub is_unknown_call : (is_of_followed : Bool) → Invocation → Known → Bool
+is_unknown_call followed v (Object g) = false
+is_unknown_call followed v (Bare Null) = false
+is_unknown_call followed v (Bare Lost) = is_protocol v
+is_unknown_call followed v (Bare (Alias t)) = if names t v.name then true else is_protocol v
+is_unknown_call followed v _ = if followed then false else is_protocol v
+
+-- the receiver of a call
+pub record Receives (is_of_followed : Bool) (v : Invocation) (a : Known) : Type 0 where
+  pub not_null : a ≡ Bare Null → is_protocol v ≡ false
+  pub known : is_unknown_call is_of_followed v a ≡ false
+
+-- what a method may give back as an object of a class: null, an object of its own in its initial state, and for an interface something that
+-- isn't followed
+pub data IsNew (held : ℕ) (groups : ℕ → Option Group) (class : Class) : Known → Type 0 where
+  null : IsNew held groups class (Bare Null)
+  new : {g : ℕ} (x : Group) → held ≤ g → groups g ≡ Some x → x.of.typestate ≡ class.typestate →
+      x.element ≡ At (initial class.typestate) → IsNew held groups class (Object g)
+  other : class.is_interface ≡ true → IsNew held groups class (Bare Other)
+
+-- what a method with this result gives back that may be called otherwise
+pub record IsHandedBack (has : Result) (held : ℕ) (groups : ℕ → Option Group) (a : Known) : Type 0 where
+  pub new : (class : Class) → class_of has ≡ Some class → IsNew held groups class a
+  pub plain : class_of has ≡ None → is_followed a ≡ false

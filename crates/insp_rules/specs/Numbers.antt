@@ -4,7 +4,7 @@ use Rattle.insp_rules.specs.Program.{nth, shape}
 use Rattle.insp_rules.specs.Frames.{Known, Bare, Object, Answer, Group, Sight, sight, is_below}
 use Rattle.insp_rules.specs.Skeleton.{listed}
 use Rattle.insp_rules.specs.Program.{Bare as BareOf, Other, Bit, Map, Constant}
-use Rattle.insp_rules.specs.Reached.{Context, Numbering, back}
+use Rattle.insp_rules.specs.Reached.{Context, Numbering}
 
 abbrev pub size : List ℕ → ℕ
 size [] = zero

@@ -1,16 +1,26 @@
 -- Code, as far as it moves, tests and calls followed objects.
-use Rattle.std.specs.Prelude.{ℕ, zero, suc, Bool, true, false, not, List, [], ◌∷◌, Option, Some, None, slice_get, option_and_then}
+use Rattle.std.specs.Prelude.{ℕ, zero, suc, Bool, true, false, not, List, [], ◌∷◌, Option, Some, None, slice_get, option_and_then, is_some}
 use Rattle.std.specs.Prelude.{if◌then◌else◌}
 use Rattle.std.specs.Prelude.{◌==◌, codes}
 use Rattle.std.specs.Str.{bytes_eq}
 use Rattle.mg_text.specs.Call.{Name}
-use Rattle.ts_tree.specs.Typestate.{Typestate}
+use Rattle.ts_tree.specs.Typestate.{State, Typestate}
+use Rattle.ts_tree.specs.Calls.{offered_in}
 
--- a class that is followed, with its typestate and the names of the classes that it extends
+-- a class that is followed, with its typestate, the names of the classes that it extends, and whether it is an interface
 pub record Class : Type 0 where
   pub name : Name
   pub typestate : Typestate
   pub above : List Name
+  pub is_interface : Bool
+
+abbrev pub has_method : List State → Name → Bool
+has_method [] name = false
+has_method (s ∷ ss) name = if is_some (offered_in s.methods name) then true else has_method ss name
+
+-- whether some state of the typestate has a method of this name; descriptors aren't compared
+abbrev pub names : Typestate → Name → Bool
+names t name = has_method t.states name
 
 abbrev pub is_among : Name → List Name → Bool
 is_among name [] = false
@@ -59,6 +69,47 @@ pub data Result : Type 0 where
   Boolean : Result
   Of : Name → Option Class → Result
 
+-- the followed class that a result is of
+abbrev pub class_of : Result → Option Class
+class_of Void = None
+class_of (Words n) = None
+class_of Boolean = None
+class_of (Of name class) = class
+
+-- how many operands it is
+abbrev pub size_of : Result → ℕ
+size_of Void = zero
+size_of (Words n) = n
+size_of Boolean = suc zero
+size_of (Of name class) = suc zero
+
+-- a call, as a class file has it
+pub record Invocation : Type 0 where
+  pub name : Name
+  -- how many operands its arguments are, and whether a receiver is below them
+  pub words : ℕ
+  pub has_receiver : Bool
+  -- the class that it names, where that is followed
+  pub named : Option Class
+  pub result : Result
+  -- the method of the program that is meant for sure
+  pub sure : Option ℕ
+  -- whether the type of a parameter or of the result is a followed class
+  pub typed : Bool
+  -- the methods of the program that may be meant
+  pub meant : List ℕ
+  -- whether it is one of the methods of every object that don't hand it on (`getClass()`, `toString()`, `hashCode()`, `equals(Object)`), or the
+  -- constructor's call on the object that was just made
+  pub harmless : Bool
+
+-- how many operands it takes
+abbrev pub taken : Invocation → ℕ
+taken v = if v.has_receiver then suc v.words else v.words
+
+-- it is a call of a protocol by the class that it names
+abbrev pub is_protocol : Invocation → Bool
+is_protocol v = elim v.named [ None ↦ false | Some class ↦ names class.typestate v.name ]
+
 -- how numbers are compared
 pub data Comparison : Type 0 where
   Equal : Comparison
@@ -103,22 +154,57 @@ pub data Instruction : Type 0 where
   Make : Class → Instruction
   -- a method of a protocol, with so many arguments, and its result
   Call : Name → ℕ → Result → Instruction
+  -- a call on null: nothing is behind it
+  CallNull : Instruction
   -- a method of the program, of this number, with so many arguments, and so many words of a result
   CallIn : ℕ → ℕ → ℕ → Instruction
-  -- a method outside, with so many arguments; its result is null or an object of this class that nobody else has, or isn't followed
-  CallOut : ℕ → Option Class → Instruction
+  -- a method outside; its result is null or an object that nobody else has where it is of a followed class, and isn't followed else
+  CallOut : Invocation → Instruction
   -- keeps so many operands somewhere else: in fields, arrays, or behind a method outside
   Keep : ℕ → Instruction
   -- with so many words of a result
   Return : ℕ → Instruction
   Throw : Instruction
 
+-- what code is made of: instructions, and calls, of which the receiver decides what they do
+pub data Operation : Type 0 where
+  Does : Instruction → Operation
+  Invoke : Invocation → Operation
+
+-- a receiver, as far as it decides: there is none; null; an object of a class; perhaps one with this typestate; nothing is known of it
+pub data Receiver : Type 0 where
+  Nobody : Receiver
+  OfNull : Receiver
+  Whole : Class → Receiver
+  Perhaps : Typestate → Receiver
+  Unknown : Receiver
+
+-- a call that goes on in the method that is meant for sure, where it is followed and there is one
+abbrev pub into_or_out : Invocation → (is_followed : Bool) → Instruction
+into_or_out v true = elim v.sure [ None ↦ CallOut v | Some method ↦ CallIn method (taken v) (size_of v.result) ]
+into_or_out v false = CallOut v
+
+-- what an operation does on a receiver
+abbrev pub does : Operation → Receiver → Instruction
+does (Does i) r = i
+does (Invoke v) Nobody = into_or_out v v.typed
+does (Invoke v) OfNull = CallNull
+does (Invoke v) (Whole class) = if names class.typestate v.name then Call v.name v.words v.result else into_or_out v true
+does (Invoke v) (Perhaps t) = into_or_out v (if v.typed then true else not (names t v.name))
+does (Invoke v) Unknown = into_or_out v v.typed
+
 pub record Method : Type 0 where
-  pub code : List Instruction
+  pub code : List Operation
   -- where a throw may be caught, for each place
   pub handlers : ℕ → List ℕ
   -- how many locals there are besides the arguments
   pub locals : ℕ
+  -- whether its class is followed
+  pub is_of_followed : Bool
+  -- whether calls that aren't followed may mean it: it is an instance method that isn't private or is of an interface, and no constructor, or a
+  -- handle names it
+  pub otherwise : Bool
+  pub gives : Result
 
 -- in a switch map the constant with this label has this number
 pub record Entry : Type 0 where
@@ -129,7 +215,7 @@ pub record Program : Type 0 where
   pub methods : List Method
   pub maps : List (List Entry)
 
-abbrev pub code_at : Program → ℕ → ℕ → Option Instruction
+abbrev pub code_at : Program → ℕ → ℕ → Option Operation
 code_at p m at = option_and_then (λ (method : Method). slice_get method.code at) (slice_get p.methods m)
 
 abbrev pub handlers_at : Program → ℕ → ℕ → List ℕ
@@ -137,6 +223,15 @@ handlers_at p m at = elim (slice_get p.methods m) [ None ↦ [] | Some method �
 
 abbrev pub locals_at : Program → ℕ → ℕ
 locals_at p m = elim (slice_get p.methods m) [ None ↦ zero | Some method ↦ method.locals ]
+
+abbrev pub is_of_followed : Program → ℕ → Bool
+is_of_followed p m = elim (slice_get p.methods m) [ None ↦ false | Some method ↦ method.is_of_followed ]
+
+abbrev pub is_called_otherwise : Program → ℕ → Bool
+is_called_otherwise p m = elim (slice_get p.methods m) [ None ↦ false | Some method ↦ method.otherwise ]
+
+abbrev pub result_of : Program → ℕ → Result
+result_of p m = elim (slice_get p.methods m) [ None ↦ Void | Some method ↦ method.gives ]
 
 -- the number that the last entry of a constant has
 abbrev pub number_in : List Entry → Name → Option ℕ
@@ -235,6 +330,23 @@ gives k taken (g ∷ gs) xs = given k taken g ∷ gives k taken gs xs
 
 abbrev pub shape : {A : Type 0} → List A → List A → Shape A
 shape ls os = record { locals = ls; operands = os }
+
+-- what the receiver is of an operation on these operands
+abbrev pub receiver : {A : Type 0} → A → (A → Receiver) → Operation → List A → Receiver
+receiver d of (Does i) xs = Nobody
+receiver d of (Invoke v) xs = if v.has_receiver then of (nth d xs v.words) else Nobody
+
+-- what is done on these operands
+abbrev pub done : {A : Type 0} → A → (A → Receiver) → Option Operation → List A → Option Instruction
+done d of None xs = None
+done d of (Some o) xs = Some (does o (receiver d of o xs))
+
+-- a result that isn't followed
+abbrev pub plainly : {A : Type 0} → A → Result → List A → List A
+plainly d Void xs = xs
+plainly d (Words n) xs = filled d n xs
+plainly d Boolean xs = d ∷ xs
+plainly d (Of name class) xs = d ∷ xs
 
 -- without so many operands, and with one more
 abbrev pub popped : {A : Type 0} → ℕ → Shape A → Shape A

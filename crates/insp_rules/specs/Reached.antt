@@ -6,9 +6,11 @@ use Rattle.insp_rules.specs.Program.{Kind, Form, Itself, Ordinal, Mapped, Bare a
 use Rattle.insp_rules.specs.Program.{Result, Instruction, Call, CallIn, Return, Program, code_at, handlers_at, locals_at, Shape, nth}
 use Rattle.insp_rules.specs.Program.{first, rest, shape}
 use Rattle.insp_rules.specs.Program.{caught, begun}
+use Rattle.insp_rules.specs.Program.{Invocation, Invoke, CallOut, taken, class_of, result_of, is_called_otherwise, is_of_followed}
 use Rattle.insp_rules.specs.Skeleton.{returned, IsNoCallIn}
 use Rattle.insp_rules.specs.Frames.{Known, Bare, Object, Answer, Group, Sight, sight, knowns, upset_group}
-use Rattle.insp_rules.specs.Frames.{unknown, known_among, has_group, forget_all, added, Way, Holds, given_back, NoneOpen}
+use Rattle.insp_rules.specs.Frames.{unknown, known_among, has_group, forget_all, added, Way, Holds, given_back, NoneOpen, seen_at}
+use Rattle.insp_rules.specs.Frames.{Receives, IsHandedBack, is_followed}
 
 -- each of the one list with each of the other
 pub data Both {A B : Type 0} (R : A → B → Type 0) : List A → List B → Type 0 where
@@ -175,8 +177,10 @@ pub record MayLeaveAll (i : Instruction) (f : Sight) : Type 0 where
 
 -- ---- what is reached
 
+-- a context is entered, also from outside; a frame is reached; a context is left
 pub data Fact : Type 0 where
   Entered : Context → Fact
+  Outside : Context → Fact
   Reached : Context → ℕ → Sight → Fact
   Left : Context → Exit → Fact
 
@@ -185,44 +189,80 @@ pub record IsRoot (c : Context) : Type 0 where
   pub held : c.held ≡ 0
   pub groups : (g : ℕ) → c.groups g ≡ None
 
+-- what is known of a value in the hands of a method outside, where nothing is followed
+abbrev pub let_go_bare : BareOf → BareOf
+let_go_bare (Alias t) = Lost
+let_go_bare (Map m class) = Other
+let_go_bare (Constant class label) = Other
+let_go_bare b = b
+
+abbrev pub let_go : Known → Known
+let_go (Bare b) = Bare (let_go_bare b)
+let_go (Object g) = Bare Lost
+let_go (Answer g form) = Bare Other
+
+abbrev pub let_go_all : List Known → List Known
+let_go_all [] = []
+let_go_all (x ∷ xs) = let_go x ∷ let_go_all xs
+
+-- a method that is called from outside with what was handed out
+abbrev pub outside_context : ℕ → List Known → Context
+outside_context method args = record { method = method; args = let_go_all args; held = 0; groups = λ g. None }
+
 abbrev pub entry : Program → Context → Sight
 entry p c = sight (begun knowns (locals_at p c.method) c.args) c.groups c.held
 
 pub data Found (p : Program) (numbering : Numbering) (roots : List Context) : Fact → Type 0 where
-  root : {c : Context} → Contains roots c → IsRoot c → Found p numbering roots (Entered c)
+  root : {c : Context} → Contains roots c → IsRoot c → Found p numbering roots (Outside c)
+  -- each method of the program that a call may mean which isn't followed
+  meant : {c : Context} {at : ℕ} {f : Sight} (v : Invocation) (method : ℕ) → Found p numbering roots (Reached c at f) →
+      seen_at p c.method at f ≡ Some (CallOut v) → Contains v.meant method →
+      Found p numbering roots (Outside (outside_context method (first (taken v) f.shape.operands)))
+  called : {c : Context} → Found p numbering roots (Outside c) → Found p numbering roots (Entered c)
   begins : {c : Context} → Found p numbering roots (Entered c) → Found p numbering roots (Reached c 0 (numbering.tidy c.held (entry p c)))
   steps : {c : Context} {at to : ℕ} {f g : Sight} (i : Instruction) → Found p numbering roots (Reached c at f) →
-      code_at p c.method at ≡ Some i → Way p c.held i at f to g → Found p numbering roots (Reached c to (numbering.tidy c.held g))
+      seen_at p c.method at f ≡ Some i → Way p c.held i at f to g → Found p numbering roots (Reached c to (numbering.tidy c.held g))
   enters : {c : Context} {at : ℕ} {f : Sight} (method k words : ℕ) → Found p numbering roots (Reached c at f) →
-      code_at p c.method at ≡ Some (CallIn method k words) →
+      seen_at p c.method at f ≡ Some (CallIn method k words) →
       Found p numbering roots (Entered (numbering.context method (first k f.shape.operands) f))
   leaves : {c : Context} {at : ℕ} {f : Sight} {o : Outcome} (words : ℕ) → Found p numbering roots (Reached c at f) →
-      code_at p c.method at ≡ Some (Return words) → Outcomes c.held f.groups (given_back words f.shape) o →
+      seen_at p c.method at f ≡ Some (Return words) → Outcomes c.held f.groups (given_back words f.shape) o →
       Found p numbering roots (Left c (record { groups = f.groups; outcome = o }))
   returns : {c : Context} {at : ℕ} {f : Sight} {e : Exit} (method k words : ℕ) → Found p numbering roots (Reached c at f) →
-      code_at p c.method at ≡ Some (CallIn method k words) →
+      seen_at p c.method at f ≡ Some (CallIn method k words) →
       Found p numbering roots (Left (numbering.context method (first k f.shape.operands) f) e) →
       (takes : Takes method (first k f.shape.operands) f (numbering.context method (first k f.shape.operands) f)) →
       Found p numbering roots (Reached c (suc at)
       (numbering.tidy c.held (resumed takes.old (numbering.context method (first k f.shape.operands) f).held k words e f)))
   throws : {c : Context} {at : ℕ} {f : Sight} (to : ℕ) (i : Instruction) → Found p numbering roots (Reached c at f) →
-      Contains (handlers_at p c.method at) to → code_at p c.method at ≡ Some i → MayLeaveAll i f →
+      Contains (handlers_at p c.method at) to → seen_at p c.method at f ≡ Some i → MayLeaveAll i f →
       Found p numbering roots (Reached c to (numbering.tidy c.held (caught_before f)))
   throws_amid : {c : Context} {at : ℕ} {f : Sight} (to : ℕ) (name : Name) (k : ℕ) (has : Result) (g : ℕ) →
       Found p numbering roots (Reached c at f) → Contains (handlers_at p c.method at) to →
-      code_at p c.method at ≡ Some (Call name k has) → nth unknown f.shape.operands k ≡ Object g →
+      seen_at p c.method at f ≡ Some (Call name k has) → nth unknown f.shape.operands k ≡ Object g →
       Found p numbering roots (Reached c to (numbering.tidy c.held (caught_upon (Object g ∷ []) f)))
   throws_through : {c : Context} {at : ℕ} {f : Sight} (to method k words : ℕ) → Found p numbering roots (Reached c at f) →
-      Contains (handlers_at p c.method at) to → code_at p c.method at ≡ Some (CallIn method k words) →
+      Contains (handlers_at p c.method at) to → seen_at p c.method at f ≡ Some (CallIn method k words) →
       Found p numbering roots (Reached c to (numbering.tidy c.held (caught_upon (first k f.shape.operands) f)))
 
 -- no demand fails
 pub record Inspected (p : Program) (numbering : Numbering) (roots : List Context) : Type 0 where
   pub holds : (c : Context) (at : ℕ) (f : Sight) (i : Instruction) → Found p numbering roots (Reached c at f) →
-      code_at p c.method at ≡ Some i → Holds p c.held at i f
+      seen_at p c.method at f ≡ Some i → Holds p c.held at i f
   -- behind a followed call too, each object that no place has any more may be left
   pub returned : (c : Context) (at : ℕ) (f : Sight) (e : Exit) (method k words : ℕ) → Found p numbering roots (Reached c at f) →
-      code_at p c.method at ≡ Some (CallIn method k words) →
+      seen_at p c.method at f ≡ Some (CallIn method k words) →
       Found p numbering roots (Left (numbering.context method (first k f.shape.operands) f) e) →
       (takes : Takes method (first k f.shape.operands) f (numbering.context method (first k f.shape.operands) f)) →
       NoneOpen c.held (resumed takes.old (numbering.context method (first k f.shape.operands) f).held k words e f)
+  -- receivers of calls are known
+  pub receives : (c : Context) (at : ℕ) (f : Sight) (v : Invocation) → Found p numbering roots (Reached c at f) →
+      code_at p c.method at ≡ Some (Invoke v) → v.has_receiver ≡ true →
+      Receives (is_of_followed p c.method) v (nth unknown f.shape.operands v.words)
+  -- what is given back by a method that may be called otherwise, and, where the result is of no followed class, to a call from outside
+  pub gives : (c : Context) (at : ℕ) (f : Sight) (words : ℕ) → Found p numbering roots (Reached c at f) →
+      seen_at p c.method at f ≡ Some (Return words) → is_called_otherwise p c.method ≡ true →
+      IsHandedBack (result_of p c.method) c.held f.groups (given_back words f.shape)
+  pub gives_outside : (c : Context) (at : ℕ) (f : Sight) (words : ℕ) → Found p numbering roots (Reached c at f) →
+      Found p numbering roots (Outside c) → seen_at p c.method at f ≡ Some (Return words) → class_of (result_of p c.method) ≡ None →
+      is_followed (given_back words f.shape) ≡ false

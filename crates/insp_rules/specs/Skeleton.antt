@@ -10,13 +10,14 @@ use Rattle.ts_tree.specs.Calls.{initial, by_label, offered, led}
 use Rattle.insp_rules.specs.Program.{Class, Kind, Truth, Constants, Form, Itself, Ordinal, Mapped, Bare, Result, Void, Words, Boolean, Of}
 use Rattle.insp_rules.specs.Program.{related, Comparison, Arm, Instruction, Go, Either, IfNull, IfSame, IfSign, IfNumbers, Switch, Make}
 use Rattle.insp_rules.specs.Program.{Call, CallIn, CallOut, Keep, Return, Program, code_at, number_of, goes_for, compares, is_zero_by}
+use Rattle.insp_rules.specs.Program.{Invocation, Receiver, OfNull, Whole, Perhaps, Unknown, taken, class_of, done, plainly}
 use Rattle.insp_rules.specs.Program.{agree, unknown}
 use Rattle.insp_rules.specs.Program.{handlers_at, locals_at, Shape, Kit, nth, first, rest, filled, shape, popped, pushed, straight, way}
 use Rattle.insp_rules.specs.Program.{caught, begun}
 use Rattle.insp_rules.specs.Program as program
 
 -- something that isn't followed and of which nothing is known, null, one of the numbers 0 and 1, a switch map, a constant of a class, an
--- object, an object once more, as its own method gave it back, and an answer
+-- object, an object once more, as its own method gave it back, something else that an object's own method gave back, and an answer
 pub data Value : Type 0 where
   Plain : Value
   Nil : Value
@@ -25,13 +26,15 @@ pub data Value : Type 0 where
   Constant : Name → Name → Value
   Ref : ℕ → Value
   Again : Typestate → ℕ → Value
+  Another : Typestate → Value
   Said : Form → Name → Value
 
--- nothing is followed by it, and it is no null that is known to be one
+-- nothing is followed by it, no object's own method gave it back, and it is no null that is known to be one
 abbrev pub is_loose : Value → Bool
 is_loose Nil = false
 is_loose (Ref o) = false
 is_loose (Again t o) = false
+is_loose (Another t) = false
 is_loose _ = true
 
 -- it is an object, also once more
@@ -71,7 +74,7 @@ bare program.Other = Plain
 bare (program.Bit b) = Bit b
 bare program.Null = Nil
 bare program.Lost = Plain
-bare (program.Alias t) = Plain
+bare (program.Alias t) = Another t
 bare (program.Map m class) = Map m class
 bare (program.Constant class label) = Constant class label
 
@@ -145,7 +148,7 @@ kind_of Boolean = Some Truth
 kind_of (Of class followed) = Some (Constants class)
 
 -- what a call on an object of a class that answers with no label may leave on the operands, but for something new: where the result is of
--- the object's own class, or one of the two extends the other, the object once more, or something of which nothing is known
+-- the object's own class, or one of the two extends the other, the object once more, or something else
 pub data Leaves (o : ℕ) (c : Class) : Result → List Value → List Value → Type 0 where
   nothing : {vs : List Value} → Leaves o c Void vs vs
   words : {n : ℕ} {vs : List Value} → Leaves o c (Words n) vs (filled Plain n vs)
@@ -153,7 +156,8 @@ pub data Leaves (o : ℕ) (c : Class) : Result → List Value → List Value →
   plain : {class : Name} {vs : List Value} → Leaves o c (Of class None) vs (Plain ∷ vs)
   again : {class : Name} {d : Class} {vs : List Value} → related c d ≡ true →
       Leaves o c (Of class (Some d)) vs (Again c.typestate o ∷ vs)
-  another : {class : Name} {d : Class} {vs : List Value} → related c d ≡ true → Leaves o c (Of class (Some d)) vs (Plain ∷ vs)
+  another : {class : Name} {d : Class} {vs : List Value} → related c d ≡ true →
+      Leaves o c (Of class (Some d)) vs (Another c.typestate ∷ vs)
 
 -- what a call leaves that answers with this label
 abbrev pub told : Result → Name → List Value → List Value
@@ -273,47 +277,73 @@ abbrev pub returned : {A : Type 0} → Kit A → ℕ → A → List A → List A
 returned k (suc zero) x xs = x ∷ xs
 returned k n x xs = filled (unknown k) n xs
 
+-- ---- steps
+
+abbrev pub receiver_of : (ℕ → Thing) → Value → Receiver
+receiver_of h Nil = OfNull
+receiver_of h (Ref o) = Whole (h o).of
+receiver_of h (Again t o) = Perhaps t
+receiver_of h (Another t) = Perhaps t
+receiver_of h _ = Unknown
+
+-- what is done at a place by a frame
+abbrev pub instruction_at : Program → (ℕ → Thing) → (method at : ℕ) → Shape Value → Option Instruction
+instruction_at p h m at s = done Plain (receiver_of h) (code_at p m at) s.operands
+
+-- a value in the hands of a method outside, where nothing is followed
+abbrev pub let_go : Value → Value
+let_go (Ref o) = Plain
+let_go (Again t o) = Plain
+let_go (Another t) = Plain
+let_go v = v
+
+abbrev pub let_go_all : List Value → List Value
+let_go_all [] = []
+let_go_all (v ∷ vs) = let_go v ∷ let_go_all vs
+
 -- one instruction of the frame that runs
 pub data Step (p : Program) : State → State → Type 0 where
-  moves : {m at : ℕ} {s t : Shape Value} {fs : List Frame} {h : ℕ → Thing} {n : ℕ} (i : Instruction) → code_at p m at ≡ Some i →
+  moves : {m at : ℕ} {s t : Shape Value} {fs : List Frame} {h : ℕ → Thing} {n : ℕ} (i : Instruction) → instruction_at p h m at s ≡ Some i →
       straight values i s ≡ Some t → Step p (state (frame m at s ∷ fs) h n) (state (frame m (suc at) t ∷ fs) h n)
-  jumps : {m at to : ℕ} {s t : Shape Value} {fs : List Frame} {h : ℕ → Thing} {n : ℕ} (i : Instruction) → code_at p m at ≡ Some i →
+  jumps : {m at to : ℕ} {s t : Shape Value} {fs : List Frame} {h : ℕ → Thing} {n : ℕ} (i : Instruction) → instruction_at p h m at s ≡ Some i →
       Jumps p h i at s to t → Step p (state (frame m at s ∷ fs) h n) (state (frame m to t ∷ fs) h n)
-  makes : {m at : ℕ} {s : Shape Value} {fs : List Frame} {h : ℕ → Thing} {n : ℕ} (c : Class) → code_at p m at ≡ Some (Make c) →
+  makes : {m at : ℕ} {s : Shape Value} {fs : List Frame} {h : ℕ → Thing} {n : ℕ} (c : Class) → instruction_at p h m at s ≡ Some (Make c) →
       Step p (state (frame m at s ∷ fs) h n) (state (frame m (suc at) (pushed (Ref n) s) ∷ fs) (put n (made c) h) (suc n))
   -- what it gives but for something new: with a label, and with none
   tells : {m at : ℕ} {s : Shape Value} {fs : List Frame} {h : ℕ → Thing} {n : ℕ} (name : Name) (k : ℕ) (has : Result) (o : ℕ)
-      (label : Name) → code_at p m at ≡ Some (Call name k has) → nth Plain s.operands k ≡ Ref o → (h o).null ≡ false → MayAnswer (h o) name (Some label) →
+      (label : Name) → instruction_at p h m at s ≡ Some (Call name k has) → nth Plain s.operands k ≡ Ref o → (h o).null ≡ false → MayAnswer (h o) name (Some label) →
       Step p (state (frame m at s ∷ fs) h n)
       (state (frame m (suc at) (shape s.locals (told has label (rest (suc k) s.operands))) ∷ fs) (put o (called (h o) name (Some label)) h) n)
   calls : {m at : ℕ} {s : Shape Value} {fs : List Frame} {h : ℕ → Thing} {n : ℕ} (name : Name) (k : ℕ) (has : Result) (o : ℕ)
-      (vs : List Value) → code_at p m at ≡ Some (Call name k has) → nth Plain s.operands k ≡ Ref o → (h o).null ≡ false → MayAnswer (h o) name None →
+      (vs : List Value) → instruction_at p h m at s ≡ Some (Call name k has) → nth Plain s.operands k ≡ Ref o → (h o).null ≡ false → MayAnswer (h o) name None →
       Leaves o (h o).of has (rest (suc k) s.operands) vs →
       Step p (state (frame m at s ∷ fs) h n)
       (state (frame m (suc at) (shape s.locals vs) ∷ fs) (put o (called (h o) name None) h) n)
   calls_made : {m at : ℕ} {s : Shape Value} {fs : List Frame} {h : ℕ → Thing} {n : ℕ} (name : Name) (k : ℕ) (has : Result) (o : ℕ)
-      (d : Class) (null : Bool) → code_at p m at ≡ Some (Call name k has) → nth Plain s.operands k ≡ Ref o → (h o).null ≡ false → MayAnswer (h o) name None →
+      (d : Class) (null : Bool) → instruction_at p h m at s ≡ Some (Call name k has) → nth Plain s.operands k ≡ Ref o → (h o).null ≡ false → MayAnswer (h o) name None →
       fresh_of (h o).of has ≡ Some d →
       Step p (state (frame m at s ∷ fs) h n)
       (state (frame m (suc at) (shape s.locals (Ref n ∷ rest (suc k) s.operands)) ∷ fs) (put n (handed null d) (put o (called (h o) name None) h)) (suc n))
-  outside : {m at : ℕ} {s : Shape Value} {fs : List Frame} {h : ℕ → Thing} {n : ℕ} (k : ℕ) → code_at p m at ≡ Some (CallOut k None) →
-      Step p (state (frame m at s ∷ fs) h n) (state (frame m (suc at) (pushed Plain (popped k s)) ∷ fs) h n)
+  outside : {m at : ℕ} {s : Shape Value} {fs : List Frame} {h : ℕ → Thing} {n : ℕ} (v : Invocation) →
+      instruction_at p h m at s ≡ Some (CallOut v) → class_of v.result ≡ None →
+      Step p (state (frame m at s ∷ fs) h n) (state (frame m (suc at) (shape s.locals (plainly Plain v.result (rest (taken v) s.operands))) ∷ fs) h n)
   -- it gives an object that nobody else has, or null
-  outside_made : {m at : ℕ} {s : Shape Value} {fs : List Frame} {h : ℕ → Thing} {n : ℕ} (k : ℕ) (c : Class) (null : Bool) →
-      code_at p m at ≡ Some (CallOut k (Some c)) →
-      Step p (state (frame m at s ∷ fs) h n) (state (frame m (suc at) (pushed (Ref n) (popped k s)) ∷ fs) (put n (handed null c) h) (suc n))
-  keeps : {m at : ℕ} {s : Shape Value} {fs : List Frame} {h : ℕ → Thing} {n : ℕ} (k : ℕ) → code_at p m at ≡ Some (Keep k) →
+  outside_made : {m at : ℕ} {s : Shape Value} {fs : List Frame} {h : ℕ → Thing} {n : ℕ} (v : Invocation) (c : Class) (null : Bool) →
+      instruction_at p h m at s ≡ Some (CallOut v) → class_of v.result ≡ Some c →
+      Step p (state (frame m at s ∷ fs) h n)
+      (state (frame m (suc at) (pushed (Ref n) (popped (taken v) s)) ∷ fs) (put n (handed null c) h) (suc n))
+  keeps : {m at : ℕ} {s : Shape Value} {fs : List Frame} {h : ℕ → Thing} {n : ℕ} (k : ℕ) → instruction_at p h m at s ≡ Some (Keep k) →
       Step p (state (frame m at s ∷ fs) h n) (state (frame m (suc at) (popped k s) ∷ fs) h n)
   -- the arguments stay where they are while the method runs
   enters : {m at : ℕ} {s : Shape Value} {fs : List Frame} {h : ℕ → Thing} {n : ℕ} (callee k words : ℕ) →
-      code_at p m at ≡ Some (CallIn callee k words) →
+      instruction_at p h m at s ≡ Some (CallIn callee k words) →
       Step p (state (frame m at s ∷ fs) h n)
       (state (frame callee 0 (begun values (locals_at p callee) (first k s.operands)) ∷ frame m at s ∷ fs) h n)
   returns : {m at m0 at0 : ℕ} {s s0 : Shape Value} {fs : List Frame} {h : ℕ → Thing} {n : ℕ} (callee k words : ℕ) →
-      code_at p m at ≡ Some (Return words) → code_at p m0 at0 ≡ Some (CallIn callee k words) →
+      instruction_at p h m at s ≡ Some (Return words) → instruction_at p h m0 at0 s0 ≡ Some (CallIn callee k words) →
       Step p (state (frame m at s ∷ frame m0 at0 s0 ∷ fs) h n)
       (state (frame m0 (suc at0) (shape s0.locals (returned values words (result words s) (rest k s0.operands))) ∷ fs) h n)
-  ends : {m at : ℕ} {s : Shape Value} {h : ℕ → Thing} {n : ℕ} (words : ℕ) → code_at p m at ≡ Some (Return words) →
+  ends : {m at : ℕ} {s : Shape Value} {h : ℕ → Thing} {n : ℕ} (words : ℕ) → instruction_at p h m at s ≡ Some (Return words) →
       Step p (state (frame m at s ∷ []) h n) (state [] h n)
 
 -- ---- throws
@@ -340,25 +370,25 @@ upset_all vs h o = if among o vs then upset (h o) else h o
 -- a throw comes out of a method that these wait for: the first that catches it goes on, and the arguments of its call were come upon
 pub data Unwinds (p : Program) (h : ℕ → Thing) (n : ℕ) : List Frame → State → Type 0 where
   out : Unwinds p h n [] (state [] h n)
-  caught_in : {m at : ℕ} {s : Shape Value} {fs : List Frame} (callee k words to : ℕ) → code_at p m at ≡ Some (CallIn callee k words) →
+  caught_in : {m at : ℕ} {s : Shape Value} {fs : List Frame} (callee k words to : ℕ) → instruction_at p h m at s ≡ Some (CallIn callee k words) →
       Contains (handlers_at p m at) to →
       Unwinds p h n (frame m at s ∷ fs) (state (frame m to (caught values s) ∷ fs) (upset_all (first k s.operands) h) n)
   passes : {f : Frame} {fs : List Frame} {s : State} → Unwinds p h n fs s → Unwinds p h n (f ∷ fs) s
   -- it came out of a method that was called back: a frame that doesn't wait for a method of the program is where it was, and may throw in turn
-  stops : {f : Frame} {fs : List Frame} (i : Instruction) → code_at p f.method f.at ≡ Some i → IsNoCallIn i →
+  stops : {f : Frame} {fs : List Frame} (i : Instruction) → instruction_at p h f.method f.at f.shape ≡ Some i → IsNoCallIn i →
       Unwinds p h n (f ∷ fs) (state (f ∷ fs) h n)
 
 -- Each instruction may throw. A call of a protocol has come to the object then, but where that is null; the arguments of a call of a method of
 -- the program are come upon, also where the method hasn't begun; elsewhere all objects are as they were.
 pub data Throws (p : Program) : State → State → Type 0 where
   before : {m at : ℕ} {s : Shape Value} {fs : List Frame} {h : ℕ → Thing} {n : ℕ} (to : ℕ) (i : Instruction) →
-      Contains (handlers_at p m at) to → code_at p m at ≡ Some i → LeavesAll h i s →
+      Contains (handlers_at p m at) to → instruction_at p h m at s ≡ Some i → LeavesAll h i s →
       Throws p (state (frame m at s ∷ fs) h n) (state (frame m to (caught values s) ∷ fs) h n)
   unbegun : {m at : ℕ} {s : Shape Value} {fs : List Frame} {h : ℕ → Thing} {n : ℕ} (to callee k words : ℕ) →
-      Contains (handlers_at p m at) to → code_at p m at ≡ Some (CallIn callee k words) →
+      Contains (handlers_at p m at) to → instruction_at p h m at s ≡ Some (CallIn callee k words) →
       Throws p (state (frame m at s ∷ fs) h n) (state (frame m to (caught values s) ∷ fs) (upset_all (first k s.operands) h) n)
   amid : {m at : ℕ} {s : Shape Value} {fs : List Frame} {h : ℕ → Thing} {n : ℕ} (to : ℕ) (name : Name) (k : ℕ) (has : Result) (o : ℕ) →
-      Contains (handlers_at p m at) to → code_at p m at ≡ Some (Call name k has) → nth Plain s.operands k ≡ Ref o →
+      Contains (handlers_at p m at) to → instruction_at p h m at s ≡ Some (Call name k has) → nth Plain s.operands k ≡ Ref o →
       Throws p (state (frame m at s ∷ fs) h n) (state (frame m to (caught values s) ∷ fs) (put o (upset (h o)) h) n)
   through : {f : Frame} {fs : List Frame} {h : ℕ → Thing} {n : ℕ} {s : State} → Unwinds p h n fs s → Throws p (state (f ∷ fs) h n) s
 
