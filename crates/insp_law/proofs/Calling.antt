@@ -46,7 +46,8 @@ module _ (h : ℕ → Thing) (obj : ℕ → ℕ) (held : ℕ) (hold : ℕ → �
     module _ (name : Name) (k : ℕ) (has : Result) (o : ℕ) (reply : Option Name) (j : i ≡ Call name k has) (g : ℕ) (x : Group)
         (receiver : nth unknown f.shape.operands k ≡ Object g) (e : f.groups g ≡ Some x) (at_o : o ≡ obj g) where
       -- what is behind, where the object is in this element
-      calls_come : (x' : Group) → Accords x' (called (h o) name reply) → IsGood (called (h o) name reply) → (top : List Known) (vs : List Value) →
+      calls_come : (x' : Group) → Accords x' (called (h o) name reply) → IsGood (called (h o) name reply) →
+          (top : List Known) (vs : List Value) →
           Both (Says (put o (called (h o) name reply) h) obj (put g (Some x') f.groups) fresh) top vs →
           Comes_to h obj held hold mark n p i at f (behind g x' top f.shape f) obj (shape t.locals vs) (put o (called (h o) name reply) h) n
       calls_come x' accords is_right top vs tops = record {
@@ -86,7 +87,8 @@ module _ (h : ℕ → Thing) (obj : ℕ → ℕ) (held : ℕ) (hold : ℕ → �
               Accords y (put o (called (h o) name reply) h (obj a))
           agrees a y l (is q b p) =
               subst (λ (z : Group). Accords z (put o (called (h o) name reply) h (obj a))) (some_is (sym p ∙ l))
-              (subst (Accords x') (sym (ap (put o (called (h o) name reply) h) (ap obj q ∙ sym at_o) ∙ put_same o (called (h o) name reply) h))
+              (subst (Accords x') (sym (ap (put o (called (h o) name reply) h) (ap obj q ∙ sym at_o)
+              ∙ put_same o (called (h o) name reply) h))
               accords)
           agrees a y l (isnt q b p) =
               subst (Accords y) (sym (elsewhere a y (sym p ∙ l) q)) (or_none a (fit.agrees a y (sym p ∙ l)))
@@ -105,15 +107,18 @@ module _ (h : ℕ → Thing) (obj : ℕ → ℕ) (held : ℕ) (hold : ℕ → �
           rights q less (is l b p) = subst IsGood (sym p) is_right
           rights q less (isnt l b p) = subst IsGood (sym p) (right q less)
 
-      calls_to : (x' : Group) → Accords x' (called (h o) name reply) → IsGood (called (h o) name reply) → (top : List Known) (vs : List Value) →
+      calls_to : (x' : Group) → Accords x' (called (h o) name reply) → IsGood (called (h o) name reply) →
+          (top : List Known) (vs : List Value) →
           Both (Says (put o (called (h o) name reply) h) obj (put g (Some x') f.groups) fresh) top vs →
           Way p held i at f (suc at) (behind g x' top f.shape f) →
           Goes_to (suc at) (shape t.locals vs) (put o (called (h o) name reply) h) n
       calls_to x' accords is_right top vs tops way =
-          goes_by h obj held hold mark n p i at f (suc at) (shape t.locals vs) (put o (called (h o) name reply) h) n (behind g x' top f.shape f) obj way
+          goes_by h obj held hold mark n p i at f (suc at) (shape t.locals vs) (put o (called (h o) name reply) h) n
+          (behind g x' top f.shape f) obj way
           (calls_come x' accords is_right top vs tops)
 
-      carries_call : (x' : Group) → Carries h obj f.groups fresh (put o (called (h o) name reply) h) obj (put g (Some x') f.groups) fresh (is_it g)
+      carries_call : (x' : Group) → Carries h obj f.groups fresh (put o (called (h o) name reply) h) obj (put g (Some x') f.groups) fresh
+          (is_it g)
       carries_call x' = record {
         live = put_goes f.groups g x';
         same = λ a y l. refl;
@@ -171,7 +176,8 @@ module _ (h : ℕ → Thing) (obj : ℕ → ℕ) (held : ℕ) (hold : ℕ → �
         let s : o' ≡ o = cc in
         sym s ∙ k ∙ ap obj r
 
-    module _ (name : Name) (k : ℕ) (has : Result) (o : ℕ) (reply : Option Name) (j : i ≡ Call name k has) (v : nth Plain t.operands k ≡ Ref o)
+    module _ (name : Name) (k : ℕ) (has : Result) (o : ℕ) (reply : Option Name) (j : i ≡ Call name k has)
+        (v : nth Plain t.operands k ≡ Ref o)
         (there : (h o).null ≡ false) (may_be : MayAnswer (h o) name reply) (ch : CallHolds name k f) where
       at_o : o ≡ obj ch.g
       at_o = receiver_is ch.g o (nth unknown f.shape.operands k) (nth Plain t.operands k) (operand_of k) ch.receiver v
@@ -219,7 +225,8 @@ module _ (h : ℕ → Thing) (obj : ℕ → ℕ) (held : ℕ) (hold : ℕ → �
         is_there = offered name k has o (Some label) j v there may_be ch
 
         finish : (target : Target) → offer.0.target ≡ target → skeleton.Fits target (Some label) →
-            Goes_to (suc at) (shape t.locals (skeleton.told has label (rest (suc k) t.operands))) (put o (called (h o) name (Some label)) h) n
+            Goes_to (suc at) (shape t.locals (skeleton.told has label (rest (suc k) t.operands)))
+            (put o (called (h o) name (Some label)) h) n
         finish (One to) q fits = absurd (cc)
         finish (ByAnswer branches) q fits =
             calls_to name k has o (Some label) j ch.g ch.x ch.receiver ch.is at_g (group ch.x.of (Pending branches) false)
@@ -232,7 +239,8 @@ module _ (h : ℕ → Thing) (obj : ℕ → ℕ) (held : ℕ) (hold : ℕ → �
                   (λ some. let z = is_offered (h o).of from.0 name offer.0 is_there in (offer.0, branches, z.0, z.1, q));
               heard = λ l e. there;
             })
-            (tops_told ch.g has (forget_all (is_it ch.g) (rest (suc k) f.shape.operands))) (skeleton.told has label (rest (suc k) t.operands))
+            (tops_told ch.g has (forget_all (is_it ch.g) (rest (suc k) f.shape.operands)))
+            (skeleton.told has label (rest (suc k) t.operands))
             (told_both (put o (called (h o) name (Some label)) h) (put ch.g (Some (group ch.x.of (Pending branches) false)) f.groups) ch.g
             (group ch.x.of (Pending branches) false) label (put_same ch.g (Some (group ch.x.of (Pending branches) false)) f.groups)
             (ap (λ (z : Thing). z.answer) (ap (put o (called (h o) name (Some label)) h) (sym at_g)
@@ -283,7 +291,8 @@ module _ (h : ℕ → Thing) (obj : ℕ → ℕ) (held : ℕ) (hold : ℕ → �
         (h o).null ≡ false → MayAnswer (h o) name None → Leaves o (h o).of has (rest (suc k) t.operands) ws → CallHolds name k f →
         Goes_to (suc at) (shape t.locals ws) (put o (called (h o) name None) h) n
     calls name k has o ws j v there may_be lefts ch =
-        finish (offer name k has o j v there may_be ch).0.target refl (fits_it name k has o None j v there may_be ch) (fresh_of ch.x.of has) refl
+        finish (offer name k has o j v there may_be ch).0.target refl (fits_it name k has o None j v there may_be ch)
+        (fresh_of ch.x.of has) refl
       where
         lefts' : Leaves o ch.x.of has (rest (suc k) t.operands) ws
         lefts' = subst (λ c. Leaves o c has (rest (suc k) t.operands) ws) (sym (accords_now name k has o j v there may_be ch).kind.of) lefts
@@ -297,14 +306,18 @@ module _ (h : ℕ → Thing) (obj : ℕ → ℕ) (held : ℕ) (hold : ℕ → �
             (leaves ch.x.of has (forget_all (is_it ch.g) (rest (suc k) f.shape.operands))) ws
             (left_both (put o (called (h o) name None) h) (put ch.g (Some (group ch.x.of (At to) false)) f.groups) o ch.x.of has
             (forget_all (is_it ch.g) (rest (suc k) f.shape.operands)) (rest (suc k) t.operands) ws lefts' e
-            (tops_call name k has o None j ch.g ch.x ch.receiver ch.is (at_g name k has o j v there may_be ch) (group ch.x.of (At to) false)))
-            (frames.leads name k has ch.g ch.x (from name k has o j v there may_be ch).0 to (offer name k has o j v there may_be ch).0 j ch.receiver ch.is
+            (tops_call name k has o None j ch.g ch.x ch.receiver ch.is (at_g name k has o j v there may_be ch)
+            (group ch.x.of (At to) false)))
+            (frames.leads name k has ch.g ch.x (from name k has o j v there may_be ch).0 to
+            (offer name k has o j v there may_be ch).0 j ch.receiver ch.is
             (from name k has o j v there may_be ch).2 (offer name k has o j v there may_be ch).1 q e)
         finish (One to) q fits (Some d) e = none_some (sym (left_none o ch.x.of has (rest (suc k) t.operands) ws lefts') ∙ e)
 
-    pub calls_made : (name : Name) (k : ℕ) (has : Result) (c : Class) (null : Bool) (o : ℕ) → i ≡ Call name k has → nth Plain t.operands k ≡ Ref o →
+    pub calls_made : (name : Name) (k : ℕ) (has : Result) (c : Class) (null : Bool) (o : ℕ) → i ≡ Call name k has →
+        nth Plain t.operands k ≡ Ref o →
         (h o).null ≡ false → MayAnswer (h o) name None → fresh_of (h o).of has ≡ Some c → CallHolds name k f →
-        Goes_to (suc at) (shape t.locals (Ref n ∷ rest (suc k) t.operands)) (put n (handed null c) (put o (called (h o) name None) h)) (suc n)
+        Goes_to (suc at) (shape t.locals (Ref n ∷ rest (suc k) t.operands)) (put n (handed null c) (put o (called (h o) name None) h))
+        (suc n)
     calls_made name k has c null o j v there may_be e ch =
         finish (offer name k has o j v there may_be ch).0.target refl (fits_it name k has o None j v there may_be ch)
       where
@@ -312,18 +325,24 @@ module _ (h : ℕ → Thing) (obj : ℕ → ℕ) (held : ℕ) (hold : ℕ → �
         fresh' = ap (λ (z : Class). fresh_of z has) (accords_now name k has o j v there may_be ch).kind.of ∙ e
 
         finish : (target : Target) → (offer name k has o j v there may_be ch).0.target ≡ target → skeleton.Fits target None →
-            Goes_to (suc at) (shape t.locals (Ref n ∷ rest (suc k) t.operands)) (put n (handed null c) (put o (called (h o) name None) h)) (suc n)
+            Goes_to (suc at) (shape t.locals (Ref n ∷ rest (suc k) t.operands)) (put n (handed null c) (put o (called (h o) name None) h))
+            (suc n)
         finish (ByAnswer branches) q fits = none_some fits.2
         finish (One to) q fits =
-            goes_by h obj held hold mark n p i at f (suc at) (shape t.locals (Ref n ∷ rest (suc k) t.operands)) (put n (handed null c) (put o (called (h o) name None) h)) (suc n)
+            goes_by h obj held hold mark n p i at f (suc at) (shape t.locals (Ref n ∷ rest (suc k) t.operands))
+            (put n (handed null c) (put o (called (h o) name None) h)) (suc n)
             (added (new_group true c)
             (shape (forget_all (is_it ch.g) f.shape.locals) (forget_all (is_it ch.g) (rest (suc k) f.shape.operands)))
             (behind ch.g (group ch.x.of (At to) false) (forget_all (is_it ch.g) (rest (suc k) f.shape.operands)) f.shape f))
             (put f.count n obj) (frames.leads_made name k has c ch.g ch.x (from name k has o j v there may_be ch).0 to
-            (offer name k has o j v there may_be ch).0 j ch.receiver ch.is (from name k has o j v there may_be ch).2 (offer name k has o j v there may_be ch).1 q fresh')
-            (then_made h obj held hold mark n p i at f t fit right low (behind ch.g (group ch.x.of (At to) false) (forget_all (is_it ch.g) (rest (suc k) f.shape.operands)) f.shape f) obj
+            (offer name k has o j v there may_be ch).0 j ch.receiver ch.is (from name k has o j v there may_be ch).2
+            (offer name k has o j v there may_be ch).1 q fresh')
+            (then_made h obj held hold mark n p i at f t fit right low
+            (behind ch.g (group ch.x.of (At to) false) (forget_all (is_it ch.g) (rest (suc k) f.shape.operands)) f.shape f) obj
             (shape t.locals (rest (suc k) t.operands)) (put o (called (h o) name None) h) true null c (λ e. refl)
-            (calls_come name k has o None j ch.g ch.x ch.receiver ch.is (at_g name k has o j v there may_be ch) (group ch.x.of (At to) false)
+            (calls_come name k has o None j ch.g ch.x ch.receiver ch.is (at_g name k has o j v there may_be ch)
+            (group ch.x.of (At to) false)
             (accords_then name k has o j v there may_be ch to q) (placed_right name k has o j v there may_be ch to q)
             (forget_all (is_it ch.g) (rest (suc k) f.shape.operands)) (rest (suc k) t.operands)
-            (tops_call name k has o None j ch.g ch.x ch.receiver ch.is (at_g name k has o j v there may_be ch) (group ch.x.of (At to) false))))
+            (tops_call name k has o None j ch.g ch.x ch.receiver ch.is (at_g name k has o j v there may_be ch)
+            (group ch.x.of (At to) false))))

@@ -48,7 +48,8 @@ place_called x name answer from to m p e l = go (begins x.of x.came) p
     go : (o : Option To) → option_and_then (λ b. led x.of.typestate b x.calls) o ≡ Some from →
         option_and_then (λ b. led x.of.typestate b (x.calls ++ record { method = name; answer = answer } ∷ [])) o ≡ Some to
     go None p = none_some p
-    go (Some b) p = led_more x.of.typestate from to (record { method = name; answer = answer }) (next_is x.of from to name answer m e l) x.calls b p
+    go (Some b) p = led_more x.of.typestate from to (record { method = name; answer = answer })
+        (next_is x.of from to name answer m e l) x.calls b p
 
 -- ---- what may be
 
@@ -60,7 +61,8 @@ stands_at x e (broken b c) n = absurd (n refl)
 
 -- ---- what an answer tells
 
-kept_label : (fits : Name → Bool) (label : Name) → fits label ≡ true → (bs : List Branch) → by_label (kept fits bs) label ≡ by_label bs label
+kept_label : (fits : Name → Bool) (label : Name) → fits label ≡ true → (bs : List Branch) →
+    by_label (kept fits bs) label ≡ by_label bs label
 kept_label fits label a [] = refl
 kept_label fits label a (b ∷ bs) = go (bytes_eq b.label label) refl (fits b.label) refl (kept_label fits label a bs)
   where
@@ -92,7 +94,8 @@ told x fits label e a g (pending {branches = bs} other to b l p) =
 
 -- ---- what may be left
 
-ends_all : (t : Typestate) (label : Name) (to : To) (bs : List Branch) → by_label bs label ≡ Some to → all_end t bs ≡ true → may_end t to ≡ true
+ends_all : (t : Typestate) (label : Name) (to : To) (bs : List Branch) → by_label bs label ≡ Some to → all_end t bs ≡ true →
+    may_end t to ≡ true
 ends_all t label to [] l a = none_some l
 ends_all t label to (b ∷ bs) l a = go (bytes_eq b.label label) l (may_end t b.to) refl a (ends_all t label to bs)
   where
@@ -166,11 +169,13 @@ state_is [] q s e = none_some e
 state_is (x ∷ ss) zero s e = subst (Contains (x ∷ ss)) (some_is e) (first_there x ss)
 state_is (x ∷ ss) (suc q) s e = later_there x ss s (state_is ss q s e)
 
-pub is_offered : (t : Class) (from : To) (name : Name) (m : Offer) → offered_at t from name ≡ Some m → IsOffered t.typestate.states m × (m.name ≡ name)
+pub is_offered : (t : Class) (from : To) (name : Name) (m : Offer) → offered_at t from name ≡ Some m →
+    IsOffered t.typestate.states m × (m.name ≡ name)
 is_offered t tos.End name m e = none_some e
 is_offered t (tos.State q) name m e = go (slice_get t.typestate.states q) refl e
   where
-    go : (o : Option StateOf) → slice_get t.typestate.states q ≡ o → option_and_then (λ (s : StateOf). offered_in s.methods name) o ≡ Some m →
+    go : (o : Option StateOf) → slice_get t.typestate.states q ≡ o →
+        option_and_then (λ (s : StateOf). offered_in s.methods name) o ≡ Some m →
         IsOffered t.typestate.states m × (m.name ≡ name)
     go None d e = none_some e
     go (Some s) d e = let z = offered_in_is s.methods name m e in ((s, state_is t.typestate.states q s d, z.0), z.1)

@@ -14,7 +14,8 @@ use Rattle.insp_rules.proofs.Lists.{some_is, none_some, both_map, Put, is, isnt,
 use Rattle.insp_law.proofs.Fitting.{Says, bare, object, answer, Accords, Kin, kin_kind, Fits, Sits, Fit, fresh, or_none}
 
 pub both_over : {A B C : Type 0} (R : A → B → Type 0) (S : B → C → Type 0) (T : A → C → Type 0) →
-    ((a : A) (b : B) (c : C) → R a b → S b c → T a c) → {xs : List A} {ys : List B} {zs : List C} → Both R xs ys → Both S ys zs → Both T xs zs
+    ((a : A) (b : B) (c : C) → R a b → S b c → T a c) → {xs : List A} {ys : List B} {zs : List C} → Both R xs ys → Both S ys zs →
+    Both T xs zs
 both_over R S T f none none = none
 both_over R S T f (more {a = a} {b = b} h hs) (more {b = c} k ks) = more (f a b c h k) (both_over R S T f hs ks)
 
@@ -34,7 +35,8 @@ module _ (h : ℕ → Thing) (obj : ℕ → ℕ) (groups : ℕ → Option Group)
   carried c a b (object {g = g} x e i) = object (c.live g x e).0 (c.live g x e).1 (i ∙ sym (c.same g x e))
   carried c a b (answer {g = g} {label = label} x e i) = answer (c.live g x e).0 (c.live g x e).1 (c.heard g x label e refl i)
 
-  pub carried_fits : Carries (λ g. false) → (s : Shape Known) (t : Shape Value) → Fits h obj groups stale s t → Fits h' obj' groups' stale' s t
+  pub carried_fits : Carries (λ g. false) → (s : Shape Known) (t : Shape Value) → Fits h obj groups stale s t →
+      Fits h' obj' groups' stale' s t
   carried_fits c s t f = record {
     locals = both_map (Says h obj groups stale) (Says h' obj' groups' stale') (carried c) f.locals;
     operands = both_map (Says h obj groups stale) (Says h' obj' groups' stale') (carried c) f.operands;
@@ -59,7 +61,8 @@ module _ (h : ℕ → Thing) (obj : ℕ → ℕ) (groups : ℕ → Option Group)
 
 pub heap_fit : (h h' : ℕ → Thing) (obj : ℕ → ℕ) (stale : ℕ → Bool) (held : ℕ) (hold : ℕ → ℕ) (mark n n' : ℕ) (f : Sight) (t : Shape Value) →
     n ≤ n' → ((g : ℕ) (x : Group) → f.groups g ≡ Some x → (stale g ≡ true) ⊎ (h' (obj g) ≡ h (obj g))) →
-    ((g : ℕ) (x : Group) → f.groups g ≡ Some x → Kin (h' (obj g)) (h (obj g))) → Fit h obj stale held hold mark n f t → Fit h' obj stale held hold mark n' f t
+    ((g : ℕ) (x : Group) → f.groups g ≡ Some x → Kin (h' (obj g)) (h (obj g))) → Fit h obj stale held hold mark n f t →
+    Fit h' obj stale held hold mark n' f t
 heap_fit h h' obj stale held hold mark n n' f t le same kind fit = record {
   fits = carried_fits h obj f.groups stale h' obj f.groups stale carries f.shape t fit.fits;
   sits = record {
@@ -97,7 +100,8 @@ heap_fit h h' obj stale held hold mark n n' f t le same kind fit = record {
 held_within : (obj : ℕ → ℕ) (held : ℕ) (hold : ℕ → ℕ) (mark n : ℕ) (groups : ℕ → Option Group) (count : ℕ) →
     Sits obj held hold mark n groups count → held ≤ count
 held_within obj zero hold mark n groups count s = omega arith
-held_within obj (suc k) hold mark n groups count s = let w = s.within k (s.holds k (omega arith)).0 (s.holds k (omega arith)).1 in omega (arith, w)
+held_within obj (suc k) hold mark n groups count s =
+    let w = s.within k (s.holds k (omega arith)).0 (s.holds k (omega arith)).1 in omega (arith, w)
 
 pub add_fit : (h : ℕ → Thing) (obj : ℕ → ℕ) (held : ℕ) (hold : ℕ → ℕ) (mark n : ℕ) (f : Sight) (t : Shape Value) (x : Group) (o : ℕ) →
     mark ≤ o → o < n → ((g : ℕ) (y : Group) → f.groups g ≡ Some y → obj g ≢ o) → Accords x (h o) →
@@ -202,12 +206,15 @@ stood h obj groups groups' old a b c (reached.object x e) (object y d i) = objec
 stood h obj groups groups' old a b c (reached.answer x e) (answer y d i) = answer x e i
 stood h obj groups groups' old a b c reached.forgotten (answer y d i) = bare (laws.other refl)
 
-pub renamed : (h : ℕ → Thing) (obj : ℕ → ℕ) (held : ℕ) (hold : ℕ → ℕ) (mark n : ℕ) (f g : Sight) (t : Shape Value) → (r : Renames held f g) →
+pub renamed : (h : ℕ → Thing) (obj : ℕ → ℕ) (held : ℕ) (hold : ℕ → ℕ) (mark n : ℕ) (f g : Sight) (t : Shape Value) →
+    (r : Renames held f g) →
     Fit h obj fresh held hold mark n f t → Fit h (λ a. obj (r.old a)) fresh held hold mark n g t
 renamed h obj held hold mark n f g t r fit = record {
   fits = record {
-    locals = both_over (Stands r.old g.groups) (Says h obj f.groups fresh) (Says h objs g.groups fresh) (stood h obj f.groups g.groups r.old) r.locals fit.fits.locals;
-    operands = both_over (Stands r.old g.groups) (Says h obj f.groups fresh) (Says h objs g.groups fresh) (stood h obj f.groups g.groups r.old) r.operands fit.fits.operands;
+    locals = both_over (Stands r.old g.groups) (Says h obj f.groups fresh) (Says h objs g.groups fresh)
+        (stood h obj f.groups g.groups r.old) r.locals fit.fits.locals;
+    operands = both_over (Stands r.old g.groups) (Says h obj f.groups fresh) (Says h objs g.groups fresh)
+        (stood h obj f.groups g.groups r.old) r.operands fit.fits.operands;
   };
   sits = record {
     within = r.within;

@@ -8,7 +8,8 @@ use Rattle.ts_tree.specs.declared.parts.To.{To}
 use Rattle.ts_tree.specs.declared.parts.To.TheVariants as tos
 use Rattle.ts_tree.specs.declared.parts.TypeName.TheVariants as types
 use Rattle.ts_tree.specs.Typestate.{One, ByAnswer, Method as Offer, Typestate}
-use Rattle.insp_rules.specs.Program.{Class, Result, Void, Instruction, Make, Call, CallIn, CallOut, Keep, Return, Throw, Program, Method, code_at}
+use Rattle.insp_rules.specs.Program.{Class, Result, Void, Instruction, Make, Call, CallIn, CallOut, Keep, Return, Throw, Program, Method}
+use Rattle.insp_rules.specs.Program.{code_at}
 use Rattle.insp_rules.specs.Program.{Invocation, Does, Invoke, does, is_of_followed, is_called_otherwise}
 use Rattle.insp_rules.specs.Program.{Shape, shape, rest}
 use Rattle.insp_rules.specs.Skeleton.{put, offered_at, fresh_of}
@@ -100,7 +101,9 @@ from_begin : (gs : ℕ → Option Group) → ((g : ℕ) → gs g ≡ None) → (
     Next 1 (added (frames.new_group false u) (shape [] []) (sight (shape [] []) gs 0))
 from_begin gs bare u q = subst (λ (u : Class). Next 1 (added (frames.new_group false u) (shape [] []) (sight (shape [] []) gs 0))) (sym q)
     (record {
-      stage = made (numbered_groups (0 ∷ []) (put 0 (Some first_group) gs)) 1 refl (λ g ne. ap (λ (b : Bool). only_if b (put 0 (Some first_group) gs (Rattle.insp_rules.specs.Program.nth 0 (0 ∷ []) g))) (not_below g ne));
+      stage = made (numbered_groups (0 ∷ []) (put 0 (Some first_group) gs)) 1 refl
+          (λ g ne. ap (λ (b : Bool). only_if b (put 0 (Some first_group) gs (Rattle.insp_rules.specs.Program.nth 0 (0 ∷ []) g)))
+          (not_below g ne));
       kept = λ g x e over gone. kept g x e gone (putting 0 (Some first_group) gs g);
     })
   where
@@ -112,14 +115,16 @@ from_begin gs bare u q = subst (λ (u : Class). Next 1 (added (frames.new_group 
     kept g x e gone (is i b q) = absurd (true≢false (sym (ap (λ a. has_group a (shape [] (Object 0 ∷ []))) i) ∙ gone))
     kept g x e gone (isnt i b q) = none_some (sym (bare g) ∙ sym q ∙ e)
 
-from_made : (gs : ℕ → Option Group) (n : ℕ) → ((g : ℕ) → g ≢ 0 → gs g ≡ None) → (k : ℕ) (has : Result) (g : ℕ) (x0 x : Group) → k ≡ 0 → has ≡ Void →
+from_made : (gs : ℕ → Option Group) (n : ℕ) → ((g : ℕ) → g ≢ 0 → gs g ≡ None) → (k : ℕ) (has : Result) (g : ℕ) (x0 x : Group) → k ≡ 0 →
+    has ≡ Void →
     g ≡ 0 → finished x ≡ true →
     Next 2 (behind g x (leaves x0.of has (forget_all (is_it g) (rest (suc k) (Object 0 ∷ [])))) (shape [] (Object 0 ∷ []))
     (sight (shape [] (Object 0 ∷ [])) gs n))
 from_made gs n bare k has g x0 x ek eh eg fin =
     subst (λ k. Next 2 (behind g x (leaves x0.of has (forget_all (is_it g) (rest (suc k) (Object 0 ∷ [])))) (shape [] (Object 0 ∷ []))
     (sight (shape [] (Object 0 ∷ [])) gs n))) (sym ek)
-    (subst (λ (has : Result). Next 2 (behind g x (leaves x0.of has []) (shape [] (Object 0 ∷ [])) (sight (shape [] (Object 0 ∷ [])) gs n))) (sym eh)
+    (subst (λ (has : Result). Next 2 (behind g x (leaves x0.of has []) (shape [] (Object 0 ∷ [])) (sight (shape [] (Object 0 ∷ [])) gs n)))
+    (sym eh)
     (record {
       stage = called (numbered_groups [] (put g (Some x) gs)) 0 (λ a. refl);
       kept = λ a y e over gone. kept a y e (putting g (Some x) gs a);
@@ -277,8 +282,11 @@ good (reached.meant {c = c} {at = at} {f = f} v method r e m) =
     let z = good r in absurd (no_call_out at f v z.1 (at_root c at f (CallOut v) z.0 e))
 good (reached.called r) = good r
 good (reached.begins {c = c} r) =
-    let q = good r in
-    (q, subst (λ (d : Context). Stage 0 (canonical d.held (reached.entry p d))) (sym q) (begins (numbered_groups [] (λ g. None)) (λ g. refl)))
+    let q = good r in (
+      q,
+      subst (λ (d : Context). Stage 0 (canonical d.held (reached.entry p d))) (sym q)
+          (begins (numbered_groups [] (λ g. None)) (λ g. refl)),
+    )
 good (reached.steps {c = c} {at = at} {to = to} {f = f} {g = g} i r e w) =
     let z = good r in (
       z.0,
@@ -344,7 +352,8 @@ receives at f v (made gs n first bare) e =
     (record { not_null = λ q. absurd (cc); known = refl })
 
 -- it gives nothing back
-gives : (at : ℕ) (f : Sight) (words : ℕ) → Stage at f → seen_at p 0 at f ≡ Some (Return words) → is_followed (given_back words f.shape) ≡ false
+gives : (at : ℕ) (f : Sight) (words : ℕ) → Stage at f → seen_at p 0 at f ≡ Some (Return words) →
+    is_followed (given_back words f.shape) ≡ false
 gives at f words (begins gs bare) e = let z : Make c ≡ Return words = some_is e in absurd (cc)
 gives at f words (made gs n first bare) e = let z : Call done 0 Void ≡ Return words = at_made gs n (Return words) first e in absurd (cc)
 gives at f words (called gs n bare) e =
@@ -366,7 +375,8 @@ example = record {
         let z = good r in absurd (no_call_in at f method k words z.1 (at_root c at f (CallIn method k words) z.0 l));
     receives = λ c at f v r e has.
         let z = good r in
-        subst (λ (d : Context). Receives (is_of_followed p d.method) v (Rattle.insp_rules.specs.Program.nth unknown f.shape.operands v.words))
+        subst (λ (d : Context). Receives (is_of_followed p d.method) v
+        (Rattle.insp_rules.specs.Program.nth unknown f.shape.operands v.words))
         (sym z.0) (receives at f v z.1 (ap (λ (d : Context). code_at p d.method at) (sym z.0) ∙ e));
     gives = λ c at f words r e otherwise.
         let z = good r in

@@ -13,7 +13,8 @@ use Rattle.insp_rules.specs.Program as program
 use Rattle.std.specs.Str.{bytes_eq}
 use Rattle.std.specs.Prelude.{if◌then◌else◌}
 use Rattle.insp_rules.specs.Program.{CallOut, Keep, Return, Throw, Shape, nth, popped, pushed, straight}
-use Rattle.insp_rules.specs.Skeleton.{Value, Plain, Nil, Ref, Said, Bit, Map, Constant, Again, Another, is_loose, Thing, values, begins, place}
+use Rattle.insp_rules.specs.Skeleton.{Value, Plain, Nil, Ref, Said, Bit, Map, Constant, Again, Another, is_loose, Thing, values, begins}
+use Rattle.insp_rules.specs.Skeleton.{place}
 use Rattle.insp_rules.specs.Skeleton as skeleton
 use Rattle.insp_law.specs.Laws.{Bears}
 use Rattle.insp_law.specs.Laws as laws
@@ -57,7 +58,8 @@ kin e = record { of = ap (λ (z : Thing). z.of) e; null = ap (λ (z : Thing). z.
 pub kin_kind : {x : Group} {a b : Thing} → Kin a b → KindOf x b → KindOf x a
 kin_kind k d = record { of = d.of ∙ sym k.of; null = λ e. d.null (sym k.null ∙ e) }
 
-pub record Fits (h : ℕ → Thing) (obj : ℕ → ℕ) (groups : ℕ → Option Group) (stale : ℕ → Bool) (s : Shape Known) (t : Shape Value) : Type 0 where
+pub record Fits (h : ℕ → Thing) (obj : ℕ → ℕ) (groups : ℕ → Option Group) (stale : ℕ → Bool) (s : Shape Known)
+    (t : Shape Value) : Type 0 where
   pub locals : Both (Says h obj groups stale) s.locals t.locals
   pub operands : Both (Says h obj groups stale) s.operands t.operands
 
@@ -201,7 +203,8 @@ module _ (h : ℕ → Thing) (obj : ℕ → ℕ) (groups : ℕ → Option Group)
   pops s t n f = record { locals = f.locals; operands = both_rest R n f.operands }
 
   -- an operand
-  pub operand : (s : Shape Known) (t : Shape Value) → Fits h obj groups stale s t → (n : ℕ) → R (nth unknown s.operands n) (nth Plain t.operands n)
+  pub operand : (s : Shape Known) (t : Shape Value) → Fits h obj groups stale s t → (n : ℕ) →
+      R (nth unknown s.operands n) (nth Plain t.operands n)
   operand s t f n = both_nth R unknown Plain others n f.operands
 
   pub straights : (i : Instruction) (s : Shape Known) (t : Shape Value) → Fits h obj groups stale s t →

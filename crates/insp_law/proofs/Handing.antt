@@ -11,7 +11,8 @@ use Rattle.insp_rules.specs.Program.{Invocation, Invoke, names, is_protocol, cla
 use Rattle.insp_rules.specs.Skeleton.{Value, Plain, Nil, Bit, Map, Constant, Ref, Again, Another, Said, Thing, Frame, State, frame, state}
 use Rattle.insp_rules.specs.Skeleton.{instruction_at, is_loose, result, place, has_it, someone_has}
 use Rattle.insp_rules.specs.Skeleton as skeleton
-use Rattle.insp_rules.specs.Frames.{Known, unknown, Object, Element, At, Group, Sight, Holds, CallHolds, given_back, NoneFollowed, is_followed}
+use Rattle.insp_rules.specs.Frames.{Known, unknown, Object, Element, At, Group, Sight, Holds, CallHolds, given_back, NoneFollowed}
+use Rattle.insp_rules.specs.Frames.{is_followed}
 use Rattle.insp_rules.specs.Frames.{seen_at, Receives, IsNew}
 use Rattle.insp_rules.specs.Frames as frames
 use Rattle.insp_rules.specs.Reached.{Both, none, more, Context, Numbering, Inspected, Found, Reached, Outside, handed_over}
@@ -77,7 +78,8 @@ module _ (p : Program) (numbering : Numbering) (roots : List Context) where
   running : {s : State} → Inv p numbering roots s → (m at : ℕ) (t : Shape Value) (fs : List Frame) → s.stack ≡ frame m at t ∷ fs →
       Running s.things s.next m at t fs
   running (over right) m at t fs q = absurd (cc)
-  running (runs {c = c} {f = f} {hold = hold} {mark = mark} {obj = obj} {top = top} {fs = gs} {h = h} {n = n} r same fit had below low right)
+  running (runs {c = c} {f = f} {hold = hold} {mark = mark} {obj = obj} {top = top} {fs = gs} {h = h} {n = n} r same fit had below low
+      right)
       m at t fs q =
       subst (λ (b : Frame). Running h n b.method b.at b.shape fs) is_top (subst (Running h n top.method top.at top.shape) is_rest (record {
         c = c;
@@ -131,10 +133,12 @@ module _ (p : Program) (numbering : Numbering) (roots : List Context) where
       go false d ih = ih
 
 module _ (p : Program) (numbering : Numbering) (roots : List Context) (inspected : Inspected p numbering roots) where
-  pub goes_on : {s : State} → Inv p numbering roots s → (m at : ℕ) (t : Shape Value) (fs : List Frame) (name : Name) (k : ℕ) (has : Result) →
+  pub goes_on : {s : State} → Inv p numbering roots s → (m at : ℕ) (t : Shape Value) (fs : List Frame) (name : Name) (k : ℕ)
+      (has : Result) →
       s.stack ≡ frame m at t ∷ fs → instruction_at p s.things m at t ≡ Some (Call name k has) → (o : ℕ) × (nth Plain t.operands k ≡ Ref o)
   goes_on {s} i m at t fs name k has q e =
-      go (nth unknown r.f.shape.operands k) (nth Plain t.operands k) (operand s.things r.obj r.f.groups fresh r.f.shape t r.fit.fits k) ch.receiver
+      go (nth unknown r.f.shape.operands k) (nth Plain t.operands k)
+      (operand s.things r.obj r.f.groups fresh r.f.shape t r.fit.fits k) ch.receiver
     where
       r : Running p numbering roots s.things s.next m at t fs
       r = running p numbering roots i m at t fs q
@@ -165,7 +169,8 @@ module _ (p : Program) (numbering : Numbering) (roots : List Context) (inspected
       no_alias true d = absurd (true≢false d)
       no_alias false d = no_protocol d
 
-      unless_followed : (w : Value) → is_loose w ≡ true → (b : Bool) → is_of_followed p r.c.method ≡ b → (if b then false else is_protocol v) ≡ false →
+      unless_followed : (w : Value) → is_loose w ≡ true → (b : Bool) → is_of_followed p r.c.method ≡ b →
+          (if b then false else is_protocol v) ≡ false →
           ((o : ℕ) × (w ≡ Ref o)) ⊎ (is_of_followed p m ≡ true) × (is_loose w ≡ true)
       unless_followed w l true d k = inr (ap (is_of_followed p) r.same ∙ d, l)
       unless_followed w l false d k = no_protocol k
@@ -217,7 +222,8 @@ module _ (p : Program) (numbering : Numbering) (roots : List Context) (inspected
       class_of (result_of p m) ≡ None → skeleton.is_followed (result words t) ≡ false
   gives_plain {s} i m at t fs words q e wait plain =
       free s.things r.obj r.f.groups (given_back words r.f.shape) (result words t) (result_is s.things s.next m at t fs r words)
-      (inspected.gives_outside r.c at r.f words r.found (entered_outside p numbering roots r.below wait) (seen r.fit p m r.c.method at r.same e)
+      (inspected.gives_outside r.c at r.f words r.found (entered_outside p numbering roots r.below wait)
+      (seen r.fit p m r.c.method at r.same e)
       (ap (λ j. class_of (result_of p j)) (sym r.same) ∙ plain))
     where
       r : Running p numbering roots s.things s.next m at t fs
@@ -228,7 +234,8 @@ module _ (p : Program) (numbering : Numbering) (roots : List Context) (inspected
       is_called_otherwise p m ≡ true → class_of (result_of p m) ≡ Some class → IsHandedOut s.things fs class (result words t)
   gives_new {s} i m at t fs words class q e wait otherwise has =
       go (given_back words r.f.shape) (result words t) (result_is s.things s.next m at t fs r words)
-      ((inspected.gives r.c at r.f words r.found (seen r.fit p m r.c.method at r.same e) (ap (is_called_otherwise p) (sym r.same) ∙ otherwise)).new class
+      ((inspected.gives r.c at r.f words r.found (seen r.fit p m r.c.method at r.same e)
+      (ap (is_called_otherwise p) (sym r.same) ∙ otherwise)).new class
       (ap (λ j. class_of (result_of p j)) (sym r.same) ∙ has))
     where
       r : Running p numbering roots s.things s.next m at t fs
@@ -238,7 +245,8 @@ module _ (p : Program) (numbering : Numbering) (roots : List Context) (inspected
       own g above (inl w) = let l = w.0 in absurd (omega (arith, l, above))
       own g above (inr w) = w.1
 
-      go : (a : Known) (v : Value) → Says s.things r.obj r.f.groups fresh a v → IsNew r.c.held r.f.groups class a → IsHandedOut s.things fs class v
+      go : (a : Known) (v : Value) → Says s.things r.obj r.f.groups fresh a v → IsNew r.c.held r.f.groups class a →
+          IsHandedOut s.things fs class v
       go a v (bare laws.null) frames.null = laws.null
       go a v (bare (laws.other l)) (frames.other is) = laws.other is l
       go a v (bare (laws.lost l)) w = elim w [ ]

@@ -26,9 +26,11 @@ use Rattle.insp_law.proofs.Carrying.{carried_fits}
 use Rattle.insp_law.proofs.Calls.{told}
 use Rattle.insp_law.proofs.Steps as steps
 use Rattle.insp_law.proofs.Steps.{AllRight, regroup, put_was, put_goes, Goes, goes_by}
-use Rattle.insp_law.proofs.Telling.{nulled_bears, may, agrees_with, asked_shows, shown_nothing, sign_none, chosen_goes, choice_is, same_none}
+use Rattle.insp_law.proofs.Telling.{nulled_bears, may, agrees_with, asked_shows, shown_nothing, sign_none, chosen_goes, choice_is}
+use Rattle.insp_law.proofs.Telling.{same_none}
 use Rattle.insp_law.proofs.Telling.{AllNull, null_dead, null_sure, same_dead, same_sure, may_null, may_same, may_compare, Sign}
-use Rattle.insp_law.proofs.Telling.{asks_sign, no_sign, signs, Chosen, asks_constant, no_constant, choices, Switched, asks_number, no_number}
+use Rattle.insp_law.proofs.Telling.{asks_sign, no_sign, signs, Chosen, asks_constant, no_constant, choices, Switched, asks_number}
+use Rattle.insp_law.proofs.Telling.{no_number}
 use Rattle.insp_law.proofs.Telling.{switches, listed_maps, Shows, null_are, same_are}
 
 module _ (h : ℕ → Thing) (obj : ℕ → ℕ) (held : ℕ) (hold : ℕ → ℕ) (mark n : ℕ) (p : Program) (i : Instruction) (at : ℕ) (f : Sight) where
@@ -42,13 +44,15 @@ module _ (h : ℕ → Thing) (obj : ℕ → ℕ) (held : ℕ) (hold : ℕ → �
     pops_of : (k : ℕ) → Fits h obj f.groups fresh (popped k f.shape) (popped k t)
     pops_of k = pops h obj f.groups fresh f.shape t k fit.fits
 
-    plain : (to : ℕ) (s : Shape Known) (u : Shape Value) → Way p held i at f to (with_shape f s) → Fits h obj f.groups fresh s u → Goes_to to u h n
+    plain : (to : ℕ) (s : Shape Known) (u : Shape Value) → Way p held i at f to (with_shape f s) → Fits h obj f.groups fresh s u →
+        Goes_to to u h n
     plain = steps.plain h obj held hold mark n p i at f t fit right low
 
     -- an answer tells of its object
     refines : (to k : ℕ) (fits : Name → Bool) (label : Name) (g : ℕ) (x : Group) → fits label ≡ true → f.groups g ≡ Some x →
         (h (obj g)).answer ≡ Some label →
-        ((e : Element) → refined fits x.element ≡ Some e → Way p held i at f to (asked g x e (popped k f.shape) f)) → Goes_to to (popped k t) h n
+        ((e : Element) → refined fits x.element ≡ Some e → Way p held i at f to (asked g x e (popped k f.shape) f)) →
+        Goes_to to (popped k t) h n
     refines to k fits label g x good e said way =
         goes_by h obj held hold mark n p i at f to (popped k t) h n (asked g x d.0 (popped k f.shape) f) obj (way d.0 d.1) (record {
           fit = record {
@@ -62,7 +66,11 @@ module _ (h : ℕ → Thing) (obj : ℕ → ℕ) (held : ℕ) (hold : ℕ → �
             agrees = λ a y l. inr (agrees a y l (putting g (Some (group x.of d.0 x.null)) f.groups a));
             kinds = λ a y l. (agrees a y l (putting g (Some (group x.of d.0 x.null)) f.groups a)).kind;
           };
-          kept = λ a y l. inl ((put_goes f.groups g (group x.of d.0 x.null) a y l).0, (put_goes f.groups g (group x.of d.0 x.null) a y l).1, refl);
+          kept = λ a y l. inl (
+            (put_goes f.groups g (group x.of d.0 x.null) a y l).0,
+            (put_goes f.groups g (group x.of d.0 x.null) a y l).1,
+            refl,
+          );
           touches = λ o less. inl refl;
           kinds = λ o less. kin refl;
           more = omega arith;
@@ -78,7 +86,8 @@ module _ (h : ℕ → Thing) (obj : ℕ → ℕ) (held : ℕ) (hold : ℕ → �
         d : (d : Element) × (refined fits x.element ≡ Some d) × Is (h (obj g)) d
         d = told (h (obj g)) fits label x.element said good (was.is there)
 
-        agrees : (a : ℕ) (y : Group) → put g (Some (group x.of d.0 x.null)) f.groups a ≡ Some y → Put g (Some (group x.of d.0 x.null)) f.groups a →
+        agrees : (a : ℕ) (y : Group) → put g (Some (group x.of d.0 x.null)) f.groups a ≡ Some y →
+            Put g (Some (group x.of d.0 x.null)) f.groups a →
             Accords y (h (obj a))
         agrees a y l (is k b p) =
             subst (λ (z : Group). Accords z (h (obj a))) (some_is (sym p ∙ l))
@@ -132,16 +141,19 @@ module _ (h : ℕ → Thing) (obj : ℕ → ℕ) (held : ℕ) (hold : ℕ → �
               Both (Says h obj (without held gs f.groups) fresh) ((if listed g gs then Bare Null else Object g) ∷ frames.nulled gs xs)
               ((if listed o os then Nil else Ref o) ∷ nulled os vs)
           go b q l rs =
-              subst (λ (z : Bool). Both (Says h obj (without held gs f.groups) fresh) ((if listed g gs then Bare Null else Object g) ∷ frames.nulled gs xs)
+              subst (λ (z : Bool). Both (Says h obj (without held gs f.groups) fresh)
+              ((if listed g gs then Bare Null else Object g) ∷ frames.nulled gs xs)
               ((if z then Nil else Ref o) ∷ nulled os vs)) (sym (l ∙ q))
-              (subst (λ (z : Bool). Both (Says h obj (without held gs f.groups) fresh) ((if z then Bare Null else Object g) ∷ frames.nulled gs xs)
+              (subst (λ (z : Bool). Both (Says h obj (without held gs f.groups) fresh)
+              ((if z then Bare Null else Object g) ∷ frames.nulled gs xs)
               ((if b then Nil else Ref o) ∷ nulled os vs)) (sym q) (pick b q))
             where
               pick : (b : Bool) → listed g gs ≡ b → Both (Says h obj (without held gs f.groups) fresh)
                   ((if b then Bare Null else Object g) ∷ frames.nulled gs xs) ((if b then Nil else Ref o) ∷ nulled os vs)
               pick true q = more (bare laws.null) rs
               pick false q = more (object x (without_is g q ∙ e) k) rs
-      nulled_says (more {xs = xs} {ys = vs} (answer {g = g} {form = form} {label = label} x e k) rs) = go (listed g gs) refl (nulled_says rs)
+      nulled_says (more {xs = xs} {ys = vs} (answer {g = g} {form = form} {label = label} x e k) rs) =
+          go (listed g gs) refl (nulled_says rs)
         where
           go : (b : Bool) → listed g gs ≡ b → Both (Says h obj (without held gs f.groups) fresh) (frames.nulled gs xs) (nulled os vs) →
               Both (Says h obj (without held gs f.groups) fresh) ((if listed g gs then Bare Other else Answer g form) ∷ frames.nulled gs xs)
@@ -158,7 +170,8 @@ module _ (h : ℕ → Thing) (obj : ℕ → ℕ) (held : ℕ) (hold : ℕ → �
       shown_null : (to k : ℕ) → AllNull h os → Way p held i at f to (frames.shown held true gs (popped k f.shape) f) →
           Goes_to to (skeleton.shown true os (popped k t)) h n
       shown_null to k nulls way =
-          goes_by h obj held hold mark n p i at f to (skeleton.shown true os (popped k t)) h n (frames.shown held true gs (popped k f.shape) f) obj way (record {
+          goes_by h obj held hold mark n p i at f to (skeleton.shown true os (popped k t)) h n
+          (frames.shown held true gs (popped k f.shape) f) obj way (record {
             fit = record {
               fits = record { locals = nulled_says (pops_of k).locals; operands = nulled_says (pops_of k).operands };
               sits = record {
@@ -195,7 +208,8 @@ module _ (h : ℕ → Thing) (obj : ℕ → ℕ) (held : ℕ) (hold : ℕ → �
     shown_there : (to k g : ℕ) → (h (obj g)).null ≡ false → Way p held i at f to (frames.shown held false (g ∷ []) (popped k f.shape) f) →
         Goes_to to (popped k t) h n
     shown_there to k g there way =
-        goes_by h obj held hold mark n p i at f to (popped k t) h n (frames.shown held false (g ∷ []) (popped k f.shape) f) obj way (record {
+        goes_by h obj held hold mark n p i at f to (popped k t) h n (frames.shown held false (g ∷ []) (popped k f.shape) f) obj way
+        (record {
           fit = record {
             fits = carried_fits h obj f.groups fresh h obj (surely (g ∷ []) f.groups) fresh (record {
               live = goes;
@@ -245,7 +259,8 @@ module _ (h : ℕ → Thing) (obj : ℕ → ℕ) (held : ℕ) (hold : ℕ → �
             )
             go false q = (
               x,
-              ap (λ (b : Bool). if b then option_and_then (λ (x : Group). Some (group x.of x.element false)) (f.groups a) else f.groups a) q ∙ e,
+              ap (λ (b : Bool). if b then option_and_then (λ (x : Group). Some (group x.of x.element false))
+                  (f.groups a) else f.groups a) q ∙ e,
             )
 
         agree_now : (a : ℕ) (y : Group) → surely (g ∷ []) f.groups a ≡ Some y → Accords y (h (obj a))
@@ -276,13 +291,17 @@ module _ (h : ℕ → Thing) (obj : ℕ → ℕ) (held : ℕ) (hold : ℕ → �
     jumped to u (skeleton.go there e) = plain to f.shape t (frames.go there e) fit.fits
     jumped to u (skeleton.either there b e) = plain (program.way b there at) f.shape t (frames.either there b e) fit.fits
     jumped to u (skeleton.null q there b e s) =
-        shown_by (program.way (agree q b) there at) 1 b (frames.null_shows top) (skeleton.null_shows topv) (null_are h obj held hold mark n f t fit top topv (operand_of 0))
-        (λ z. null_dead h topv (subst (Tells (skeleton.is_nil h topv)) z s)) (λ z. null_sure h topv (subst (Tells (skeleton.is_nil h topv)) z s))
-        (frames.null q there b e (may (frames.is_null f.groups top) (skeleton.is_nil h topv) b (may_null h obj held hold mark n f t fit top topv (operand_of 0)) s))
+        shown_by (program.way (agree q b) there at) 1 b (frames.null_shows top) (skeleton.null_shows topv)
+        (null_are h obj held hold mark n f t fit top topv (operand_of 0))
+        (λ z. null_dead h topv (subst (Tells (skeleton.is_nil h topv)) z s))
+        (λ z. null_sure h topv (subst (Tells (skeleton.is_nil h topv)) z s))
+        (frames.null q there b e (may (frames.is_null f.groups top) (skeleton.is_nil h topv) b
+        (may_null h obj held hold mark n f t fit top topv (operand_of 0)) s))
     jumped to u (skeleton.same q there b e asked_not s) =
         go (choices h obj held hold mark n f t fit top next topv nextv (operand_of 0) (operand_of 1))
       where
-        go : Chosen h obj held hold mark n f t fit (nth unknown f.shape.operands 0) (nth unknown f.shape.operands 1) (nth Plain t.operands 0) (nth Plain t.operands 1) →
+        go : Chosen h obj held hold mark n f t fit (nth unknown f.shape.operands 0) (nth unknown f.shape.operands 1)
+            (nth Plain t.operands 0) (nth Plain t.operands 1) →
             Goes_to (program.way (agree q b) there at)
             (skeleton.shown b (skeleton.same_shows (nth Plain t.operands 0) (nth Plain t.operands 1)) (popped 2 t)) h n
         go (asks_constant g l o x y z) = none_some (sym asked_not ∙ y)
@@ -294,9 +313,11 @@ module _ (h : ℕ → Thing) (obj : ℕ → ℕ) (held : ℕ) (hold : ℕ → �
             (frames.same q there b e x (may (frames.are_same f.groups top next) (skeleton.are_same h topv nextv) b
             (may_same h obj held hold mark n f t fit top next topv nextv (operand_of 0) (operand_of 1)) s))
     jumped to u (skeleton.constant q there label other e asked_for) =
-        go (choices h obj held hold mark n f t fit top (nth unknown f.shape.operands 1) topv (nth Plain t.operands 1) (operand_of 0) (operand_of 1))
+        go (choices h obj held hold mark n f t fit top (nth unknown f.shape.operands 1) topv (nth Plain t.operands 1) (operand_of 0)
+        (operand_of 1))
       where
-        go : Chosen h obj held hold mark n f t fit (nth unknown f.shape.operands 0) (nth unknown f.shape.operands 1) (nth Plain t.operands 0) (nth Plain t.operands 1) →
+        go : Chosen h obj held hold mark n f t fit (nth unknown f.shape.operands 0) (nth unknown f.shape.operands 1)
+            (nth Plain t.operands 0) (nth Plain t.operands 1) →
             Goes_to (program.way (agree q (bytes_eq label other)) there at) (popped 2 t) h n
         go (no_constant x) =
             subst (λ u. Goes_to (program.way (agree q (bytes_eq label other)) there at) u h n)
@@ -315,20 +336,25 @@ module _ (h : ℕ → Thing) (obj : ℕ → ℕ) (held : ℕ) (hold : ℕ → �
             let w : (l, o) ≡ (label, other) = some_is (sym y ∙ asked_for) in
             let l_is : l ≡ label = ap (λ (c : Name × Name). c.0) w in
             let o_is : o ≡ other = ap (λ (c : Name × Name). c.1) w in
-            refines (program.way (agree q (bytes_eq label other)) there at) 2 (λ m. agree (bytes_eq label other) (bytes_eq m other)) label g z.x
+            refines (program.way (agree q (bytes_eq label other)) there at) 2
+            (λ m. agree (bytes_eq label other) (bytes_eq m other)) label g z.x
             (agrees_with (bytes_eq label other)) z.live (z.said ∙ ap (λ c. Some c) l_is)
             (λ d r. frames.constant q there (bytes_eq label other) g other z.x d e (x ∙ ap (λ c. Some (g, c)) o_is) z.live r)
     jumped to u (skeleton.sign c there b e asked_not s) = go (signs h obj held hold mark n f t fit c top topv (operand_of 0))
       where
-        go : Sign h obj held hold mark n f t fit c (nth unknown f.shape.operands 0) (nth Plain t.operands 0) → Goes_to (program.way b there at) (popped 1 t) h n
+        go : Sign h obj held hold mark n f t fit c (nth unknown f.shape.operands 0) (nth Plain t.operands 0) →
+            Goes_to (program.way b there at) (popped 1 t) h n
         go (asks_sign g l x y z) = none_some (sym asked_not ∙ y)
         go (no_sign x) =
             plain (program.way b there at) (popped 1 f.shape) (popped 1 t)
             (frames.sign c there b e x (may (frames.comparing c top (Bare (program.Bit false))) (skeleton.comparing c topv (Bit false)) b
-            (may_compare h obj held hold mark n f t fit c top (Bare (program.Bit false)) topv (Bit false) (operand_of 0) (bare laws.bit)) s)) (pops_of 1)
-    jumped to u (skeleton.truth c there b zero_is label e asked_for tells good) = go (signs h obj held hold mark n f t fit c top topv (operand_of 0))
+            (may_compare h obj held hold mark n f t fit c top (Bare (program.Bit false)) topv (Bit false) (operand_of 0)
+            (bare laws.bit)) s)) (pops_of 1)
+    jumped to u (skeleton.truth c there b zero_is label e asked_for tells good) =
+        go (signs h obj held hold mark n f t fit c top topv (operand_of 0))
       where
-        go : Sign h obj held hold mark n f t fit c (nth unknown f.shape.operands 0) (nth Plain t.operands 0) → Goes_to (program.way b there at) (popped 1 t) h n
+        go : Sign h obj held hold mark n f t fit c (nth unknown f.shape.operands 0) (nth Plain t.operands 0) →
+            Goes_to (program.way b there at) (popped 1 t) h n
         go (no_sign x) =
             plain (program.way b there at) (popped 1 f.shape) (popped 1 t)
             (frames.sign c there b e x (may (frames.comparing c top (Bare (program.Bit false))) (skeleton.comparing c topv (Bit false)) b
@@ -342,12 +368,15 @@ module _ (h : ℕ → Thing) (obj : ℕ → ℕ) (held : ℕ) (hold : ℕ → �
         plain (program.way b there at) (popped 2 f.shape) (popped 2 t)
         (frames.numbers c there b e (may (frames.comparing c (nth unknown f.shape.operands 1) top)
         (skeleton.comparing c (nth Plain t.operands 1) topv) b
-        (may_compare h obj held hold mark n f t fit c (nth unknown f.shape.operands 1) top (nth Plain t.operands 1) topv (operand_of 1) (operand_of 0)) s)) (pops_of 2)
+        (may_compare h obj held hold mark n f t fit c (nth unknown f.shape.operands 1) top (nth Plain t.operands 1) topv (operand_of 1)
+        (operand_of 0)) s)) (pops_of 2)
     jumped to u (skeleton.switch arms other number e asked_not) = go (switches h obj held hold mark n f t fit top topv (operand_of 0))
       where
-        go : Switched h obj held hold mark n f t fit (nth unknown f.shape.operands 0) (nth Plain t.operands 0) → Goes_to (goes_for arms other number) (popped 1 t) h n
+        go : Switched h obj held hold mark n f t fit (nth unknown f.shape.operands 0) (nth Plain t.operands 0) →
+            Goes_to (goes_for arms other number) (popped 1 t) h n
         go (asks_number g m l x y z) = none_some (sym asked_not ∙ y)
-        go (no_number x) = plain (goes_for arms other number) (popped 1 f.shape) (popped 1 t) (frames.switch arms other number e x) (pops_of 1)
+        go (no_number x) = plain (goes_for arms other number) (popped 1 f.shape) (popped 1 t) (frames.switch arms other number e x)
+            (pops_of 1)
     jumped to u (skeleton.mapped arms other m label e asked_for) = go (switches h obj held hold mark n f t fit top topv (operand_of 0))
       where
         number : ℕ
@@ -356,7 +385,8 @@ module _ (h : ℕ → Thing) (obj : ℕ → ℕ) (held : ℕ) (hold : ℕ → �
         go : Switched h obj held hold mark n f t fit (nth unknown f.shape.operands 0) (nth Plain t.operands 0) →
             Goes_to (goes_for arms other (Some (number_of p m label))) (popped 1 t) h n
         go (no_number x) =
-            plain (goes_for arms other (Some number)) (popped 1 f.shape) (popped 1 t) (frames.switch arms other (Some number) e x) (pops_of 1)
+            plain (goes_for arms other (Some number)) (popped 1 f.shape) (popped 1 t) (frames.switch arms other (Some number) e x)
+            (pops_of 1)
         go (asks_number g m' l x y z) =
             let w : (m', l) ≡ (m, label) = some_is (sym y ∙ asked_for) in
             let m_is : m' ≡ m = ap (λ (c : ℕ × Name). c.0) w in

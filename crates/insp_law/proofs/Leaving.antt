@@ -7,7 +7,8 @@ use Rattle.std.proofs.lemmas.Bool.Decides.{eqb_tells}
 use Rattle.insp_rules.specs.Program.{Instruction, Call, CallIn, CallOut, Keep, Make, Return, Program, locals_at, taken, plainly}
 use Rattle.insp_rules.specs.Program.{Shape, nth, first, rest, shape}
 use Rattle.insp_rules.specs.Program.{popped, pushed, begun}
-use Rattle.insp_rules.specs.Skeleton.{Value, Plain, Nil, Bit, Map, Constant, Ref, Again, Another, Said, returned, Thing, Frame, State, frame, state}
+use Rattle.insp_rules.specs.Skeleton.{Value, Plain, Nil, Bit, Map, Constant, Ref, Again, Another, Said, returned, Thing, Frame, State}
+use Rattle.insp_rules.specs.Skeleton.{frame, state}
 use Rattle.insp_rules.specs.Skeleton.{values, result, Step, among, has_it}
 use Rattle.insp_rules.specs.Skeleton.{someone_has}
 use Rattle.insp_rules.specs.Skeleton.{instruction_at}
@@ -93,7 +94,8 @@ among_first o (suc k) (Ref a ∷ vs) e = go (a == o) e (among_first o k vs)
 
 module _ (p : Program) (numbering : Numbering) (roots : List Context) (inspected : Inspected p numbering roots) where
   -- the held objects of a frame are among the arguments of the call that waits for it
-  below_has : {h : ℕ → Thing} {c : Context} {hold : ℕ → ℕ} {mark : ℕ} {fs : List Frame} → Below p numbering roots h c hold mark fs → (i : ℕ) →
+  below_has : {h : ℕ → Thing} {c : Context} {hold : ℕ → ℕ} {mark : ℕ} {fs : List Frame} → Below p numbering roots h c hold mark fs →
+      (i : ℕ) →
       i < c.held → someone_has (hold i) fs ≡ true
   below_has (bottom outer e) i less = absurd (omega (arith, less, e))
   below_has (interrupted j outer none_held r m l no_call fit had le below) i less = absurd (omega (arith, less, none_held))
@@ -176,7 +178,8 @@ module _ (p : Program) (numbering : Numbering) (roots : List Context) (inspected
             ((inspected.holds c at f (Return has) r here).returns has refl a x l (omega (arith, held)) k)))
 
     -- a frame that goes back to one that waited for it
-    leaves_back : (has : ℕ) → instruction_at p h m at t ≡ Some (Return has) → (o : ℕ) → has_it o t ≡ true → has_it o (pushed (result has t) (shape [] [])) ≡ false →
+    leaves_back : (has : ℕ) → instruction_at p h m at t ≡ Some (Return has) → (o : ℕ) → has_it o t ≡ true →
+        has_it o (pushed (result has t) (shape [] [])) ≡ false →
         ((g : ℕ) → g < c.held → o ≡ hold g → LeftIf (h o)) → LeftIf (h o)
     leaves_back has e o had gone theirs =
         let z = has_known h obj f.groups fresh o f.shape t fit.fits had in
@@ -221,14 +224,17 @@ module _ (p : Program) (numbering : Numbering) (roots : List Context) (inspected
   leaves_returning : (h : ℕ → Thing) (n : ℕ) (has : ℕ) (c : Context) (m at : ℕ) (f : Sight) (hold : ℕ → ℕ) (mark : ℕ) (obj : ℕ → ℕ)
       (u : Shape Value) (top : Frame) (fs : List Frame) (callee k : ℕ) → Found p numbering roots (reached.Reached c at f) → m ≡ c.method →
       instruction_at p h m at u ≡ Some (Return has) → Fit h obj fresh c.held hold mark n f u → mark ≤ n →
-      instruction_at p h top.method top.at top.shape ≡ Some (CallIn callee k has) → Below p numbering roots h c hold mark (top ∷ fs) → (o : ℕ) →
+      instruction_at p h top.method top.at top.shape ≡ Some (CallIn callee k has) → Below p numbering roots h c hold mark (top ∷ fs) →
+      (o : ℕ) →
       someone_has o (frame m at u ∷ top ∷ fs) ≡ true →
-      someone_has o (frame top.method (suc top.at) (shape top.shape.locals (returned values has (result has u) (rest k top.shape.operands))) ∷ fs) ≡ false → LeftIf (h o)
+      someone_has o (frame top.method (suc top.at) (shape top.shape.locals
+      (returned values has (result has u) (rest k top.shape.operands))) ∷ fs) ≡ false → LeftIf (h o)
   leaves_returning h n has c m at g hold' mark' objs u top fs callee k r is_c e inner low e0
       (interrupted {c = c0} j outer none_held r0 is_c0 l no_call fit had le below) o had_it gone =
       absurd (no_call callee k has (one_done fit p top.method c0.method top.at is_c0 l e0))
   leaves_returning h n has c m at g hold' mark' objs u top fs callee k r is_c e inner low e0
-      (waits {c = c0} {f = f} {hold = hold} {mark = mark} {obj = obj} method k' words' r0 is_c0 l fit had takes held le below) o had_it gone =
+      (waits {c = c0} {f = f} {hold = hold} {mark = mark} {obj = obj} method k' words' r0 is_c0 l fit had takes held le below) o had_it
+      gone =
       go (given_outcome c.held h objs g u inner.fits has) (either_has (has_it o u) (someone_has o (top ∷ fs)) had_it)
     where
       d : Context
@@ -245,9 +251,12 @@ module _ (p : Program) (numbering : Numbering) (roots : List Context) (inspected
           let w : words' ≡ has = cc in
           subst (λ w. seen_at p c0.method top.at f ≡ Some (CallIn method k' w)) w l
 
-      gone_both : (has_it o (shape top.shape.locals (returned values has (result has u) (rest k' top.shape.operands))) ≡ false) × (someone_has o fs ≡ false)
-      gone_both = none_has (has_it o (shape top.shape.locals (returned values has (result has u) (rest k' top.shape.operands)))) (someone_has o fs)
-          (subst (λ j. someone_has o (frame top.method (suc top.at) (shape top.shape.locals (returned values has (result has u) (rest j top.shape.operands))) ∷ fs) ≡ false) same gone)
+      gone_both : (has_it o (shape top.shape.locals (returned values has (result has u) (rest k' top.shape.operands))) ≡ false) ×
+          (someone_has o fs ≡ false)
+      gone_both = none_has (has_it o (shape top.shape.locals (returned values has (result has u) (rest k' top.shape.operands))))
+          (someone_has o fs)
+          (subst (λ j. someone_has o (frame top.method (suc top.at) (shape top.shape.locals
+          (returned values has (result has u) (rest j top.shape.operands))) ∷ fs) ≡ false) same gone)
 
       not_given : has_it o (pushed (result has u) (shape [] [])) ≡ false
       not_given =
@@ -261,18 +270,22 @@ module _ (p : Program) (numbering : Numbering) (roots : List Context) (inspected
           (has_it o u ≡ true) ⊎ (someone_has o (top ∷ fs) ≡ true) → LeftIf (h o)
       go (some_outcome out outcomes) which = whose which
         where
-          comes : Comes h n c0.held hold mark mark' obj f top.shape method k' (numbering.context method (first k' f.shape.operands) f) fit takes
+          comes : Comes h n c0.held hold mark mark' obj f top.shape method k'
+              (numbering.context method (first k' f.shape.operands) f) fit takes
               hold' held le low g objs u inner has out (result has u)
-          comes = gives h n c0.held hold mark mark' obj f top.shape method k' (numbering.context method (first k' f.shape.operands) f) fit takes
+          comes = gives h n c0.held hold mark mark' obj f top.shape method k'
+              (numbering.context method (first k' f.shape.operands) f) fit takes
               hold' held le low g objs u inner has out outcomes
 
           after : Sight
           after = resumed takes.old (numbering.context method (first k' f.shape.operands) f).held k' has
               (record { groups = g.groups; outcome = out }) f
 
-          of_caller : (a : ℕ) (x : Group) → f.groups a ≡ Some x → o ≡ obj a → (a < c0.held) × (obj a ≡ hold a) ⊎ (c0.held ≤ a) × (mark ≤ obj a) →
+          of_caller : (a : ℕ) (x : Group) → f.groups a ≡ Some x → o ≡ obj a →
+              (a < c0.held) × (obj a ≡ hold a) ⊎ (c0.held ≤ a) × (mark ≤ obj a) →
               LeftIf (h o)
-          of_caller a x live q (inl s) = one_of (someone_has o fs) (ap (λ b. someone_has b fs) (q ∙ s.1) ∙ below_has below a s.0) gone_both.1
+          of_caller a x live q (inl s) = one_of (someone_has o fs) (ap (λ b. someone_has b fs) (q ∙ s.1)
+              ∙ below_has below a s.0) gone_both.1
           of_caller a x live q (inr s) =
               let y = comes.kept a x live in
               let at_o : o ≡ comes.after_objs a = q ∙ sym y.2 in
@@ -281,11 +294,14 @@ module _ (p : Program) (numbering : Numbering) (roots : List Context) (inspected
               sym (has_same h comes.after_objs (resumed takes.old (numbering.context method (first k' f.shape.operands) f).held k' has
               (record { groups = g.groups; outcome = out }) f).groups fresh comes.after_fit.sits.apart a y.0 y.1
               (resumed takes.old (numbering.context method (first k' f.shape.operands) f).held k' has
-              (record { groups = g.groups; outcome = out }) f).shape (shape top.shape.locals (returned values has (result has u) (rest k' top.shape.operands))) comes.after_fit.fits)
-              ∙ ap (λ b. has_it b (shape top.shape.locals (returned values has (result has u) (rest k' top.shape.operands)))) (sym at_o) ∙ gone_both.0 in
+              (record { groups = g.groups; outcome = out }) f).shape (shape top.shape.locals
+              (returned values has (result has u) (rest k' top.shape.operands))) comes.after_fit.fits)
+              ∙ ap (λ b. has_it b (shape top.shape.locals (returned values has (result has u) (rest k' top.shape.operands)))) (sym at_o)
+              ∙ gone_both.0 in
               subst (λ b. LeftIf (h b)) (sym at_o)
               (may_leave y.0 (h (comes.after_objs a)) (or_none a (comes.after_fit.agrees a y.0 y.1))
-              (inspected.returned c0 top.at f (record { groups = g.groups; outcome = out }) method k' has r0 here_call (Found.leaves has r here outcomes) takes
+              (inspected.returned c0 top.at f (record { groups = g.groups; outcome = out }) method k' has r0 here_call
+              (Found.leaves has r here outcomes) takes
               a y.0 y.1 s.0 none))
 
           theirs : (i : ℕ) → i < (numbering.context method (first k' f.shape.operands) f).held → o ≡ hold' i → LeftIf (h o)
@@ -306,7 +322,8 @@ module _ (p : Program) (numbering : Numbering) (roots : List Context) (inspected
                   let z = has_known h obj f.groups (handed_over (first k' f.shape.operands)) o f.shape top.shape fit.fits w in
                   of_caller z.0 z.1 z.2 z.3 (fit.sits.sits z.0 z.1 z.2)
 
-  bottom_is : {h : ℕ → Thing} {c : Context} {hold : ℕ → ℕ} {mark : ℕ} {fs : List Frame} → Below p numbering roots h c hold mark fs → fs ≡ [] →
+  bottom_is : {h : ℕ → Thing} {c : Context} {hold : ℕ → ℕ} {mark : ℕ} {fs : List Frame} → Below p numbering roots h c hold mark fs →
+      fs ≡ [] →
       Found p numbering roots (Outside c) × (c.held ≡ 0)
   bottom_is (bottom outer e) q = (outer, e)
   bottom_is (waits method k words r m e fit had takes held le below) q = absurd (cc)
@@ -320,7 +337,8 @@ module _ (p : Program) (numbering : Numbering) (roots : List Context) (inspected
       absurd (no_call method k words (sym (one_done fit p top.method c.method top.at m e d)))
   above_is (interrupted j outer none_held r m l no_call' fit had le below) i d no_call = (outer, none_held)
 
-  pub leaves : {s t : State} → Inv p numbering roots s → Step p s t → (o : ℕ) → someone_has o s.stack ≡ true → someone_has o t.stack ≡ false →
+  pub leaves : {s t : State} → Inv p numbering roots s → Step p s t → (o : ℕ) → someone_has o s.stack ≡ true →
+      someone_has o t.stack ≡ false →
       LeftIf (t.things o) ⊎ GivesBack p s o
   leaves (over right) step o had gone = elim step [ ]
   leaves (runs {c = c} {f = f} {hold = hold} {mark = mark} {obj = obj} r same fit h0 below low right)
@@ -350,7 +368,8 @@ module _ (p : Program) (numbering : Numbering) (roots : List Context) (inspected
   leaves (runs {c = c} {f = f} {hold = hold} {mark = mark} {obj = obj} r same fit h0 below low right)
       (skeleton.calls_made {m = m} {at = at} {s = s} {fs = fs} {h = h} {n = n} name k has q d null e v there may new) o had gone =
       inl (leaves_one h n c f hold mark obj m at s fs r same fit below (Call name k has) e (suc at)
-      (shape s.locals (Ref n ∷ rest (suc k) s.operands)) (skeleton.put n (skeleton.handed null d) (skeleton.put q (skeleton.called (h q) name None) h))
+      (shape s.locals (Ref n ∷ rest (suc k) s.operands)) (skeleton.put n (skeleton.handed null d)
+      (skeleton.put q (skeleton.called (h q) name None) h))
       (suc n)
       (calls_made h obj c.held hold mark n p (Call name k has) at f s fit right low name k has d null q refl v there may new
       ((inspected.holds c at f (Call name k has) r (seen fit p m c.method at same e)).calls name k has refl)) o had gone)
@@ -372,7 +391,8 @@ module _ (p : Program) (numbering : Numbering) (roots : List Context) (inspected
       one_of (someone_has o (frame m at s ∷ fs)) had
       (none_has (has_it o (begun values (locals_at p callee) (first k s.operands))) (someone_has o (frame m at s ∷ fs)) gone).1
   leaves (runs {c = c} {f = f} {hold = hold} {mark = mark} {obj = obj} r same fit h0 below low right)
-      (skeleton.returns {m = m} {at = at} {m0 = m0} {at0 = at0} {s = s} {s0 = s0} {fs = fs} {h = h} {n = n} callee k words e e0) o had gone =
+      (skeleton.returns {m = m} {at = at} {m0 = m0} {at0 = at0} {s = s} {s0 = s0} {fs = fs} {h = h} {n = n} callee k words e e0) o had gone
+      =
       inl (leaves_returning h n words c m at f hold mark obj s (frame m0 at0 s0) fs callee k r same e fit low e0 below o had gone)
   leaves (runs {c = c} {f = f} {hold = hold} {mark = mark} {obj = obj} r same fit h0 below low right)
       (skeleton.ends {m = m} {at = at} {s = s} {h = h} {n = n} has e) o had gone =
@@ -397,7 +417,8 @@ module _ (p : Program) (numbering : Numbering) (roots : List Context) (inspected
   leaves_interrupting (runs r same fit h0 below low right)
       (laws.calls_meant {m = m} {at = at} {s = s} {fs = fs} v method e meant) o had gone =
       one_of (someone_has o (frame m at s ∷ fs)) had
-      (none_has (has_it o (begun values (locals_at p method) (skeleton.let_go_all (first (taken v) s.operands)))) (someone_has o (frame m at s ∷ fs))
+      (none_has (has_it o (begun values (locals_at p method) (skeleton.let_go_all (first (taken v) s.operands))))
+      (someone_has o (frame m at s ∷ fs))
       gone).1
   leaves_interrupting (runs {c = c} {f = f} {hold = hold} {mark = mark} {obj = obj} r same fit h0 below low right)
       (laws.goes_back {m = m} {at = at} {m0 = m0} {at0 = at0} {s = s} {s0 = s0} {fs = fs} {h = h} {n = n} has i e e0 no_call) o had gone =
@@ -406,7 +427,16 @@ module _ (p : Program) (numbering : Numbering) (roots : List Context) (inspected
       back : LeftIf (h o) ⊎ (result has s ≡ Ref o) →
           LeftIf (h o) ⊎ GivesBack p (state (frame m at s ∷ frame m0 at0 s0 ∷ fs) h n) o
       back (inl w) = inl w
-      back (inr w) = inr (record { method = m; at = at; shape = s; others = frame m0 at0 s0 ∷ fs; words = has; is = refl; returns = e; gives = w })
+      back (inr w) = inr (record {
+        method = m;
+        at = at;
+        shape = s;
+        others = frame m0 at0 s0 ∷ fs;
+        words = has;
+        is = refl;
+        returns = e;
+        gives = w;
+      })
 
       pick : (has_it o s ≡ true) ⊎ (someone_has o (frame m0 at0 s0 ∷ fs) ≡ true) → c.held ≡ 0 →
           LeftIf (h o) ⊎ GivesBack p (state (frame m at s ∷ frame m0 at0 s0 ∷ fs) h n) o

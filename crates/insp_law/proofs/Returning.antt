@@ -5,7 +5,8 @@ use Rattle.mg_text.specs.Call.{Name}
 use Rattle.insp_rules.specs.Program.{Itself, Ordinal, Mapped, Bare as BareOf, Other, CallIn, Return}
 use Rattle.insp_rules.specs.Program.{Program, Shape, nth, first, rest, filled, shape, popped}
 use Rattle.insp_rules.specs.Skeleton.{Value, Plain, Thing, Frame, frame, state, values, result, returned, put, instruction_at}
-use Rattle.insp_rules.specs.Frames.{Known, Bare, unknown, knowns, Object, Answer, Group, Sight, sight, known_among, forget_all, given_back, seen_at}
+use Rattle.insp_rules.specs.Frames.{Known, Bare, unknown, knowns, Object, Answer, Group, Sight, sight, known_among, forget_all}
+use Rattle.insp_rules.specs.Frames.{given_back, seen_at}
 use Rattle.insp_rules.specs.Reached.{Both, none, more, Stands, Context, Numbering, Takes, Renames, Outcome, Plainly, Held, Told, New, Exit}
 use Rattle.insp_rules.specs.Reached.{kept_plain}
 use Rattle.insp_rules.specs.Reached.{Outcomes, is_itself, back, by_exit, groups_behind, handed_over, resumed, Found}
@@ -175,7 +176,8 @@ module _ (h : ℕ → Thing) (n : ℕ) (held : ℕ) (hold : ℕ → ℕ) (mark m
       let y = goes (takes.old i) z.0 (takes.live i z.0 z.1) in
       record {
         after_objs = obj;
-        after_fit = shows (returned knowns w (Answer (takes.old i) (Itself kind)) base.shape.operands) (returned values w v (rest k s.operands))
+        after_fit = shows (returned knowns w (Answer (takes.old i) (Itself kind)) base.shape.operands)
+            (returned values w v (rest k s.operands))
             (pushed_both w (Answer (takes.old i) (Itself kind)) v
             (answer y.0 y.1 (inr (ap (λ c. (h c).answer) (sym (held_is i x less e)) ∙ or_none i j))));
         kept = plainly;
@@ -201,7 +203,8 @@ module _ (h : ℕ → Thing) (n : ℕ) (held : ℕ) (hold : ℕ → ℕ) (mark m
   comes (suc zero) a v o (reached.new {g = i} x over e) (object {o = q} y l j) =
       record {
         after_objs = put f.count q obj;
-        after_fit = add_fit h obj held hold mark n base (popped k s) x q (let m = high i x over (inner.sits.sits i x e) in omega (arith, m, le, j))
+        after_fit = add_fit h obj held hold mark n base (popped k s) x q
+            (let m = high i x over (inner.sits.sits i x e) in omega (arith, m, le, j))
             (let b = inner.sits.bounded i x e in omega (arith, b, j))
             (λ b z w r.
             let m = high i x over (inner.sits.sits i x e) in
@@ -256,7 +259,8 @@ module _ (p : Program) (numbering : Numbering) (roots : List Context) where
       seen_at p c.method at f ≡ Some (Return words) → Fit h obj fresh c.held hold mark n f u → mark ≤ n → AllRight h n →
       instruction_at p h top.method top.at top.shape ≡ Some (CallIn callee k words) → Below p numbering roots h c hold mark (top ∷ fs) →
       Inv p numbering roots
-      (state (frame top.method (suc top.at) (shape top.shape.locals (returned values words (result words u) (rest k top.shape.operands))) ∷ fs) h n)
+      (state (frame top.method (suc top.at) (shape top.shape.locals (returned values words (result words u)
+      (rest k top.shape.operands))) ∷ fs) h n)
   come_back h n c at g hold' mark' objs u top fs callee k words r e inner low right e0
       (interrupted {c = c0} j outer none_held r0 m l no_call fit had le below) =
       absurd (no_call callee k words (one_done fit p top.method c0.method top.at m l e0))
@@ -282,7 +286,8 @@ module _ (p : Program) (numbering : Numbering) (roots : List Context) where
           Inv p numbering roots (state (frame top.method (suc top.at)
           (shape top.shape.locals (returned values words (result words u) (rest k' top.shape.operands))) ∷ fs) h n)
       go (some_outcome o outcomes) =
-          let comes = gives h n c0.held hold mark mark' obj f top.shape method k' (numbering.context method (first k' f.shape.operands) f) fit
+          let comes = gives h n c0.held hold mark mark' obj f top.shape method k'
+          (numbering.context method (first k' f.shape.operands) f) fit
           takes hold' held le low g objs u inner words o outcomes in
           runs_tidy p numbering roots h n c0 (resumed takes.old (numbering.context method (first k' f.shape.operands) f).held k' words
           (record { groups = g.groups; outcome = o }) f) hold mark comes.after_objs

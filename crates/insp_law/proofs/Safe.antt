@@ -19,6 +19,7 @@ runs_are_safe p numbering roots inspected begin s b r =
       leaves = λ t step o there had gone. pick t o there (leaves_moving p numbering roots inspected i step o had gone);
     }
   where
-    pick : (t : State) (o : ℕ) → (t.things o).null ≡ false → LeftIf (t.things o) ⊎ GivesBack p s o → MayBeLeft (t.things o) ⊎ GivesBack p s o
+    pick : (t : State) (o : ℕ) → (t.things o).null ≡ false → LeftIf (t.things o) ⊎ GivesBack p s o →
+        MayBeLeft (t.things o) ⊎ GivesBack p s o
     pick t o there (inl w) = inl (w there)
     pick t o there (inr w) = inr w

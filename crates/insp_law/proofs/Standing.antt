@@ -3,7 +3,8 @@ use Rattle.std.proofs.Common.{◌≡◌, ◌⊎◌, inl, inr, ℕ, ◌<◌, ◌�
 use Rattle.std.proofs.Common.{refl, sym, ap, ◌∙◌, subst, arith}
 use Rattle.insp_rules.specs.Program.{Instruction, CallIn, CallOut, taken, Program, locals_at, Shape, first}
 use Rattle.insp_rules.specs.Program.{filled, turned, begun}
-use Rattle.insp_rules.specs.Skeleton.{Value, Plain, Nil, Bit, Map, Constant, Ref, Again, Another, Said, is_loose, Thing, Frame, State, frame, state}
+use Rattle.insp_rules.specs.Skeleton.{Value, Plain, Nil, Bit, Map, Constant, Ref, Again, Another, Said, is_loose, Thing, Frame, State}
+use Rattle.insp_rules.specs.Skeleton.{frame, state}
 use Rattle.insp_rules.specs.Skeleton.{values, IsNoCallIn, instruction_at}
 use Rattle.insp_rules.specs.Skeleton as skeleton
 use Rattle.insp_rules.specs.Frames.{Known, unknown, Group, Sight, known_among, seen_at}
@@ -31,7 +32,8 @@ module _ (p : Program) (numbering : Numbering) (roots : List Context) where
   -- meanwhile isn't known to it; all its objects have numbers below the mark
   pub data Below (h : ℕ → Thing) : Context → (ℕ → ℕ) → ℕ → List Frame → Type 0 where
     bottom : {c : Context} {hold : ℕ → ℕ} {mark : ℕ} → From_outside c → c.held ≡ 0 → Below h c hold mark []
-    waits : {c : Context} {f : Sight} {hold hold' : ℕ → ℕ} {mark mark' : ℕ} {obj : ℕ → ℕ} {top : Frame} {fs : List Frame} (method k words : ℕ) →
+    waits : {c : Context} {f : Sight} {hold hold' : ℕ → ℕ} {mark mark' : ℕ} {obj : ℕ → ℕ} {top : Frame} {fs : List Frame}
+        (method k words : ℕ) →
         Known_to_be c top.at f → top.method ≡ c.method → seen_at p c.method top.at f ≡ Some (CallIn method k words) →
         Fit h obj (handed_over (first k f.shape.operands)) c.held hold mark mark' f top.shape → Had c.held f →
         (takes : Takes method (first k f.shape.operands) f (numbering.context method (first k f.shape.operands) f)) →
@@ -40,7 +42,8 @@ module _ (p : Program) (numbering : Numbering) (roots : List Context) where
     -- one that was interrupted: a method was called from outside
     interrupted : {c c' : Context} {f : Sight} {hold hold' : ℕ → ℕ} {mark mark' : ℕ} {obj : ℕ → ℕ} {top : Frame} {fs : List Frame}
         (i : Instruction) → From_outside c' → c'.held ≡ 0 → Known_to_be c top.at f → top.method ≡ c.method →
-        seen_at p c.method top.at f ≡ Some i → IsNoCallIn i → Fit h obj fresh c.held hold mark mark' f top.shape → Had c.held f → mark ≤ mark' →
+        seen_at p c.method top.at f ≡ Some i → IsNoCallIn i → Fit h obj fresh c.held hold mark mark' f top.shape → Had c.held f →
+        mark ≤ mark' →
         Below h c hold mark fs → Below h c' hold' mark' (top ∷ fs)
 
   pub data Inv : State → Type 0 where
@@ -50,7 +53,8 @@ module _ (p : Program) (numbering : Numbering) (roots : List Context) where
         Below h c hold mark fs → mark ≤ n → AllRight h n → Inv (state (top ∷ fs) h n)
 
   -- a frame that is numbered anew
-  pub runs_tidy : (h : ℕ → Thing) (n : ℕ) (c : Context) (f : Sight) (hold : ℕ → ℕ) (mark : ℕ) (obj : ℕ → ℕ) (top : Frame) (fs : List Frame) →
+  pub runs_tidy : (h : ℕ → Thing) (n : ℕ) (c : Context) (f : Sight) (hold : ℕ → ℕ) (mark : ℕ) (obj : ℕ → ℕ) (top : Frame)
+      (fs : List Frame) →
       Known_to_be c top.at (numbering.tidy c.held f) → top.method ≡ c.method → Fit h obj fresh c.held hold mark n f top.shape →
       Below h c hold mark fs → mark ≤ n → AllRight h n → Inv (state (top ∷ fs) h n)
   runs_tidy h n c f hold mark obj top fs r same fit below low right =
@@ -66,17 +70,20 @@ module _ (p : Program) (numbering : Numbering) (roots : List Context) where
       ((o : ℕ) → o < mark → (h' o ≡ h o) ⊎ ((i : ℕ) × (i < c.held) × (o ≡ hold i))) → ((o : ℕ) → o < mark → Kin (h' o) (h o)) →
       Below h' c hold mark fs
   below_keeps h h' (bottom outer e) same kinds = bottom outer e
-  below_keeps h h' (interrupted {c = c} {c' = c'} {f = f} {hold = hold} {hold' = hold'} {mark = mark} {mark' = mark'} {obj = obj} {top = top} i outer
+  below_keeps h h' (interrupted {c = c} {c' = c'} {f = f} {hold = hold} {hold' = hold'} {mark = mark} {mark' = mark'} {obj = obj} {top =
+      top} i outer
       none_held r m e no_call fit had le below) same kinds =
       interrupted i outer none_held r m e no_call
       (heap_fit h h' obj fresh c.held hold mark mark' mark' f top.shape (omega arith)
       (λ g x l. inr (stays (obj g) (same (obj g) (fit.sits.bounded g x l)))) (λ g x l. kinds (obj g) (fit.sits.bounded g x l)) fit)
-      had le (below_keeps h h' below (λ o less. inl (stays o (same o (omega (arith, less, le))))) (λ o less. kinds o (omega (arith, less, le))))
+      had le (below_keeps h h' below (λ o less. inl (stays o (same o (omega (arith, less, le)))))
+      (λ o less. kinds o (omega (arith, less, le))))
     where
       stays : (o : ℕ) → (h' o ≡ h o) ⊎ ((i : ℕ) × (i < c'.held) × (o ≡ hold' i)) → h' o ≡ h o
       stays o (inl s) = s
       stays o (inr s) = let l = s.1 in absurd (omega (arith, l, none_held))
-  below_keeps h h' (waits {c = c} {f = f} {hold = hold} {hold' = hold'} {mark = mark} {mark' = mark'} {obj = obj} {top = top} method k words r m e fit had
+  below_keeps h h' (waits {c = c} {f = f} {hold = hold} {hold' = hold'} {mark = mark} {mark' = mark'} {obj = obj} {top = top} method k
+      words r m e fit had
       takes held le below) same kinds =
       waits method k words r m e
       (heap_fit h h' obj (handed_over (first k f.shape.operands)) c.held hold mark mark' mark' f top.shape (omega arith)
@@ -116,7 +123,8 @@ module _ (p : Program) (numbering : Numbering) (roots : List Context) where
     goes i e to u h' n' g =
         runs_tidy h' n' c g.after hold mark g.objs (frame m to u) fs
         (Found.steps i r (seen fit p m c.method at same e) g.way) same g.fit
-        (below_keeps h h' below (λ o less. touched o less (g.touches o (omega (arith, less, low)))) (λ o less. g.kinds o (omega (arith, less, low))))
+        (below_keeps h h' below (λ o less. touched o less (g.touches o (omega (arith, less, low))))
+        (λ o less. g.kinds o (omega (arith, less, low))))
         (let l = g.more in omega (arith, low, l)) g.right
       where
         touched : (o : ℕ) → o < mark → (h' o ≡ h o) ⊎ ((a : ℕ) × (x : Group) × (f.groups a ≡ Some x) × (o ≡ obj a)) →
@@ -252,12 +260,14 @@ module _ (p : Program) (numbering : Numbering) (roots : List Context) where
 
   -- one frame goes on as it was
   pub goes_on : (h : ℕ → Thing) (n : ℕ) {c : Context} {hold : ℕ → ℕ} {mark : ℕ} {top : Frame} {fs : List Frame} →
-      Below h c hold mark (top ∷ fs) → (i : Instruction) → instruction_at p h top.method top.at top.shape ≡ Some i → IsNoCallIn i → mark ≤ n →
+      Below h c hold mark (top ∷ fs) → (i : Instruction) → instruction_at p h top.method top.at top.shape ≡ Some i → IsNoCallIn i →
+      mark ≤ n →
       AllRight h n →
       Inv (state (top ∷ fs) h n)
   goes_on h n (waits {c = c} {top = top} method k words r m e fit had takes held le below) i d no_call low right =
       absurd (no_call method k words (sym (one_done fit p top.method c.method top.at m e d)))
-  goes_on h n (interrupted {c = c} {f = f} {hold = hold} {mark = mark} {mark' = mark'} {obj = obj} {top = top} j outer none_held r m e no_call' fit had
+  goes_on h n (interrupted {c = c} {f = f} {hold = hold} {mark = mark} {mark' = mark'} {obj = obj} {top = top} j outer none_held r m e
+      no_call' fit had
       le below) i d no_call low right =
       runs r m (heap_fit h h obj fresh c.held hold mark mark' n f top.shape low (λ g x l. inr refl) (λ g x l. kin refl) fit) had below
       (omega (arith, le, low)) right
@@ -270,13 +280,15 @@ module _ (p : Program) (numbering : Numbering) (roots : List Context) where
       (laws.calls_back {m = m} {at = at} {s = s} {fs = fs} {h = h} {n = n} i e no_call d root is_root args bs) =
       runs_tidy h n d (entry p d) (λ i. i) n (λ i. i) (frame d.method 0 (begun values (locals_at p d.method) args)) (frame m at s ∷ fs)
       (Found.begins (Found.called (Found.root root is_root))) refl (root_fit h n d is_root args bs)
-      (interrupted i (Found.root root is_root) is_root.held r same (seen fit p m c.method at same e) no_call fit had low below) (omega arith) right
+      (interrupted i (Found.root root is_root) is_root.held r same (seen fit p m c.method at same e) no_call fit had low below)
+      (omega arith) right
   interrupts_keep (runs {c = c} {f = f} {mark = mark} {obj = obj} r same fit had below low right)
       (laws.calls_meant {m = m} {at = at} {s = s} {fs = fs} {h = h} {n = n} v method e meant) =
       runs_tidy h n (outside_context method args) (entry p (outside_context method args)) (λ i. i) n (λ i. i)
       (frame method 0 (begun values (locals_at p method) (skeleton.let_go_all (first (taken v) s.operands)))) (frame m at s ∷ fs)
       (Found.begins (Found.called out)) refl
-      (root_fit h n (outside_context method args) (record { held = refl; groups = λ g. refl }) (skeleton.let_go_all (first (taken v) s.operands))
+      (root_fit h n (outside_context method args) (record { held = refl; groups = λ g. refl })
+      (skeleton.let_go_all (first (taken v) s.operands))
       (lets_go h obj f.groups (both_first (Says h obj f.groups fresh) (taken v) fit.fits.operands)))
       (interrupted (CallOut v) out refl r same here (λ callee k words q. absurd (cc)) fit had low below) (omega arith) right
     where

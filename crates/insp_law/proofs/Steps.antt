@@ -76,7 +76,8 @@ module _ (h : ℕ → Thing) (obj : ℕ → ℕ) (held : ℕ) (hold : ℕ → �
 
   module _ (t : Shape Value) (fit : Fit h obj fresh held hold mark n f t) (right : AllRight h n) (low : mark ≤ n) where
     -- other places with the same objects
-    pub plain : (to : ℕ) (s : Shape Known) (u : Shape Value) → Way p held i at f to (with_shape f s) → Fits h obj f.groups fresh s u → Goes to u h n
+    pub plain : (to : ℕ) (s : Shape Known) (u : Shape Value) → Way p held i at f to (with_shape f s) → Fits h obj f.groups fresh s u →
+        Goes to u h n
     plain to s u way fits = goes_by to u h n (with_shape f s) obj way (record {
       fit = record { fits = fits; sits = fit.sits; agrees = fit.agrees; kinds = fit.kinds };
       kept = λ g x e. inl (x, e, refl);
@@ -100,7 +101,8 @@ module _ (h : ℕ → Thing) (obj : ℕ → ℕ) (held : ℕ) (hold : ℕ → �
     -- ---- objects that are made
 
     -- one object more
-    pub then_made : (a : Sight) (objs : ℕ → ℕ) (u : Shape Value) (h1 : ℕ → Thing) (maybe null : Bool) (c : Class) → (null ≡ true → maybe ≡ true) →
+    pub then_made : (a : Sight) (objs : ℕ → ℕ) (u : Shape Value) (h1 : ℕ → Thing) (maybe null : Bool) (c : Class) →
+        (null ≡ true → maybe ≡ true) →
         Comes_to a objs u h1 n →
         Comes_to (added (new_group maybe c) a.shape a) (put a.count n objs) (pushed (Ref n) u) (put n (handed null c) h1) (suc n)
     then_made a objs u h1 maybe null c may_be now = record {

@@ -380,7 +380,8 @@ module _ (h : ℕ → Thing) (obj : ℕ → ℕ) (held : ℕ) (hold : ℕ → �
   may_same (Bare (program.Map a class)) c v w s t b r = none_some r
   may_same (Bare (program.Constant a l)) c v w s t b r = none_some r
 
-  pub may_compare : (q : Comparison) (a c : Known) (v w : Value) → Says h obj f.groups fresh a v → Says h obj f.groups fresh c w → (b : Bool) →
+  pub may_compare : (q : Comparison) (a c : Known) (v w : Value) → Says h obj f.groups fresh a v → Says h obj f.groups fresh c w →
+      (b : Bool) →
       frames.comparing q a c ≡ Some b → skeleton.comparing q v w ≡ Some b
   may_compare q (Bare (program.Bit x)) (Bare (program.Bit y)) v w (bare laws.bit) (bare laws.bit) b r = r
   may_compare q (Bare (program.Bit x)) (Object g) v w s t b r = none_some r
@@ -426,7 +427,8 @@ module _ (h : ℕ → Thing) (obj : ℕ → ℕ) (held : ℕ) (hold : ℕ → �
   signs AtMost a v (answer {form = Itself Truth} x e k) = no_sign refl
 
   pub data Chosen (a c : Known) (v w : Value) : Type 0 where
-    asks_constant : (g : ℕ) (label other : Name) → frames.constant_asks a c ≡ Some (g, other) → skeleton.constant_asks v w ≡ Some (label, other) →
+    asks_constant : (g : ℕ) (label other : Name) → frames.constant_asks a c ≡ Some (g, other) →
+        skeleton.constant_asks v w ≡ Some (label, other) →
         Heard g label → Chosen a c v w
     no_constant : frames.constant_asks a c ≡ None → Chosen a c v w
 
@@ -530,7 +532,8 @@ module _ (h : ℕ → Thing) (obj : ℕ → ℕ) (held : ℕ) (hold : ℕ → �
       go : (z : Bool) → (g == m) ≡ z → Shows (if g == m then [] else g ∷ m ∷ []) (if o == q then [] else o ∷ q ∷ [])
       go true z =
           subst (λ (t : Bool). Shows (if t then [] else g ∷ m ∷ []) (if o == q then [] else o ∷ q ∷ [])) (sym z)
-          (subst (λ (t : Bool). Shows [] (if t then [] else o ∷ q ∷ [])) (sym (sym (same_groups g m o q x y e d k l) ∙ z)) (shows_none refl))
+          (subst (λ (t : Bool). Shows [] (if t then [] else o ∷ q ∷ [])) (sym (sym (same_groups g m o q x y e d k l) ∙ z))
+          (shows_none refl))
       go false z =
           subst (λ (t : Bool). Shows (if t then [] else g ∷ m ∷ []) (if o == q then [] else o ∷ q ∷ [])) (sym z)
           (subst (λ (t : Bool). Shows (g ∷ m ∷ []) (if t then [] else o ∷ q ∷ [])) (sym (sym (same_groups g m o q x y e d k l) ∙ z))

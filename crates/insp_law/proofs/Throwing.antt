@@ -6,10 +6,12 @@ use Rattle.std.specs.Prelude.{◌==◌, if◌then◌else◌}
 use Rattle.std.proofs.lemmas.Bool.Decides.{eqb_tells}
 use Rattle.mg_text.specs.Call.{Name}
 use Rattle.insp_rules.specs.Program.{Result, Instruction, Call, CallIn, Program, handlers_at, Shape, nth, first, caught}
-use Rattle.insp_rules.specs.Skeleton.{instruction_at, Value, Plain, Ref, LeavesAll, Thing, Frame, State, frame, state, values, put, upset, upset_all, among, Unwinds, out}
+use Rattle.insp_rules.specs.Skeleton.{instruction_at, Value, Plain, Ref, LeavesAll, Thing, Frame, State, frame, state, values, put, upset}
+use Rattle.insp_rules.specs.Skeleton.{upset_all, among, Unwinds, out}
 use Rattle.insp_rules.specs.Skeleton.{caught_in, passes, stops}
 use Rattle.insp_rules.specs.Frames.{Known, unknown, Object, Group, Sight, known_among, upset_group}
-use Rattle.insp_rules.specs.Reached.{Both, none, more, Context, Numbering, Takes, Renames, handed_over, upset_if, caught_before, MayLeaveAll}
+use Rattle.insp_rules.specs.Reached.{Both, none, more, Context, Numbering, Takes, Renames, handed_over, upset_if, caught_before}
+use Rattle.insp_rules.specs.Reached.{MayLeaveAll}
 use Rattle.insp_rules.specs.Reached.{caught_upon, Found}
 use Rattle.insp_rules.specs.Reached as reached
 use Rattle.insp_rules.proofs.Lists.{some_is, none_some, both_first, Put, is, isnt, putting, put_same, put_other}
@@ -119,7 +121,8 @@ module _ (p : Program) (numbering : Numbering) (roots : List Context) where
   Inv_of = Inv p numbering roots
 
   -- the frame that goes on where a throw came upon the objects that its call hands over
-  come_upon : (h : ℕ → Thing) (n : ℕ) → AllRight h n → (c : Context) (f : Sight) (hold : ℕ → ℕ) (mark mark' : ℕ) (obj : ℕ → ℕ) (stale : ℕ → Bool)
+  come_upon : (h : ℕ → Thing) (n : ℕ) → AllRight h n → (c : Context) (f : Sight) (hold : ℕ → ℕ) (mark mark' : ℕ) (obj : ℕ → ℕ)
+      (stale : ℕ → Bool)
       (m to : ℕ) (t : Shape Value) (fs : List Frame) (k : ℕ) →
       Found p numbering roots (reached.Reached c to (numbering.tidy c.held (caught_upon (first k f.shape.operands) f))) → m ≡ c.method →
       Fit h obj stale c.held hold mark mark' f t → ((g : ℕ) → stale g ≡ true → known_among g (first k f.shape.operands) ≡ true) →
@@ -144,14 +147,16 @@ module _ (p : Program) (numbering : Numbering) (roots : List Context) where
       is_among : (g : ℕ) (x : Group) → f.groups g ≡ Some x → among (obj g) (first k t.operands) ≡ known_among g (first k f.shape.operands)
       is_among g x e = among_same h obj f.groups stale fit.sits.apart g x e handed
 
-      fits : Fit (upset_all (first k t.operands) h) obj fresh c.held hold mark n (caught_upon (first k f.shape.operands) f) (caught values t)
+      fits : Fit (upset_all (first k t.operands) h) obj fresh c.held hold mark n (caught_upon (first k f.shape.operands) f)
+          (caught values t)
       fits = caught_fit h (upset_all (first k t.operands) h) obj stale c.held hold mark mark' n f t (first k f.shape.operands) fit low
           (λ g x e q. upset_hit (first k t.operands) h (obj g) (is_among g x e ∙ q))
           (λ g x e q. upset_missed (first k t.operands) h (obj g) (is_among g x e ∙ q))
           stales
 
       tidies : Renames c.held (caught_upon (first k f.shape.operands) f) (numbering.tidy c.held (caught_upon (first k f.shape.operands) f))
-      tidies = numbering.renames c.held (caught_upon (first k f.shape.operands) f) (fit_whole (upset_all (first k t.operands) h) obj fresh c.held hold
+      tidies = numbering.renames c.held (caught_upon (first k f.shape.operands) f)
+          (fit_whole (upset_all (first k t.operands) h) obj fresh c.held hold
           mark n (caught_upon (first k f.shape.operands) f) (caught values t) fits)
 
       touched : (o : ℕ) → o < mark →
@@ -183,8 +188,10 @@ module _ (p : Program) (numbering : Numbering) (roots : List Context) where
       absurd (no_call callee k' words' (one_done fit p m0 c.method at0 m l l0))
   unwinds h n right (waits method k words r m l fit had takes held le below) low (stops j e no_call') =
       goes_on p numbering roots h n (waits method k words r m l fit had takes held le below) j e no_call' low right
-  unwinds h n right (waits method k words r m l fit had takes held le below) low (passes u) = unwinds h n right below (omega (arith, le, low)) u
-  unwinds h n right (waits {c = c} {f = f} {hold = hold} {mark = mark} {mark' = mark'} {obj = obj} method k words r m l fit had takes held le below) low
+  unwinds h n right (waits method k words r m l fit had takes held le below) low (passes u) =
+      unwinds h n right below (omega (arith, le, low)) u
+  unwinds h n right (waits {c = c} {f = f} {hold = hold} {mark = mark} {mark' = mark'} {obj = obj} method k words r m l fit had takes held
+      le below) low
       (caught_in {m = m0} {at = at0} {s = t} {fs = fs} callee k' words' to l0 catches) =
       subst (λ j. Inv p numbering roots (state (frame m0 to (caught values t) ∷ fs) (upset_all (first j t.operands) h) n)) same
       (come_upon h n right c f hold mark mark' obj (handed_over (first k f.shape.operands)) m0 to t fs k
@@ -199,7 +206,8 @@ module _ (p : Program) (numbering : Numbering) (roots : List Context) where
   -- in the frame that runs
   module _ (h : ℕ → Thing) (n : ℕ) (c : Context) (f : Sight) (hold : ℕ → ℕ) (mark : ℕ) (obj : ℕ → ℕ) (m at : ℕ) (t : Shape Value)
       (fs : List Frame) (r : Found p numbering roots (reached.Reached c at f)) (same : m ≡ c.method)
-      (fit : Fit h obj fresh c.held hold mark n f t) (below : Below p numbering roots h c hold mark fs) (low : mark ≤ n) (right : AllRight h n)
+      (fit : Fit h obj fresh c.held hold mark n f t) (below : Below p numbering roots h c hold mark fs) (low : mark ≤ n)
+      (right : AllRight h n)
       (to : ℕ) (catches : Contains (handlers_at p m at) to) where
     here : Contains (handlers_at p c.method at) to
     here = subst (λ j. Contains (handlers_at p j at) to) same catches
@@ -224,7 +232,8 @@ module _ (p : Program) (numbering : Numbering) (roots : List Context) where
     may_leave i leaves = record {
       no_call = leaves.no_call;
       on_null = λ name k has g x e q l.
-          let z = known_there g (nth unknown f.shape.operands k) (nth Plain t.operands k) (operand h obj f.groups fresh f.shape t fit.fits k) q in
+          let z = known_there g (nth unknown f.shape.operands k) (nth Plain t.operands k)
+          (operand h obj f.groups fresh f.shape t fit.fits k) q in
           (fit.kinds g x l).null (ap (λ a. (h a).null) (sym z.2) ∙ leaves.on_null name k has z.0 e z.1);
     }
 
@@ -244,7 +253,8 @@ module _ (p : Program) (numbering : Numbering) (roots : List Context) where
         }
 
         tidies : Renames c.held (caught_before f) (numbering.tidy c.held (caught_before f))
-        tidies = numbering.renames c.held (caught_before f) (fit_whole h obj fresh c.held hold mark n (caught_before f) (caught values t) fits)
+        tidies = numbering.renames c.held (caught_before f) (fit_whole h obj fresh c.held hold mark n (caught_before f)
+            (caught values t) fits)
 
     pub caught_amid : (name : Name) (k : ℕ) (has : Result) (o g : ℕ) (x : Group) → instruction_at p h m at t ≡ Some (Call name k has) →
         nth unknown f.shape.operands k ≡ Object g → f.groups g ≡ Some x → o ≡ obj g →
@@ -270,7 +280,8 @@ module _ (p : Program) (numbering : Numbering) (roots : List Context) where
 
         isnt_it : (a : ℕ) → known_among a (Object g ∷ []) ≡ false → a ≢ g
         isnt_it a e q =
-            true≢false (sym (ap (λ (b : Bool). if b then true else false) (ap (λ c. g == c) q ∙ Rattle.insp_rules.proofs.Lists.is_same g)) ∙ e)
+            true≢false (sym (ap (λ (b : Bool). if b then true else false) (ap (λ c. g == c) q ∙ Rattle.insp_rules.proofs.Lists.is_same g))
+            ∙ e)
 
         fits : Fit (put o (upset (h o)) h) obj fresh c.held hold mark n (caught_upon (Object g ∷ []) f) (caught values t)
         fits = caught_fit h (put o (upset (h o)) h) obj fresh c.held hold mark n n f t (Object g ∷ []) fit (omega arith)

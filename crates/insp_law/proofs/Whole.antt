@@ -75,7 +75,8 @@ module _ (p : Program) (numbering : Numbering) (roots : List Context) (inspected
   steps_keep (runs {c = c} {f = f} {hold = hold} {mark = mark} {obj = obj} r same fit had below low right)
       (skeleton.calls_made {m = m} {at = at} {s = s} {fs = fs} {h = h} {n = n} name k has o d null e q there may new) =
       goes p numbering roots h n c f hold mark obj m at s fs r same fit had below low right (Call name k has) e (suc at)
-      (shape s.locals (Ref n ∷ rest (suc k) s.operands)) (skeleton.put n (skeleton.handed null d) (skeleton.put o (skeleton.called (h o) name None) h))
+      (shape s.locals (Ref n ∷ rest (suc k) s.operands)) (skeleton.put n (skeleton.handed null d)
+      (skeleton.put o (skeleton.called (h o) name None) h))
       (suc n)
       (calls_made h obj c.held hold mark n p (Call name k has) at f s fit right low name k has d null o refl q there may new
       ((inspected.holds c at f (Call name k has) r (seen fit p m c.method at same e)).calls name k has refl))
@@ -121,8 +122,10 @@ module _ (p : Program) (numbering : Numbering) (roots : List Context) (inspected
   begins_right s b =
       subst (Inv p numbering roots) (sym b.is)
       (runs_tidy p numbering roots b.things 0 b.context (entry p b.context) (λ i. i) 0 (λ i. i)
-      (frame b.context.method 0 (begun values (locals_at p b.context.method) b.args)) [] (Found.begins (Found.called (Found.root b.root b.is_root))) refl
-      (root_fit p numbering roots b.things 0 b.context b.is_root b.args b.unheld) (bottom (Found.root b.root b.is_root) b.is_root.held) (omega arith)
+      (frame b.context.method 0 (begun values (locals_at p b.context.method) b.args)) []
+      (Found.begins (Found.called (Found.root b.root b.is_root))) refl
+      (root_fit p numbering roots b.things 0 b.context b.is_root b.args b.unheld) (bottom (Found.root b.root b.is_root) b.is_root.held)
+      (omega arith)
       (λ o less. absurd (omega (arith, less))))
 
   pub runs_keep : (s : State) → Begins p roots s → {t : State} → Runs p roots s t → Inv p numbering roots t

@@ -15,7 +15,8 @@ use Rattle.insp_rules.specs.Program.{Result, Instruction, Make, Call, CallOut, K
 use Rattle.insp_rules.specs.Program.{Invocation, Does, Invoke, taken, names, is_protocol, class_of, result_of, is_called_otherwise}
 use Rattle.insp_rules.specs.Program.{is_of_followed}
 use Rattle.insp_rules.specs.Program.{locals_at, begun}
-use Rattle.insp_rules.specs.Skeleton.{Value, Plain, Nil, Bit, Map, Constant, Ref, Again, Another, is_loose, is_followed, Thing, Frame, State, frame}
+use Rattle.insp_rules.specs.Skeleton.{Value, Plain, Nil, Bit, Map, Constant, Ref, Again, Another, is_loose, is_followed, Thing, Frame}
+use Rattle.insp_rules.specs.Skeleton.{State, frame}
 use Rattle.insp_rules.specs.Skeleton.{state, values, result, begins, place, someone_has}
 use Rattle.insp_rules.specs.Skeleton.{Step, Throws, IsNoCallIn, instruction_at, let_go_all}
 use Rattle.insp_rules.specs.Frames.{Known, Bare}
@@ -36,11 +37,13 @@ pub data Bears : BareOf → Value → Type 0 where
 pub data Unheld : Known → Value → Type 0 where
   bare : {b : BareOf} {v : Value} → Bears b v → Unheld (Bare b) v
 
--- Methods to begin with are called back: by a method outside, by one of a protocol, when a class is first used. Where a call isn't followed, a
--- method outside also calls those that may be meant, with what it was handed. What they give back is taken by nobody in the program.
+-- Methods to begin with are called back: by a method outside, by one of a protocol, when a class is first used. Where a call isn't
+-- followed, a method outside also calls those that may be meant, with what it was handed. What they give back is taken by nobody in the
+-- program.
 pub data Interrupts (p : Program) (roots : List Context) : State → State → Type 0 where
   calls_back : {m at : ℕ} {s : Shape Value} {fs : List Frame} {h : ℕ → Thing} {n : ℕ} (i : Instruction) →
-      instruction_at p h m at s ≡ Some i → IsNoCallIn i → (c : Context) → Contains roots c → IsRoot c → (args : List Value) → Both Unheld c.args args →
+      instruction_at p h m at s ≡ Some i → IsNoCallIn i → (c : Context) → Contains roots c → IsRoot c → (args : List Value) →
+      Both Unheld c.args args →
       Interrupts p roots (state (frame m at s ∷ fs) h n)
       (state (frame c.method 0 (begun values (locals_at p c.method) args) ∷ frame m at s ∷ fs) h n)
   calls_meant : {m at : ℕ} {s : Shape Value} {fs : List Frame} {h : ℕ → Thing} {n : ℕ} (v : Invocation) (method : ℕ) →
@@ -102,8 +105,8 @@ pub data NoneWaits (p : Program) (h : ℕ → Thing) : List Frame → Type 0 whe
   interrupted : {f : Frame} {fs : List Frame} (i : Instruction) → instruction_at p h f.method f.at f.shape ≡ Some i → IsNoCallIn i →
       NoneWaits p h (f ∷ fs)
 
--- what is handed out as an object of a class: null, an object in its initial state that no frame has, and for an interface something that isn't
--- followed
+-- what is handed out as an object of a class: null, an object in its initial state that no frame has, and for an interface something that
+-- isn't followed
 pub data IsHandedOut (h : ℕ → Thing) (fs : List Frame) (class : Class) : Value → Type 0 where
   null : IsHandedOut h fs class Nil
   new : {o : ℕ} → (h o).of.typestate ≡ class.typestate → someone_has o fs ≡ false →
@@ -117,8 +120,8 @@ pub record IsSafe (p : Program) (roots : List Context) (s : State) : Type 0 wher
   -- calls by which a typestate goes on are on objects
   pub goes_on : (m at : ℕ) (shape : Shape Value) (fs : List Frame) (name : Name) (k : ℕ) (has : Result) → s.stack ≡ frame m at shape ∷ fs →
       instruction_at p s.things m at shape ≡ Some (Call name k has) → (o : ℕ) × (nth Plain shape.operands k ≡ Ref o)
-  -- calls of protocols, by the class that they name, are on objects, and in a method of a class that is followed itself perhaps on something that
-  -- isn't followed; so none is on a null that came from this code
+  -- calls of protocols, by the class that they name, are on objects, and in a method of a class that is followed itself perhaps on
+  -- something that isn't followed; so none is on a null that came from this code
   pub on_objects : (m at : ℕ) (shape : Shape Value) (fs : List Frame) (v : Invocation) → s.stack ≡ frame m at shape ∷ fs →
       code_at p m at ≡ Some (Invoke v) → v.has_receiver ≡ true → is_protocol v ≡ true →
       ((o : ℕ) × (nth Plain shape.operands v.words ≡ Ref o))
@@ -129,17 +132,18 @@ pub record IsSafe (p : Program) (roots : List Context) (s : State) : Type 0 wher
       (i ≡ Keep k) ⊎ (i ≡ Throw) × (k ≡ 1) ⊎ ((v : Invocation) × (i ≡ CallOut v) × (k ≡ v.words))
       ⊎ ((name : Name) × (has : Result) × (i ≡ Call name k has)) →
       AllByRecursion (λ v. is_followed v ≡ false) (first k shape.operands)
-  -- what is given back to a call from outside isn't followed, where the result is of no followed class; by a method that may be called otherwise
-  -- it is handed out as new, where it is of one
+  -- what is given back to a call from outside isn't followed, where the result is of no followed class; by a method that may be called
+  -- otherwise it is handed out as new, where it is of one
   pub gives_plain : (m at : ℕ) (shape : Shape Value) (fs : List Frame) (words : ℕ) → s.stack ≡ frame m at shape ∷ fs →
       instruction_at p s.things m at shape ≡ Some (Return words) → NoneWaits p s.things fs → class_of (result_of p m) ≡ None →
       is_followed (result words shape) ≡ false
   pub gives_new : (m at : ℕ) (shape : Shape Value) (fs : List Frame) (words : ℕ) (class : Class) → s.stack ≡ frame m at shape ∷ fs →
       instruction_at p s.things m at shape ≡ Some (Return words) → NoneWaits p s.things fs → is_called_otherwise p m ≡ true →
       class_of (result_of p m) ≡ Some class → IsHandedOut s.things fs class (result words shape)
-  -- an object that no frame has behind a step, though one had it before, may be left, or it is what a method gives back that wasn't called by
-  -- the program
-  pub leaves : (t : State) → Moves p roots s t → (o : ℕ) → (t.things o).null ≡ false → someone_has o s.stack ≡ true → someone_has o t.stack ≡ false →
+  -- an object that no frame has behind a step, though one had it before, may be left, or it is what a method gives back that wasn't
+  -- called by the program
+  pub leaves : (t : State) → Moves p roots s t → (o : ℕ) → (t.things o).null ≡ false → someone_has o s.stack ≡ true →
+      someone_has o t.stack ≡ false →
       MayBeLeft (t.things o) ⊎ GivesBack p s o
 
 abbrev pub RunsAreSafe : Type 0

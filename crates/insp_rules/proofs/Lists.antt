@@ -83,7 +83,8 @@ module _ {A B : Type 0} (R : A → B → Type 0) where
     pub index : (a c : A) (b d : B) → R a b → R c d → R (k.index a c) (l.index b d)
     pub ordinal : (a : A) (b : B) → R a b → R (k.ordinal a) (l.ordinal b)
 
-  pub both_given : (k : Kit A) (l : Kit B) → Kits k l → (g : Give) → {xs : List A} {ys : List B} → Both R xs ys → R (given k xs g) (given l ys g)
+  pub both_given : (k : Kit A) (l : Kit B) → Kits k l → (g : Give) → {xs : List A} {ys : List B} → Both R xs ys →
+      R (given k xs g) (given l ys g)
   both_given k l ks (From i) hs = both_nth (unknown k) (unknown l) (ks.bare Other) i hs
   both_given k l ks (Just b) hs = ks.bare b
 

@@ -40,13 +40,15 @@ spot_within g (a ∷ xs) e = go (eqb_tells a g) (a == g) refl e (spot_within g x
         (listed g xs ≡ true → (spot g xs < size xs) × (nth 0 xs (spot g xs) ≡ g)) →
         ((if a == g then zero else suc (spot g xs)) < suc (size xs)) × (nth 0 (a ∷ xs) (if a == g then zero else suc (spot g xs)) ≡ g)
     go (inl t) b q e f =
-        subst (λ (c : Bool). ((if c then zero else suc (spot g xs)) < suc (size xs)) × (nth 0 (a ∷ xs) (if c then zero else suc (spot g xs)) ≡ g))
+        subst (λ (c : Bool). ((if c then zero else suc (spot g xs)) < suc (size xs)) ×
+        (nth 0 (a ∷ xs) (if c then zero else suc (spot g xs)) ≡ g))
         (sym t.0) (omega arith, t.1)
     go (inr t) true q e f = absurd (true≢false (sym q ∙ t.0))
     go (inr t) false q e f =
         let z = f e in
         let less = z.0 in
-        subst (λ (c : Bool). ((if c then zero else suc (spot g xs)) < suc (size xs)) × (nth 0 (a ∷ xs) (if c then zero else suc (spot g xs)) ≡ g))
+        subst (λ (c : Bool). ((if c then zero else suc (spot g xs)) < suc (size xs)) ×
+        (nth 0 (a ∷ xs) (if c then zero else suc (spot g xs)) ≡ g))
         (sym t.0) (omega (arith, less), z.1)
 
 nth_listed : (i : ℕ) (xs : List ℕ) → i < size xs → listed (nth 0 xs i) xs ≡ true
@@ -100,7 +102,8 @@ module _ (os : List ℕ) (g : ℕ) where
   put_once true e once = once
   put_once false e once = snoc_once os g e once
 
-  put_listed : (b : Bool) → listed g os ≡ b → (a : ℕ) → listed a (put_in b os g) ≡ (if listed a os then true else (if g == a then true else false))
+  put_listed : (b : Bool) → listed g os ≡ b → (a : ℕ) → listed a (put_in b os g) ≡
+      (if listed a os then true else (if g == a then true else false))
   put_listed false e a = snoc_listed os g a
   put_listed true e a = go (eqb_tells g a) (listed a os) refl
     where
@@ -110,7 +113,8 @@ module _ (os : List ℕ) (g : ℕ) where
           l ∙ sym (ap (λ (c : Bool). if c then true else (if g == a then true else false)) l)
       go (inr t) true q = q ∙ sym (ap (λ (c : Bool). if c then true else (if g == a then true else false)) q)
       go (inr t) false q =
-          q ∙ sym (ap (λ (c : Bool). if c then true else (if g == a then true else false)) q ∙ ap (λ (c : Bool). if c then true else false) t.0)
+          q ∙ sym (ap (λ (c : Bool). if c then true else (if g == a then true else false)) q
+          ∙ ap (λ (c : Bool). if c then true else false) t.0)
 
   put_size : (b : Bool) → size os ≤ size (put_in b os g)
   put_size true = omega arith
@@ -126,7 +130,8 @@ gather_once os (Bare b ∷ xs) once = gather_once os xs once
 gather_once os (Answer g form ∷ xs) once = gather_once os xs once
 gather_once os (Object g ∷ xs) once = gather_once (put_in (listed g os) os g) xs (put_once os g (listed g os) refl once)
 
-or_assoc : (a b c : Bool) → (if (if a then true else (if b then true else false)) then true else c) ≡ (if a then true else (if b then true else c))
+or_assoc : (a b c : Bool) → (if (if a then true else (if b then true else false)) then true else c) ≡
+    (if a then true else (if b then true else c))
 or_assoc true b c = refl
 or_assoc false true c = refl
 or_assoc false false c = refl
@@ -197,11 +202,13 @@ module _ (os : List ℕ) (once : Once os) (groups : ℕ → Option Group) where
       subst (λ b. Stands (nth 0 os) (numbered_groups os groups) (Object (spot a os)) (Object b)) z.1
       (reached.object x (now_is (spot a os) x z.0 (ap groups z.1 ∙ e)))
 
-  answer_stands : (these : ℕ → Bool) → ((g : ℕ) → these g ≡ true → (listed g os ≡ true) × ((x : Group) × (groups g ≡ Some x))) → (a : ℕ) (form : Form) →
+  answer_stands : (these : ℕ → Bool) → ((g : ℕ) → these g ≡ true → (listed g os ≡ true) × ((x : Group) × (groups g ≡ Some x))) →
+      (a : ℕ) (form : Form) →
       Stands (nth 0 os) (numbered_groups os groups) (if these a then Answer (spot a os) form else Bare Other) (Answer a form)
   answer_stands these f a form = go (these a) refl
     where
-      go : (b : Bool) → these a ≡ b → Stands (nth 0 os) (numbered_groups os groups) (if b then Answer (spot a os) form else Bare Other) (Answer a form)
+      go : (b : Bool) → these a ≡ b → Stands (nth 0 os) (numbered_groups os groups) (if b then Answer (spot a os) form else Bare Other)
+          (Answer a form)
       go false e = reached.forgotten
       go true e =
           let l = f a e in
@@ -366,7 +373,8 @@ module _ (held : ℕ) (f : Sight) (whole : IsWhole f) where
               known_among (nth 0 (order held f) a) f.shape.operands) (not_up_to held (nth 0 (order held f) a) (above a less over))
 
           go : (b : Bool) → known_among (nth 0 (order held f) a) f.shape.locals ≡ b →
-              (if known_among (nth 0 (order held f) a) f.shape.locals then true else known_among (nth 0 (order held f) a) f.shape.operands) ≡ true →
+              (if known_among (nth 0 (order held f) a) f.shape.locals then true else known_among
+              (nth 0 (order held f) a) f.shape.operands) ≡ true →
               has_group a (canonical held f).shape ≡ true
           go true k e =
               or_left (known_among a (number_all (tells (order held f) f.groups) (drops_in f) (order held f) f.shape.locals))
@@ -383,7 +391,8 @@ module _ (held : ℕ) (f : Sight) (whole : IsWhole f) where
 none_once : Once []
 none_once i j l k q = absurd (omega (arith, l))
 
-pub context_takes : (method : ℕ) (args : List Known) (f : Sight) → ((g : ℕ) → known_among g args ≡ true → (x : Group) × (f.groups g ≡ Some x)) →
+pub context_takes : (method : ℕ) (args : List Known) (f : Sight) → ((g : ℕ) → known_among g args ≡ true →
+    (x : Group) × (f.groups g ≡ Some x)) →
     Takes method args f (context_of method args f)
 context_takes method args f live = record {
   is = refl;

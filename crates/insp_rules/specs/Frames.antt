@@ -12,10 +12,12 @@ use Rattle.insp_rules.specs.Program.{Class, Kind, Truth, Constants, Form, Itself
 use Rattle.insp_rules.specs.Program.{Alias, Map}
 use Rattle.insp_rules.specs.Program.{Constant, Result, Void, Words, Boolean, Of, related, Comparison, Arm, Instruction, Go, Either, IfNull}
 use Rattle.insp_rules.specs.Program.{IfSame}
-use Rattle.insp_rules.specs.Program.{IfSign, IfNumbers, Switch, Make, Call, CallOut, Keep, Return, Throw, Program, number_of, arm_of, goes_for}
+use Rattle.insp_rules.specs.Program.{IfSign, IfNumbers, Switch, Make, Call, CallOut, Keep, Return, Throw, Program, number_of, arm_of}
+use Rattle.insp_rules.specs.Program.{goes_for}
 use Rattle.insp_rules.specs.Program.{compares}
 use Rattle.insp_rules.specs.Program.{is_zero_by, agree, Shape, Kit, nth, first, rest, filled, shape, popped, pushed, straight, way}
-use Rattle.insp_rules.specs.Program.{Invocation, Receiver, OfNull, Whole, Perhaps, Unknown, taken, class_of, names, is_protocol, done, plainly}
+use Rattle.insp_rules.specs.Program.{Invocation, Receiver, OfNull, Whole, Perhaps, Unknown, taken, class_of, names, is_protocol, done}
+use Rattle.insp_rules.specs.Program.{plainly}
 use Rattle.insp_rules.specs.Program.{code_at}
 use Rattle.insp_rules.specs.Program as program
 use Rattle.insp_rules.specs.Skeleton.{put, thrown_at, offered_at, fresh_of, Tells, both, listed}
@@ -314,7 +316,8 @@ pub data Way (p : Program) (held : ℕ) (i : Instruction) (at : ℕ) (f : Sight)
       (added (new_group true d)
       (shape (forget_all (is_it g) f.shape.locals) (forget_all (is_it g) (rest (suc k) f.shape.operands)))
       (behind g (group x.of (At to) false) (forget_all (is_it g) (rest (suc k) f.shape.operands)) f.shape f))
-  answers : (name : Name) (k : ℕ) (has : Result) (g : ℕ) (x : Group) (from : To) (branches : List Branch) (m : Offer) → i ≡ Call name k has →
+  answers : (name : Name) (k : ℕ) (has : Result) (g : ℕ) (x : Group) (from : To) (branches : List Branch) (m : Offer) →
+      i ≡ Call name k has →
       nth unknown f.shape.operands k ≡ Object g → f.groups g ≡ Some x → MayBe x.element from → offered_at x.of from name ≡ Some m →
       m.target ≡ ByAnswer branches →
       Way p held i at f (suc at)
@@ -372,8 +375,8 @@ pub record Holds (p : Program) (held at : ℕ) (i : Instruction) (f : Sight) : T
   pub returns : (words : ℕ) → i ≡ Return words → (g : ℕ) (x : Group) → f.groups g ≡ Some x → held ≤ g →
       known_among g (given_back words f.shape ∷ []) ≡ false → finished x ≡ true
 
--- whether it is a call of a protocol on something of which it isn't known which object it is; in a method of a class that is followed itself only
--- on what may be an object that is followed
+-- whether it is a call of a protocol on something of which it isn't known which object it is; in a method of a class that is followed
+-- itself only on what may be an object that is followed
 abbrev pub is_unknown_call : (is_of_followed : Bool) → Invocation → Known → Bool
 is_unknown_call followed v (Object g) = false
 is_unknown_call followed v (Bare Null) = false

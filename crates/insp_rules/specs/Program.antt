@@ -98,8 +98,8 @@ pub record Invocation : Type 0 where
   pub typed : Bool
   -- the methods of the program that may be meant
   pub meant : List ℕ
-  -- whether it is one of the methods of every object that don't hand it on (`getClass()`, `toString()`, `hashCode()`, `equals(Object)`), or the
-  -- constructor's call on the object that was just made
+  -- whether it is one of the methods of every object that don't hand it on (`getClass()`, `toString()`, `hashCode()`, `equals(Object)`),
+  -- or the constructor's call on the object that was just made
   pub harmless : Bool
 
 -- how many operands it takes
@@ -201,8 +201,8 @@ pub record Method : Type 0 where
   pub locals : ℕ
   -- whether its class is followed
   pub is_of_followed : Bool
-  -- whether calls that aren't followed may mean it: it is an instance method that isn't private or is of an interface, and no constructor, or a
-  -- handle names it
+  -- whether calls that aren't followed may mean it: it is an instance method that isn't private or is of an interface, and no
+  -- constructor, or a handle names it
   pub otherwise : Bool
   pub gives : Result
 

@@ -168,8 +168,8 @@ abbrev pub caught_upon : List Known → Sight → Sight
 caught_upon args f = sight (caught knowns (shape (forget_all (handed_over args) f.shape.locals) []))
     (λ g. upset_if (known_among g args) (f.groups g)) f.count
 
--- a throw there leaves all objects as they were: the instruction is no call of a method of the program, and no call of a protocol on an object
--- but on one that may be null
+-- a throw there leaves all objects as they were: the instruction is no call of a method of the program, and no call of a protocol on an
+-- object but on one that may be null
 pub record MayLeaveAll (i : Instruction) (f : Sight) : Type 0 where
   pub no_call : IsNoCallIn i
   pub on_null : (name : Name) (k : ℕ) (has : Result) (g : ℕ) (x : Group) → i ≡ Call name k has → nth unknown f.shape.operands k ≡ Object g →

@@ -43,8 +43,8 @@ is_followed (Ref o) = true
 is_followed (Again t o) = true
 is_followed _ = false
 
--- an object: whether null was handed out in its place, whether a throw came upon it, its calls since then, or all of them, and what the last
--- of these answered
+-- an object: whether null was handed out in its place, whether a throw came upon it, its calls since then, or all of them, and what the
+-- last of these answered
 pub record Thing : Type 0 where
   pub of : Class
   pub null : Bool
@@ -120,7 +120,13 @@ abbrev pub made : Class → Thing
 made c = handed false c
 
 abbrev pub called : Thing → Name → Option Name → Thing
-called x name answer = record { of = x.of; null = x.null; came = x.came; calls = x.calls ++ record { method = name; answer = answer } ∷ []; answer = answer }
+called x name answer = record {
+  of = x.of;
+  null = x.null;
+  came = x.came;
+  calls = x.calls ++ record { method = name; answer = answer } ∷ [];
+  answer = answer;
+}
 
 -- a throw comes upon it
 abbrev pub upset : Thing → Thing
@@ -305,28 +311,35 @@ let_go_all (v ∷ vs) = let_go v ∷ let_go_all vs
 pub data Step (p : Program) : State → State → Type 0 where
   moves : {m at : ℕ} {s t : Shape Value} {fs : List Frame} {h : ℕ → Thing} {n : ℕ} (i : Instruction) → instruction_at p h m at s ≡ Some i →
       straight values i s ≡ Some t → Step p (state (frame m at s ∷ fs) h n) (state (frame m (suc at) t ∷ fs) h n)
-  jumps : {m at to : ℕ} {s t : Shape Value} {fs : List Frame} {h : ℕ → Thing} {n : ℕ} (i : Instruction) → instruction_at p h m at s ≡ Some i →
+  jumps : {m at to : ℕ} {s t : Shape Value} {fs : List Frame} {h : ℕ → Thing} {n : ℕ} (i : Instruction) →
+      instruction_at p h m at s ≡ Some i →
       Jumps p h i at s to t → Step p (state (frame m at s ∷ fs) h n) (state (frame m to t ∷ fs) h n)
   makes : {m at : ℕ} {s : Shape Value} {fs : List Frame} {h : ℕ → Thing} {n : ℕ} (c : Class) → instruction_at p h m at s ≡ Some (Make c) →
       Step p (state (frame m at s ∷ fs) h n) (state (frame m (suc at) (pushed (Ref n) s) ∷ fs) (put n (made c) h) (suc n))
   -- what it gives but for something new: with a label, and with none
   tells : {m at : ℕ} {s : Shape Value} {fs : List Frame} {h : ℕ → Thing} {n : ℕ} (name : Name) (k : ℕ) (has : Result) (o : ℕ)
-      (label : Name) → instruction_at p h m at s ≡ Some (Call name k has) → nth Plain s.operands k ≡ Ref o → (h o).null ≡ false → MayAnswer (h o) name (Some label) →
+      (label : Name) → instruction_at p h m at s ≡ Some (Call name k has) → nth Plain s.operands k ≡ Ref o → (h o).null ≡ false →
+      MayAnswer (h o) name (Some label) →
       Step p (state (frame m at s ∷ fs) h n)
-      (state (frame m (suc at) (shape s.locals (told has label (rest (suc k) s.operands))) ∷ fs) (put o (called (h o) name (Some label)) h) n)
+      (state (frame m (suc at) (shape s.locals (told has label (rest (suc k) s.operands))) ∷ fs)
+      (put o (called (h o) name (Some label)) h) n)
   calls : {m at : ℕ} {s : Shape Value} {fs : List Frame} {h : ℕ → Thing} {n : ℕ} (name : Name) (k : ℕ) (has : Result) (o : ℕ)
-      (vs : List Value) → instruction_at p h m at s ≡ Some (Call name k has) → nth Plain s.operands k ≡ Ref o → (h o).null ≡ false → MayAnswer (h o) name None →
+      (vs : List Value) → instruction_at p h m at s ≡ Some (Call name k has) → nth Plain s.operands k ≡ Ref o → (h o).null ≡ false →
+      MayAnswer (h o) name None →
       Leaves o (h o).of has (rest (suc k) s.operands) vs →
       Step p (state (frame m at s ∷ fs) h n)
       (state (frame m (suc at) (shape s.locals vs) ∷ fs) (put o (called (h o) name None) h) n)
   calls_made : {m at : ℕ} {s : Shape Value} {fs : List Frame} {h : ℕ → Thing} {n : ℕ} (name : Name) (k : ℕ) (has : Result) (o : ℕ)
-      (d : Class) (null : Bool) → instruction_at p h m at s ≡ Some (Call name k has) → nth Plain s.operands k ≡ Ref o → (h o).null ≡ false → MayAnswer (h o) name None →
+      (d : Class) (null : Bool) → instruction_at p h m at s ≡ Some (Call name k has) → nth Plain s.operands k ≡ Ref o →
+      (h o).null ≡ false → MayAnswer (h o) name None →
       fresh_of (h o).of has ≡ Some d →
       Step p (state (frame m at s ∷ fs) h n)
-      (state (frame m (suc at) (shape s.locals (Ref n ∷ rest (suc k) s.operands)) ∷ fs) (put n (handed null d) (put o (called (h o) name None) h)) (suc n))
+      (state (frame m (suc at) (shape s.locals (Ref n ∷ rest (suc k) s.operands)) ∷ fs)
+      (put n (handed null d) (put o (called (h o) name None) h)) (suc n))
   outside : {m at : ℕ} {s : Shape Value} {fs : List Frame} {h : ℕ → Thing} {n : ℕ} (v : Invocation) →
       instruction_at p h m at s ≡ Some (CallOut v) → class_of v.result ≡ None →
-      Step p (state (frame m at s ∷ fs) h n) (state (frame m (suc at) (shape s.locals (plainly Plain v.result (rest (taken v) s.operands))) ∷ fs) h n)
+      Step p (state (frame m at s ∷ fs) h n)
+      (state (frame m (suc at) (shape s.locals (plainly Plain v.result (rest (taken v) s.operands))) ∷ fs) h n)
   -- it gives an object that nobody else has, or null
   outside_made : {m at : ℕ} {s : Shape Value} {fs : List Frame} {h : ℕ → Thing} {n : ℕ} (v : Invocation) (c : Class) (null : Bool) →
       instruction_at p h m at s ≡ Some (CallOut v) → class_of v.result ≡ Some c →
@@ -352,7 +365,8 @@ pub data Step (p : Program) : State → State → Type 0 where
 abbrev pub IsNoCallIn : Instruction → Type 0
 IsNoCallIn i = (callee k words : ℕ) → i ≡ CallIn callee k words → ⊥
 
--- a throw there leaves all objects as they were: the instruction is no call of a method of the program, and no call of a protocol on an object
+-- a throw there leaves all objects as they were: the instruction is no call of a method of the program, and no call of a protocol on an
+-- object
 pub record LeavesAll (h : ℕ → Thing) (i : Instruction) (s : Shape Value) : Type 0 where
   pub no_call : IsNoCallIn i
   pub on_null : (name : Name) (k : ℕ) (has : Result) (o : ℕ) → i ≡ Call name k has → nth Plain s.operands k ≡ Ref o → (h o).null ≡ true
@@ -370,16 +384,18 @@ upset_all vs h o = if among o vs then upset (h o) else h o
 -- a throw comes out of a method that these wait for: the first that catches it goes on, and the arguments of its call were come upon
 pub data Unwinds (p : Program) (h : ℕ → Thing) (n : ℕ) : List Frame → State → Type 0 where
   out : Unwinds p h n [] (state [] h n)
-  caught_in : {m at : ℕ} {s : Shape Value} {fs : List Frame} (callee k words to : ℕ) → instruction_at p h m at s ≡ Some (CallIn callee k words) →
+  caught_in : {m at : ℕ} {s : Shape Value} {fs : List Frame} (callee k words to : ℕ) →
+      instruction_at p h m at s ≡ Some (CallIn callee k words) →
       Contains (handlers_at p m at) to →
       Unwinds p h n (frame m at s ∷ fs) (state (frame m to (caught values s) ∷ fs) (upset_all (first k s.operands) h) n)
   passes : {f : Frame} {fs : List Frame} {s : State} → Unwinds p h n fs s → Unwinds p h n (f ∷ fs) s
-  -- it came out of a method that was called back: a frame that doesn't wait for a method of the program is where it was, and may throw in turn
+  -- it came out of a method that was called back: a frame that doesn't wait for a method of the program is where it was, and may throw in
+  -- turn
   stops : {f : Frame} {fs : List Frame} (i : Instruction) → instruction_at p h f.method f.at f.shape ≡ Some i → IsNoCallIn i →
       Unwinds p h n (f ∷ fs) (state (f ∷ fs) h n)
 
--- Each instruction may throw. A call of a protocol has come to the object then, but where that is null; the arguments of a call of a method of
--- the program are come upon, also where the method hasn't begun; elsewhere all objects are as they were.
+-- Each instruction may throw. A call of a protocol has come to the object then, but where that is null; the arguments of a call of a
+-- method of the program are come upon, also where the method hasn't begun; elsewhere all objects are as they were.
 pub data Throws (p : Program) : State → State → Type 0 where
   before : {m at : ℕ} {s : Shape Value} {fs : List Frame} {h : ℕ → Thing} {n : ℕ} (to : ℕ) (i : Instruction) →
       Contains (handlers_at p m at) to → instruction_at p h m at s ≡ Some i → LeavesAll h i s →
