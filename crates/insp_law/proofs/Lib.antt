@@ -14,4 +14,5 @@ pub mod Whole
 pub mod Leaving
 pub mod Handing
 pub mod Safe
+pub mod Ways
 pub mod Examples

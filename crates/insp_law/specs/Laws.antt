@@ -19,8 +19,9 @@ use Rattle.insp_rules.specs.Skeleton.{Value, Plain, Nil, Bit, Map, Constant, Ref
 use Rattle.insp_rules.specs.Skeleton.{State, frame}
 use Rattle.insp_rules.specs.Skeleton.{state, values, result, begins, place, someone_has}
 use Rattle.insp_rules.specs.Skeleton.{Step, Throws, IsNoCallIn, instruction_at, let_go_all}
-use Rattle.insp_rules.specs.Frames.{Known, Bare}
-use Rattle.insp_rules.specs.Reached.{Both, Context, Numbering, Inspected, IsRoot}
+use Rattle.insp_rules.specs.Frames.{Known, Bare, Group, Sight, unknown, seen_at, sign_asks}
+use Rattle.insp_rules.specs.Reached.{Both, Context, Exit, Numbering, Inspected, IsRoot, Reached, Left, Found}
+use Rattle.insp_rules.specs.Program.{Comparison, IfSign, CallIn, handlers_at}
 
 -- what a value may be of which this is known
 pub data Bears : BareOf → Value → Type 0 where
@@ -159,15 +160,28 @@ AnswersAreNamed t = (m : Offer) → IsOffered t.states m → (branches : List Br
 abbrev pub RightIsPath : Type 0
 RightIsPath = (x : Thing) → IsRight x → x.came ≡ false → AnswersAreNamed x.of.typestate → Path x.of.typestate x.calls None
 
--- Some program that makes an object and calls it has no demand that fails.
+-- A frame of which this holds is reached.
+abbrev pub Somewhere : (p : Program) (numbering : Numbering) (roots : List Context) → (Context → ℕ → Sight → Type 0) → Type 0
+Somewhere p numbering roots P = (c : Context) × (at : ℕ) × (f : Sight) × Found p numbering roots (Reached c at f) × P c at f
+
+-- Some program has no demand that fails, and this is reached in it:
 pub record Example : Type 0 where
   pub program : Program
   pub numbering : Numbering
-  pub root : Context
-  pub is_root : IsRoot root
-  pub inspected : Inspected program numbering (root ∷ [])
-  pub class : Class
-  pub makes : code_at program root.method 0 ≡ Some (Does (Make class))
-  pub call : Invocation
-  pub calls : code_at program root.method 1 ≡ Some (Invoke call)
-  pub of_its_protocol : names class.typestate call.name ≡ true
+  pub roots : List Context
+  pub are_roots : AllByRecursion IsRoot roots
+  pub inspected : Inspected program numbering roots
+  -- a followed call, out of which a throw is caught
+  pub followed : Somewhere program numbering roots (λ c at f. (callee : ℕ) × (k : ℕ) × (words : ℕ) × (to : ℕ)
+      × (seen_at program c.method at f ≡ Some (CallIn callee k words)) × Contains (handlers_at program c.method at) to)
+  -- the end of a method that was handed an object
+  pub left : (c : Context) × (e : Exit) × Found program numbering roots (Left c e) × (0 < c.held)
+  -- a test of what an object answered
+  pub asked : Somewhere program numbering roots (λ c at f. (compares : Comparison) × (to : ℕ) × (g : ℕ)
+      × (seen_at program c.method at f ≡ Some (IfSign compares to))
+      × (sign_asks compares (nth unknown f.shape.operands 0) ≡ Some g))
+  -- an object that may be null
+  pub perhaps_null : Somewhere program numbering roots (λ c at f. (g : ℕ) × (x : Group) × (f.groups g ≡ Some x) × (x.null ≡ true))
+  -- a call that isn't followed and may mean a method of the program
+  pub called_back : Somewhere program numbering roots (λ c at f. (v : Invocation) × (method : ℕ)
+      × (seen_at program c.method at f ≡ Some (CallOut v)) × Contains v.meant method)

@@ -14,7 +14,8 @@ pub fn right_is_path()
     ensures { RightIsPath }
 {}
 
-/// Some program that makes an object and calls it is inspected.
+/// Some program is inspected that hands an object to a method of its own, goes by what it answers, catches a throw, takes
+/// an object that may be null, and is called back.
 pub fn one_is_inspected()
     ensures { Example }
 {}
