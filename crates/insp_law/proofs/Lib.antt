@@ -15,4 +15,6 @@ pub mod Leaving
 pub mod Handing
 pub mod Safe
 pub mod Ways
+pub mod Sample
+pub mod SampleDemands
 pub mod Examples
