@@ -6,6 +6,7 @@ use Rattle.std.specs.List.{AllByRecursion}
 use Rattle.mg_text.specs.Call.{Name}
 use Rattle.ts_tree.specs.declared.parts.To.{To}
 use Rattle.ts_tree.specs.Calls.{initial}
+use Rattle.ts_tree.specs.Typestate.{Typestate}
 use Rattle.insp_rules.specs.Program.{Class, Result, Instruction, Call, CallOut, Keep, Return, Throw, Program, code_at, Shape, nth, first}
 use Rattle.insp_rules.specs.Program.{Invocation, Invoke, names, is_protocol, class_of, result_of, is_called_otherwise, is_of_followed}
 use Rattle.insp_rules.specs.Skeleton.{Value, Plain, Nil, Bit, Map, Constant, Ref, Again, Another, Said, Thing, Frame, State, frame, state}
@@ -13,7 +14,7 @@ use Rattle.insp_rules.specs.Skeleton.{instruction_at, is_loose, result, place, h
 use Rattle.insp_rules.specs.Skeleton as skeleton
 use Rattle.insp_rules.specs.Frames.{Known, unknown, Object, Element, At, Group, Sight, Holds, CallHolds, given_back, NoneFollowed}
 use Rattle.insp_rules.specs.Frames.{is_followed}
-use Rattle.insp_rules.specs.Frames.{seen_at, Receives, IsNew}
+use Rattle.insp_rules.specs.Frames.{Receives, IsNew, StaysHere}
 use Rattle.insp_rules.specs.Frames as frames
 use Rattle.insp_rules.specs.Reached.{Both, none, more, Context, Numbering, Inspected, Found, Reached, Outside, handed_over}
 use Rattle.insp_law.specs.Laws.{NoneWaits, IsHandedOut}
@@ -187,6 +188,64 @@ module _ (p : Program) (numbering : Numbering) (roots : List Context) (inspected
       go a w (bare laws.null) d = no_protocol (d.not_null refl)
       go a w (bare (laws.again {t = c})) d = no_alias (names c v.name) d.known
       go a w (bare (laws.another {t = c})) d = no_alias (names c v.name) d.known
+
+  pub on_again : {s : State} → Inv p numbering roots s → (m at : ℕ) (t : Shape Value) (fs : List Frame) (v : Invocation) (c : Typestate) (o : ℕ) →
+      s.stack ≡ frame m at t ∷ fs → code_at p m at ≡ Some (Invoke v) → v.has_receiver ≡ true → nth Plain t.operands v.words ≡ Again c o →
+      names c v.name ≡ false
+  on_again {s} i m at t fs v c o q e has again =
+      go (nth unknown r.f.shape.operands v.words) (nth Plain t.operands v.words)
+      (operand s.things r.obj r.f.groups fresh r.f.shape t r.fit.fits v.words)
+      (inspected.receives r.c at r.f v r.found (ap (λ j. code_at p j at) (sym r.same) ∙ e) has) again
+    where
+      r : Running p numbering roots s.things s.next m at t fs
+      r = running p numbering roots i m at t fs q
+
+      unnamed : (b : Bool) → (if b then true else is_protocol v) ≡ false → b ≡ false
+      unnamed true d = d
+      unnamed false d = refl
+
+      not_loose : {P : Type 0} (w : Value) → is_loose w ≡ true → w ≡ Again c o → P
+      not_loose w l d = absurd (true≢false (sym l ∙ ap is_loose d))
+
+      go : (a : Known) (w : Value) → Says s.things r.obj r.f.groups fresh a w → Receives (is_of_followed p r.c.method) v a → w ≡ Again c o →
+          names c v.name ≡ false
+      go a w (object x l k) d z = absurd (cc)
+      go a w (answer x l k) d z = absurd (cc)
+      go a w (bare (laws.other l)) d z = not_loose w l z
+      go a w (bare (laws.lost l)) d z = not_loose w l z
+      go a w (bare laws.bit) d z = absurd (cc)
+      go a w (bare laws.map) d z = absurd (cc)
+      go a w (bare laws.constant) d z = absurd (cc)
+      go a w (bare laws.null) d z = absurd (cc)
+      go a w (bare laws.another) d z = absurd (cc)
+      go a w (bare (laws.again {t = b})) d z =
+          let y : b ≡ c = cc in
+          ap (λ k. names k v.name) (sym y) ∙ unnamed (names b v.name) d.known
+
+  -- where an object is, one is known to be
+  known_followed : (h : ℕ → Thing) (obj : ℕ → ℕ) (groups : ℕ → Option Group) (a : Known) (v : Value) → Says h obj groups fresh a v →
+      skeleton.is_followed v ≡ true → is_followed a ≡ true
+  known_followed h obj groups a v (object x l k) e = refl
+  known_followed h obj groups a v (answer x l k) e = absurd (true≢false (sym e))
+  known_followed h obj groups a v (bare (laws.other l)) e = absurd (true≢false (sym e ∙ loose_free v l))
+  known_followed h obj groups a v (bare (laws.lost l)) e = absurd (true≢false (sym e ∙ loose_free v l))
+  known_followed h obj groups a v (bare laws.bit) e = absurd (true≢false (sym e))
+  known_followed h obj groups a v (bare laws.map) e = absurd (true≢false (sym e))
+  known_followed h obj groups a v (bare laws.constant) e = absurd (true≢false (sym e))
+  known_followed h obj groups a v (bare laws.null) e = absurd (true≢false (sym e))
+  known_followed h obj groups a v (bare laws.another) e = absurd (true≢false (sym e))
+  known_followed h obj groups a v (bare laws.again) e = refl
+
+  pub stays : {s : State} → Inv p numbering roots s → (m at : ℕ) (t : Shape Value) (fs : List Frame) (v : Invocation) →
+      s.stack ≡ frame m at t ∷ fs → instruction_at p s.things m at t ≡ Some (CallOut v) → v.has_receiver ≡ true →
+      skeleton.is_followed (nth Plain t.operands v.words) ≡ true → StaysHere v
+  stays {s} i m at t fs v q e has followed =
+      (inspected.holds r.c at r.f (CallOut v) r.found (seen r.fit p m r.c.method at r.same e)).receives v refl has
+      (known_followed s.things r.obj r.f.groups (nth unknown r.f.shape.operands v.words) (nth Plain t.operands v.words)
+      (operand s.things r.obj r.f.groups fresh r.f.shape t r.fit.fits v.words) followed)
+    where
+      r : Running p numbering roots s.things s.next m at t fs
+      r = running p numbering roots i m at t fs q
 
   pub hands_none : {s : State} → Inv p numbering roots s → (m at : ℕ) (t : Shape Value) (fs : List Frame) (i : Instruction) (k : ℕ) →
       s.stack ≡ frame m at t ∷ fs → instruction_at p s.things m at t ≡ Some i →

@@ -4,7 +4,7 @@ use Rattle.insp_rules.specs.Skeleton.{State}
 use Rattle.insp_law.specs.Laws.{MayBeLeft, GivesBack, RunsAreSafe}
 use Rattle.insp_law.proofs.Whole.{runs_keep, all_right}
 use Rattle.insp_law.proofs.Leaving.{LeftIf, leaves_moving}
-use Rattle.insp_law.proofs.Handing.{goes_on, on_objects, hands_none, gives_plain, gives_new}
+use Rattle.insp_law.proofs.Handing.{goes_on, on_objects, on_again, stays, hands_none, gives_plain, gives_new}
 
 pub runs_are_safe : RunsAreSafe
 runs_are_safe p numbering roots inspected begin s b r =
@@ -13,6 +13,8 @@ runs_are_safe p numbering roots inspected begin s b r =
       right = all_right p numbering roots inspected i;
       goes_on = goes_on p numbering roots inspected i;
       on_objects = on_objects p numbering roots inspected i;
+      on_again = on_again p numbering roots inspected i;
+      stays = stays p numbering roots inspected i;
       hands_none = hands_none p numbering roots inspected i;
       gives_plain = gives_plain p numbering roots inspected i;
       gives_new = gives_new p numbering roots inspected i;

@@ -19,7 +19,7 @@ use Rattle.insp_rules.specs.Skeleton.{Value, Plain, Nil, Bit, Map, Constant, Ref
 use Rattle.insp_rules.specs.Skeleton.{State, frame}
 use Rattle.insp_rules.specs.Skeleton.{state, values, result, begins, place, someone_has}
 use Rattle.insp_rules.specs.Skeleton.{Step, Throws, IsNoCallIn, instruction_at, let_go_all}
-use Rattle.insp_rules.specs.Frames.{Known, Bare, Group, Sight, unknown, seen_at, sign_asks}
+use Rattle.insp_rules.specs.Frames.{Known, Bare, Group, Sight, StaysHere, unknown, seen_at, sign_asks}
 use Rattle.insp_rules.specs.Reached.{Both, Context, Exit, Numbering, Inspected, IsRoot, Reached, Left, Found}
 use Rattle.insp_rules.specs.Program.{Comparison, IfSign, CallIn, handlers_at}
 
@@ -127,12 +127,20 @@ pub record IsSafe (p : Program) (roots : List Context) (s : State) : Type 0 wher
       code_at p m at ≡ Some (Invoke v) → v.has_receiver ≡ true → is_protocol v ≡ true →
       ((o : ℕ) × (nth Plain shape.operands v.words ≡ Ref o))
       ⊎ (is_of_followed p m ≡ true) × (is_loose (nth Plain shape.operands v.words) ≡ true)
+  -- an object once more is called by methods alone that its typestate doesn't name
+  pub on_again : (m at : ℕ) (shape : Shape Value) (fs : List Frame) (v : Invocation) (t : Typestate) (o : ℕ) →
+      s.stack ≡ frame m at shape ∷ fs → code_at p m at ≡ Some (Invoke v) → v.has_receiver ≡ true →
+      nth Plain shape.operands v.words ≡ Again t o → names t v.name ≡ false
   -- no object is handed out, kept or thrown
   pub hands_none : (m at : ℕ) (shape : Shape Value) (fs : List Frame) (i : Instruction) (k : ℕ) →
       s.stack ≡ frame m at shape ∷ fs → instruction_at p s.things m at shape ≡ Some i →
       (i ≡ Keep k) ⊎ (i ≡ Throw) × (k ≡ 1) ⊎ ((v : Invocation) × (i ≡ CallOut v) × (k ≡ v.words))
       ⊎ ((name : Name) × (has : Result) × (i ≡ Call name k has)) →
       AllByRecursion (λ v. is_followed v ≡ false) (first k shape.operands)
+  -- an object on which a method outside is called isn't handed on
+  pub stays : (m at : ℕ) (shape : Shape Value) (fs : List Frame) (v : Invocation) → s.stack ≡ frame m at shape ∷ fs →
+      instruction_at p s.things m at shape ≡ Some (CallOut v) → v.has_receiver ≡ true → is_followed (nth Plain shape.operands v.words) ≡ true →
+      StaysHere v
   -- what is given back to a call from outside isn't followed, where the result is of no followed class; by a method that may be called
   -- otherwise it is handed out as new, where it is of one
   pub gives_plain : (m at : ℕ) (shape : Shape Value) (fs : List Frame) (words : ℕ) → s.stack ≡ frame m at shape ∷ fs →
