@@ -1,5 +1,6 @@
 -- All that is reached in that program, and that no demand fails in it.
-use Rattle.std.proofs.Common.{◌≡◌, ◌≢◌, ◌⊎◌, inl, inr, ℕ, zero, suc, Bool, true, false, true≢false, List, [], ◌∷◌, Contains, Option, Some, None}
+use Rattle.std.proofs.Common.{◌≡◌, ◌≢◌, ◌⊎◌, inl, inr, ℕ, zero, suc, Bool, true, false, true≢false, List, [], ◌∷◌, Contains, Option, Some}
+use Rattle.std.proofs.Common.{None}
 use Rattle.std.proofs.Common.{refl, sym, ap, ◌∙◌, subst, arith}
 use Rattle.std.specs.Prelude.{◌==◌, if◌then◌else◌}
 use Rattle.std.proofs.lemmas.Bool.Decides.{eqb_tells}
@@ -8,11 +9,14 @@ use Rattle.ts_tree.specs.declared.parts.To.TheVariants as tos
 use Rattle.insp_rules.specs.Program.{Truth, Itself, Other, Null, Result, Void, Boolean, Equal, Invocation, Instruction, Move, Load, Store}
 use Rattle.insp_rules.specs.Program.{Just, IfNull, IfSign, Make, Call, CallIn, CallOut, Return}
 use Rattle.insp_rules.specs.Program.{handlers_at, result_of, is_called_otherwise, is_of_followed, taken, first, shape, nth}
-use Rattle.insp_rules.specs.Frames.{Known, Bare, Object, Answer, Element, At, Pending, Group, Sight, unknown, group, new_group, sight, has_group}
-use Rattle.insp_rules.specs.Frames.{known_among, finished, Way, Holds, CallHolds, MayBe, NoneOpen, class_known, seen_at, Receives, IsHandedBack}
+use Rattle.insp_rules.specs.Frames.{Known, Bare, Object, Answer, Element, At, Pending, Group, Sight, unknown, group, new_group, sight}
+use Rattle.insp_rules.specs.Frames.{has_group}
+use Rattle.insp_rules.specs.Frames.{known_among, finished, Way, Holds, CallHolds, MayBe, NoneOpen, class_known, seen_at, Receives}
+use Rattle.insp_rules.specs.Frames.{IsHandedBack}
 use Rattle.insp_rules.specs.Frames.{given_back, is_followed, is_below, upset_group, added}
 use Rattle.insp_rules.specs.Frames as frames
-use Rattle.insp_rules.specs.Reached.{Context, IsRoot, Fact, Entered, Outside, Reached, Left, Found, Inspected, outside_context, Outcome, Plainly}
+use Rattle.insp_rules.specs.Reached.{Context, IsRoot, Fact, Entered, Outside, Reached, Left, Found, Inspected, outside_context, Outcome}
+use Rattle.insp_rules.specs.Reached.{Plainly}
 use Rattle.insp_rules.specs.Reached.{Exit, Takes, Stands, Both, resumed, caught_upon, entry}
 use Rattle.insp_rules.specs.Reached as reached
 use Rattle.insp_rules.specs.Numbers.{canonical, numbered_groups}
@@ -37,7 +41,8 @@ first_roots d (zero, less, e) = subst Ctx e in_main
 first_roots d (suc zero, less, e) = subst Ctx e in_taker
 first_roots d (suc (suc k), less, e) = absurd (omega (arith, less))
 
-outcome_is : (held : ℕ) (gs : ℕ → Option Group) (a : Known) (o : Outcome) → reached.Outcomes held gs a o → a ≡ Bare Other → o ≡ Plainly Other
+outcome_is : (held : ℕ) (gs : ℕ → Option Group) (a : Known) (o : Outcome) → reached.Outcomes held gs a o → a ≡ Bare Other →
+    o ≡ Plainly Other
 outcome_is held gs a o (reached.bare {b = b}) q = let w : b ≡ Other = cc in ap (λ b. Plainly (reached.kept_plain b)) w
 outcome_is held gs a o (reached.answer_held less) q = absurd (cc)
 outcome_is held gs a o (reached.answer_own over) q = absurd (cc)
@@ -74,7 +79,8 @@ old_zero old groups a b (reached.object {g = g} x l) q r =
     let o : old g ≡ 0 = cc in
     ap old (sym g_is) ∙ o
 
-head_stands : (old : ℕ → ℕ) (groups : ℕ → Option Group) {xs ys : List Known} → Both (Stands old groups) xs ys → xs ≡ object ∷ [] → ys ≡ object ∷ [] →
+head_stands : (old : ℕ → ℕ) (groups : ℕ → Option Group) {xs ys : List Known} → Both (Stands old groups) xs ys → xs ≡ object ∷ [] →
+    ys ≡ object ∷ [] →
     old 0 ≡ 0
 head_stands old groups reached.none q r = absurd (cc)
 head_stands old groups (reached.more {a = a} {b = b} {xs = xs} {ys = ys} s ss) q r =
@@ -100,7 +106,8 @@ Back gs e callee n words = (callee ≡ 1 → (e.groups 0 ≡ Some ended) × (e.o
     (takes : Takes callee (first n (object ∷ [])) (sight (shape [] (object ∷ [])) gs 1)
     (numbering.context callee (first n (object ∷ [])) (sight (shape [] (object ∷ [])) gs 1))) →
     Next Main 0 2 (resumed takes.old
-    (numbering.context callee (first n (object ∷ [])) (sight (shape [] (object ∷ [])) gs 1)).held n words e (sight (shape [] (object ∷ [])) gs 1))
+    (numbering.context callee (first n (object ∷ [])) (sight (shape [] (object ∷ [])) gs 1)).held n words e
+    (sight (shape [] (object ∷ [])) gs 1))
 
 came_back : (gs : ℕ → Option Group) (o : Only gs there) (e : Exit) (takes : Takes 1 (object ∷ []) (sight (shape [] (object ∷ [])) gs 1)
     (numbering.context 1 (object ∷ []) (sight (shape [] (object ∷ [])) gs 1))) → (e.groups 0 ≡ Some ended) × (e.outcome ≡ Plainly Other) →
@@ -111,7 +118,8 @@ came_back gs o e takes left =
       stage = m2 (numbered_groups [] (reached.groups_behind takes.old 1 e (sight (shape [] (object ∷ [])) gs 1))) (λ g. refl);
       kept = done_open 0 (shape [] []) (reached.groups_behind takes.old 1 e (sight (shape [] (object ∷ [])) gs 1)) 1 ended
           (behind_call gs o e takes.old
-          (head_stands takes.old (numbering.context 1 (object ∷ []) (sight (shape [] (object ∷ [])) gs 1)).groups takes.arguments refl refl) left.0)
+          (head_stands takes.old (numbering.context 1 (object ∷ []) (sight
+          (shape [] (object ∷ [])) gs 1)).groups takes.arguments refl refl) left.0)
           refl;
     })
 
@@ -354,7 +362,8 @@ helper_5 = canonical 1 (frames.asked 0 asked (At tos.End) (shape (object ∷ [])
 answered : Found p numbering roots (Reached inner 2 helper_2)
 answered =
     reached.steps (Call asks 0 Boolean)
-    (reached.steps (Load 0) (reached.begins (reached.enters 1 1 0 made refl)) refl (frames.moves (shape (object ∷ []) (object ∷ [])) refl)) refl
+    (reached.steps (Load 0) (reached.begins (reached.enters 1 1 0 made refl)) refl
+    (frames.moves (shape (object ∷ []) (object ∷ [])) refl)) refl
     (frames.answers asks 0 Boolean 0 there (tos.State 0) branches asking refl refl refl frames.at refl refl)
 
 ends_so : Found p numbering roots (Reached inner 5 helper_5)
@@ -374,7 +383,13 @@ example = record {
   are_roots = (record { held = refl; groups = λ g. refl }, (record { held = refl; groups = λ g. refl }, tt));
   inspected = inspected;
   followed = (begins_at 0, 1, main_1, made, (1, 1, 0, 2, refl, (0, omega arith, refl)));
-  left = (inner, record { groups = helper_5.groups; outcome = Plainly Other }, reached.leaves 0 ends_so refl (reached.bare {b = Other}), omega arith);
+  left = (
+    inner,
+    record { groups = helper_5.groups; outcome = Plainly Other },
+    reached.leaves 0 ends_so refl
+        (reached.bare {b = Other}),
+    omega arith,
+  );
   asked = (inner, 2, helper_2, answered, (Equal, 5, 0, refl, refl));
   perhaps_null = (begins_at 2, 1, taker_1, taken_in, (0, perhaps, refl, refl));
   called_back = (begins_at 2, 0, canonical 0 (entry p (begins_at 2)), root_at 2 taker_in, (getting, 3, refl, (0, omega arith, refl)));

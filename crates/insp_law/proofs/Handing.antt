@@ -189,7 +189,8 @@ module _ (p : Program) (numbering : Numbering) (roots : List Context) (inspected
       go a w (bare (laws.again {t = c})) d = no_alias (names c v.name) d.known
       go a w (bare (laws.another {t = c})) d = no_alias (names c v.name) d.known
 
-  pub on_again : {s : State} → Inv p numbering roots s → (m at : ℕ) (t : Shape Value) (fs : List Frame) (v : Invocation) (c : Typestate) (o : ℕ) →
+  pub on_again : {s : State} → Inv p numbering roots s → (m at : ℕ) (t : Shape Value) (fs : List Frame) (v : Invocation) (c : Typestate)
+      (o : ℕ) →
       s.stack ≡ frame m at t ∷ fs → code_at p m at ≡ Some (Invoke v) → v.has_receiver ≡ true → nth Plain t.operands v.words ≡ Again c o →
       names c v.name ≡ false
   on_again {s} i m at t fs v c o q e has again =

@@ -1,5 +1,6 @@
--- A program in which an object is made, handed to a method that asks it and goes by the answer, and caught behind a throw; in which another
--- comes from outside and may be null; and in which a method outside calls back. The frames that are reached, and that each way leads to one.
+-- A program in which an object is made, handed to a method that asks it and goes by the answer, and caught behind a throw; in which
+-- another comes from outside and may be null; and in which a method outside calls back. The frames that are reached, and that each way
+-- leads to one.
 use Rattle.std.proofs.Common.{◌≡◌, ◌≢◌, ◌⊎◌, inl, inr, ℕ, zero, suc, Bool, true, false, true≢false, List, [], ◌∷◌, Option, Some, None}
 use Rattle.std.proofs.Common.{refl, sym, ap, ◌∙◌, subst, arith}
 use Rattle.std.specs.Prelude.{◌==◌, if◌then◌else◌, codes}
@@ -9,12 +10,17 @@ use Rattle.ts_tree.specs.declared.parts.To.TheVariants as tos
 use Rattle.ts_tree.specs.declared.parts.Branch.{Branch}
 use Rattle.ts_tree.specs.declared.parts.TypeName.TheVariants as types
 use Rattle.ts_tree.specs.Typestate.{One, ByAnswer, Method as Offer, Typestate}
-use Rattle.insp_rules.specs.Program.{Class, Truth, Itself, Other, Null, Result, Void, Boolean, Of, Equal, Invocation, Instruction, Move, Load, Store}
-use Rattle.insp_rules.specs.Program.{Just, IfNull, IfSign, Make, Call, CallIn, CallOut, Keep, Return, Throw, Operation, Does, Invoke, does, Method}
-use Rattle.insp_rules.specs.Program.{Program, code_at, handlers_at, result_of, class_of, is_called_otherwise, is_of_followed, taken, first, Shape, shape, nth, way}
+use Rattle.insp_rules.specs.Program.{Class, Truth, Itself, Other, Null, Result, Void, Boolean, Of, Equal, Invocation, Instruction, Move}
+use Rattle.insp_rules.specs.Program.{Load, Store}
+use Rattle.insp_rules.specs.Program.{Just, IfNull, IfSign, Make, Call, CallIn, CallOut, Keep, Return, Throw, Operation, Does, Invoke}
+use Rattle.insp_rules.specs.Program.{does, Method}
+use Rattle.insp_rules.specs.Program.{Program, code_at, handlers_at, result_of, class_of, is_called_otherwise, is_of_followed, taken}
+use Rattle.insp_rules.specs.Program.{first, Shape, shape, nth, way}
 use Rattle.insp_rules.specs.Skeleton.{put}
-use Rattle.insp_rules.specs.Frames.{Known, Bare, Object, Answer, Element, At, Pending, Group, Sight, unknown, group, new_group, sight, has_group}
-use Rattle.insp_rules.specs.Frames.{known_among, finished, Way, Holds, CallHolds, MayBe, NoneOpen, class_known, seen_at, Receives, IsHandedBack}
+use Rattle.insp_rules.specs.Frames.{Known, Bare, Object, Answer, Element, At, Pending, Group, Sight, unknown, group, new_group, sight}
+use Rattle.insp_rules.specs.Frames.{has_group}
+use Rattle.insp_rules.specs.Frames.{known_among, finished, Way, Holds, CallHolds, MayBe, NoneOpen, class_known, seen_at, Receives}
+use Rattle.insp_rules.specs.Frames.{IsHandedBack}
 use Rattle.insp_rules.specs.Frames.{given_back, is_followed, is_below, upset_group, added}
 use Rattle.insp_rules.specs.Frames as frames
 use Rattle.insp_rules.specs.Reached.{Context}
@@ -101,7 +107,8 @@ main = record {
 
 abbrev pub helper : Method
 helper = record {
-  code = Does (Load 0) ∷ Invoke (on_object asks Boolean) ∷ Does (IfSign Equal 5) ∷ Does (Load 0) ∷ Invoke (on_object ends Void) ∷ Does (Return 0)
+  code = Does (Load 0) ∷ Invoke (on_object asks Boolean) ∷ Does (IfSign Equal 5) ∷ Does (Load 0) ∷ Invoke (on_object ends Void) ∷ Does
+      (Return 0)
       ∷ [];
   handlers = λ at. [];
   locals = 0;
@@ -112,7 +119,8 @@ helper = record {
 
 abbrev pub taker : Method
 taker = record {
-  code = Invoke getting ∷ Does (Store 0) ∷ Does (Load 0) ∷ Does (IfNull true 6) ∷ Does (Load 0) ∷ Invoke (on_object ends Void) ∷ Does (Return 0)
+  code = Invoke getting ∷ Does (Store 0) ∷ Does (Load 0) ∷ Does (IfNull true 6) ∷ Does (Load 0) ∷ Invoke (on_object ends Void) ∷ Does
+      (Return 0)
       ∷ [];
   handlers = λ at. [];
   locals = 1;
@@ -190,14 +198,16 @@ zero_or_not g = go (eqb_tells g 0)
 pub none_open : (held : ℕ) (s : Shape Known) (gs : ℕ → Option Group) (n : ℕ) → Empty gs → NoneOpen held (sight s gs n)
 none_open held s gs n none g x e over gone = none_some (sym (none g) ∙ e)
 
-pub had_open : (held : ℕ) (s : Shape Known) (gs : ℕ → Option Group) (n : ℕ) (x : Group) → Only gs x → has_group 0 s ≡ true → NoneOpen held (sight s gs n)
+pub had_open : (held : ℕ) (s : Shape Known) (gs : ℕ → Option Group) (n : ℕ) (x : Group) → Only gs x → has_group 0 s ≡ true →
+    NoneOpen held (sight s gs n)
 had_open held s gs n x o has g y e over gone = go (zero_or_not g)
   where
     go : (g ≡ 0) ⊎ (g ≢ 0) → finished y ≡ true
     go (inl z) = absurd (true≢false (sym has ∙ ap (λ a. has_group a s) (sym z) ∙ gone))
     go (inr ne) = none_some (sym (o.others g ne) ∙ e)
 
-pub done_open : (held : ℕ) (s : Shape Known) (gs : ℕ → Option Group) (n : ℕ) (x : Group) → Only gs x → finished x ≡ true → NoneOpen held (sight s gs n)
+pub done_open : (held : ℕ) (s : Shape Known) (gs : ℕ → Option Group) (n : ℕ) (x : Group) → Only gs x → finished x ≡ true →
+    NoneOpen held (sight s gs n)
 done_open held s gs n x o fin g y e over gone = go (zero_or_not g)
   where
     go : (g ≡ 0) ⊎ (g ≢ 0) → finished y ≡ true
@@ -266,7 +276,8 @@ carry {S} {held} {to} {to'} {g} {g'} e n =
 -- ---- what is done there
 
 -- a call on an object that is known
-pub on_known : (v : Invocation) (gs : ℕ → Option Group) (x : Group) → Only gs x → Some (does (Invoke v) (class_known (gs 0))) ≡ Some (does (Invoke v) (class_known (Some x)))
+pub on_known : (v : Invocation) (gs : ℕ → Option Group) (x : Group) → Only gs x →
+    Some (does (Invoke v) (class_known (gs 0))) ≡ Some (does (Invoke v) (class_known (Some x)))
 on_known v gs x o = ap (λ y. Some (does (Invoke v) (class_known y))) o.at
 
 pub main_next : (at to : ℕ) (f g : Sight) (i : Instruction) → Main at f → seen_at p 0 at f ≡ Some i → Way p 0 i at f to g → Next Main 0 to g
@@ -279,16 +290,19 @@ main_next at to f g i (m1 gs o) e w = no_way_in p 0 1 f 1 1 0 (subst (λ j. Way 
 main_next at to f g i (m2 gs none) e w = no_way_back p 0 2 f 0 (subst (λ j. Way p 0 j 2 f to g) (sym (some_is e)) w)
 main_next at to f g i (m2' gs none) e w = no_way_back p 0 2 f 0 (subst (λ j. Way p 0 j 2 f to g) (sym (some_is e)) w)
 
-pub getter_next : (at to : ℕ) (f g : Sight) (i : Instruction) → Getter at f → seen_at p 3 at f ≡ Some i → Way p 0 i at f to g → Next Getter 0 to g
+pub getter_next : (at to : ℕ) (f g : Sight) (i : Instruction) → Getter at f → seen_at p 3 at f ≡ Some i → Way p 0 i at f to g →
+    Next Getter 0 to g
 getter_next at to f g i (g0 gs none) e w =
-    carry (moves_way p 0 0 f (Move 0 (Just Null ∷ [])) (shape [] (Bare Null ∷ [])) refl (subst (λ j. Way p 0 j 0 f to g) (sym (some_is e)) w))
+    carry (moves_way p 0 0 f (Move 0 (Just Null ∷ [])) (shape [] (Bare Null ∷ [])) refl
+    (subst (λ j. Way p 0 j 0 f to g) (sym (some_is e)) w))
     (record {
       stage = g1 (numbered_groups [] gs) (λ g. refl);
       kept = none_open 0 (shape [] (Bare Null ∷ [])) gs 0 none;
     })
 getter_next at to f g i (g1 gs none) e w = no_way_back p 0 1 f 1 (subst (λ j. Way p 0 j 1 f to g) (sym (some_is e)) w)
 
-pub helper_next : (at to : ℕ) (f g : Sight) (i : Instruction) → Helper at f → seen_at p 1 at f ≡ Some i → Way p 1 i at f to g → Next Helper 1 to g
+pub helper_next : (at to : ℕ) (f g : Sight) (i : Instruction) → Helper at f → seen_at p 1 at f ≡ Some i → Way p 1 i at f to g →
+    Next Helper 1 to g
 helper_next at to f g i (h0 gs o) e w =
     carry (moves_way p 1 0 f (Load 0) (shape (object ∷ []) (object ∷ [])) refl (subst (λ j. Way p 1 j 0 f to g) (sym (some_is e)) w))
     (record {
@@ -311,12 +325,14 @@ helper_next at to f g i (h2 gs o) e w = go y.b y.z y.e y.zero_is y.refines y.goe
     after d = sight (shape (object ∷ []) []) (put 0 (Some (group c d false)) gs) 1
 
     go : (b z : Bool) (d : Element) → Rattle.insp_rules.specs.Program.is_zero_by Equal b ≡ Some z →
-        frames.refined (λ l. Rattle.std.specs.Str.bytes_eq l (Rattle.insp_rules.specs.Program.truth z)) (Pending branches) ≡ Some d → to ≡ way b 5 2 →
+        frames.refined (λ l. Rattle.std.specs.Str.bytes_eq l (Rattle.insp_rules.specs.Program.truth z)) (Pending branches) ≡ Some d →
+        to ≡ way b 5 2 →
         g ≡ sight (shape (object ∷ []) []) (put 0 (Some (group c d false)) gs) 1 → Next Helper 1 to g
     go true z d zero_is refines goes comes =
         let z_is : true ≡ z = some_is zero_is in
         let d_is : At tos.End ≡ d =
-        some_is (ap (λ z. frames.refined (λ l. Rattle.std.specs.Str.bytes_eq l (Rattle.insp_rules.specs.Program.truth z)) (Pending branches)) z_is
+        some_is (ap (λ z. frames.refined (λ l. Rattle.std.specs.Str.bytes_eq l (Rattle.insp_rules.specs.Program.truth z))
+        (Pending branches)) z_is
         ∙ refines) in
         carry (goes, comes ∙ ap after (sym d_is)) (record {
           stage = h5 (numbered_groups (0 ∷ []) (put 0 (Some ended) gs)) (only_now gs ended o.others);
@@ -325,7 +341,8 @@ helper_next at to f g i (h2 gs o) e w = go y.b y.z y.e y.zero_is y.refines y.goe
     go false z d zero_is refines goes comes =
         let z_is : false ≡ z = some_is zero_is in
         let d_is : At (tos.State 0) ≡ d =
-        some_is (ap (λ z. frames.refined (λ l. Rattle.std.specs.Str.bytes_eq l (Rattle.insp_rules.specs.Program.truth z)) (Pending branches)) z_is
+        some_is (ap (λ z. frames.refined (λ l. Rattle.std.specs.Str.bytes_eq l (Rattle.insp_rules.specs.Program.truth z))
+        (Pending branches)) z_is
         ∙ refines) in
         carry (goes, comes ∙ ap after (sym d_is)) (record {
           stage = h3 (numbered_groups (0 ∷ []) (put 0 (Some there) gs)) (only_now gs there o.others);
@@ -363,14 +380,17 @@ surely_there gs o = record {
     go : (g : ℕ) → g ≢ 0 → ((g == 0) ≡ true) × (g ≡ 0) ⊎ ((g == 0) ≡ false) × (g ≢ 0) → frames.surely (0 ∷ []) gs g ≡ None
     go g ne (inl w) = absurd (ne w.1)
     go g ne (inr w) =
-        ap (λ (b : Bool). if b then Rattle.std.specs.Prelude.option_and_then (λ (x : Group). Some (group x.of x.element false)) (gs g) else gs g) w.0
+        ap (λ (b : Bool). if b then Rattle.std.specs.Prelude.option_and_then (λ (x : Group). Some (group x.of x.element false))
+        (gs g) else gs g) w.0
         ∙ o.others g ne
 
-pub taker_next : (at to : ℕ) (f g : Sight) (i : Instruction) → Taker at f → seen_at p 2 at f ≡ Some i → Way p 0 i at f to g → Next Taker 0 to g
+pub taker_next : (at to : ℕ) (f g : Sight) (i : Instruction) → Taker at f → seen_at p 2 at f ≡ Some i → Way p 0 i at f to g →
+    Next Taker 0 to g
 taker_next at to f g i (t0 gs none) e w =
     carry (out_way p 0 0 f getting c refl (subst (λ j. Way p 0 j 0 f to g) (sym (some_is e)) w)) (record {
       stage = t1 (numbered_groups (0 ∷ []) (put 0 (Some perhaps) gs)) (only_now gs perhaps (λ g ne. none g));
-      kept = had_open 0 (shape (Bare Other ∷ []) (object ∷ [])) (put 0 (Some perhaps) gs) 1 perhaps (only_put gs perhaps (λ g ne. none g)) refl;
+      kept = had_open 0 (shape (Bare Other ∷ []) (object ∷ [])) (put 0 (Some perhaps) gs) 1 perhaps
+          (only_put gs perhaps (λ g ne. none g)) refl;
     })
 taker_next at to f g i (t1 gs o) e w =
     carry (moves_way p 0 1 f (Store 0) (shape (object ∷ []) []) refl (subst (λ j. Way p 0 j 1 f to g) (sym (some_is e)) w))
@@ -396,7 +416,8 @@ taker_next at to f g i (t3 gs o) e w = go y.b y.goes y.comes
       kept = none_open 0 (shape (Bare Null ∷ []) []) (frames.without 0 (0 ∷ []) gs) 1 (nothing_left gs perhaps o);
     })
     go false goes comes = carry (goes, comes) (record {
-      stage = t4 (numbered_groups (0 ∷ []) (frames.surely (0 ∷ []) gs)) (only_numbered (frames.surely (0 ∷ []) gs) there (surely_there gs o));
+      stage = t4 (numbered_groups (0 ∷ []) (frames.surely (0 ∷ []) gs))
+          (only_numbered (frames.surely (0 ∷ []) gs) there (surely_there gs o));
       kept = had_open 0 (shape (object ∷ []) []) (frames.surely (0 ∷ []) gs) 1 there (surely_there gs o) refl;
     })
 taker_next at to f g i (t4 gs o) e w =

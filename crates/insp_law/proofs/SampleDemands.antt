@@ -9,8 +9,10 @@ use Rattle.insp_rules.specs.Program.{Null, Result, Void, Boolean, Equal, Invocat
 use Rattle.insp_rules.specs.Program.{Just, IfNull, IfSign, Make, Call, CallIn, CallOut, Keep, Return, Throw, Does, Invoke, does}
 use Rattle.insp_rules.specs.Program.{code_at, first, Shape, shape, nth}
 use Rattle.insp_rules.specs.Skeleton.{offered_at}
-use Rattle.insp_rules.specs.Frames.{Known, Bare, Object, Answer, Element, At, Pending, Group, Sight, unknown, group, new_group, sight, has_group}
-use Rattle.insp_rules.specs.Frames.{known_among, finished, Way, Holds, CallHolds, MayBe, NoneOpen, class_known, seen_at, Receives, IsHandedBack}
+use Rattle.insp_rules.specs.Frames.{Known, Bare, Object, Answer, Element, At, Pending, Group, Sight, unknown, group, new_group, sight}
+use Rattle.insp_rules.specs.Frames.{has_group}
+use Rattle.insp_rules.specs.Frames.{known_among, finished, Way, Holds, CallHolds, MayBe, NoneOpen, class_known, seen_at, Receives}
+use Rattle.insp_rules.specs.Frames.{IsHandedBack}
 use Rattle.insp_rules.specs.Frames.{given_back, is_followed, is_below, upset_group, added}
 use Rattle.insp_rules.specs.Frames as frames
 use Rattle.insp_rules.specs.Reached.{Context}
@@ -28,7 +30,8 @@ pub on_there : (name : Name) (has : Result) (gs : ℕ → Option Group) (x : Gro
 on_there name has gs x j o e = some_is (sym (on_known (on_object name has) gs x o) ∙ e)
 
 -- the only call that isn't followed
-pub calls_getter : (d : Context) (k : Ctx d) (at : ℕ) (f : Sight) (v : Invocation) → Stage k at f → seen_at p d.method at f ≡ Some (CallOut v) →
+pub calls_getter : (d : Context) (k : Ctx d) (at : ℕ) (f : Sight) (v : Invocation) → Stage k at f →
+    seen_at p d.method at f ≡ Some (CallOut v) →
     getting ≡ v
 calls_getter d in_main at f v (m0 gs none) e = let q : Make c ≡ CallOut v = some_is e in absurd (cc)
 calls_getter d in_main at f v (m1 gs o) e = let q : CallIn 1 1 0 ≡ CallOut v = some_is e in absurd (cc)
@@ -39,16 +42,19 @@ calls_getter d in_taker at f v (t1 gs o) e = let q : Store 0 ≡ CallOut v = som
 calls_getter d in_taker at f v (t2 gs o) e = let q : Load 0 ≡ CallOut v = some_is e in absurd (cc)
 calls_getter d in_taker at f v (t3 gs o) e = let q : IfNull true 6 ≡ CallOut v = some_is e in absurd (cc)
 calls_getter d in_taker at f v (t4 gs o) e = let q : Load 0 ≡ CallOut v = some_is e in absurd (cc)
-calls_getter d in_taker at f v (t5 gs o) e = let q : Call ends 0 Void ≡ CallOut v = on_there ends Void gs there (CallOut v) o e in absurd (cc)
+calls_getter d in_taker at f v (t5 gs o) e = let q : Call ends 0 Void ≡ CallOut v =
+    on_there ends Void gs there (CallOut v) o e in absurd (cc)
 calls_getter d in_taker at f v (t6 gs o) e = let q : Return 0 ≡ CallOut v = some_is e in absurd (cc)
 calls_getter d in_taker at f v (t6' gs none) e = let q : Return 0 ≡ CallOut v = some_is e in absurd (cc)
 calls_getter d in_getter at f v (g0 gs none) e = let q : Move 0 (Just Null ∷ []) ≡ CallOut v = some_is e in absurd (cc)
 calls_getter d in_getter at f v (g1 gs none) e = let q : Return 1 ≡ CallOut v = some_is e in absurd (cc)
 calls_getter d (in_helper hs u) at f v (h0 gs o) e = let q : Load 0 ≡ CallOut v = some_is e in absurd (cc)
-calls_getter d (in_helper hs u) at f v (h1 gs o) e = let q : Call asks 0 Boolean ≡ CallOut v = on_there asks Boolean gs there (CallOut v) o e in absurd (cc)
+calls_getter d (in_helper hs u) at f v (h1 gs o) e = let q : Call asks 0 Boolean ≡ CallOut v =
+    on_there asks Boolean gs there (CallOut v) o e in absurd (cc)
 calls_getter d (in_helper hs u) at f v (h2 gs o) e = let q : IfSign Equal 5 ≡ CallOut v = some_is e in absurd (cc)
 calls_getter d (in_helper hs u) at f v (h3 gs o) e = let q : Load 0 ≡ CallOut v = some_is e in absurd (cc)
-calls_getter d (in_helper hs u) at f v (h4 gs o) e = let q : Call ends 0 Void ≡ CallOut v = on_there ends Void gs there (CallOut v) o e in absurd (cc)
+calls_getter d (in_helper hs u) at f v (h4 gs o) e = let q : Call ends 0 Void ≡ CallOut v =
+    on_there ends Void gs there (CallOut v) o e in absurd (cc)
 calls_getter d (in_helper hs u) at f v (h5 gs o) e = let q : Return 0 ≡ CallOut v = some_is e in absurd (cc)
 
 -- what is given back
@@ -76,7 +82,8 @@ gives d in_taker at f words (t1 gs o) e = let q : Store 0 ≡ Return words = som
 gives d in_taker at f words (t2 gs o) e = let q : Load 0 ≡ Return words = some_is e in absurd (cc)
 gives d in_taker at f words (t3 gs o) e = let q : IfNull true 6 ≡ Return words = some_is e in absurd (cc)
 gives d in_taker at f words (t4 gs o) e = let q : Load 0 ≡ Return words = some_is e in absurd (cc)
-gives d in_taker at f words (t5 gs o) e = let q : Call ends 0 Void ≡ Return words = on_there ends Void gs there (Return words) o e in absurd (cc)
+gives d in_taker at f words (t5 gs o) e = let q : Call ends 0 Void ≡ Return words =
+    on_there ends Void gs there (Return words) o e in absurd (cc)
 gives d in_taker at f words (t6 gs o) e =
     let q : Return 0 ≡ Return words = some_is e in
     let w : 0 ≡ words = cc in
@@ -91,10 +98,12 @@ gives d in_getter at f words (g1 gs none) e =
     let w : 1 ≡ words = cc in
     subst (λ n. Gives d in_getter f n) w (of_getter gs)
 gives d (in_helper hs u) at f words (h0 gs o) e = let q : Load 0 ≡ Return words = some_is e in absurd (cc)
-gives d (in_helper hs u) at f words (h1 gs o) e = let q : Call asks 0 Boolean ≡ Return words = on_there asks Boolean gs there (Return words) o e in absurd (cc)
+gives d (in_helper hs u) at f words (h1 gs o) e = let q : Call asks 0 Boolean ≡ Return words =
+    on_there asks Boolean gs there (Return words) o e in absurd (cc)
 gives d (in_helper hs u) at f words (h2 gs o) e = let q : IfSign Equal 5 ≡ Return words = some_is e in absurd (cc)
 gives d (in_helper hs u) at f words (h3 gs o) e = let q : Load 0 ≡ Return words = some_is e in absurd (cc)
-gives d (in_helper hs u) at f words (h4 gs o) e = let q : Call ends 0 Void ≡ Return words = on_there ends Void gs there (Return words) o e in absurd (cc)
+gives d (in_helper hs u) at f words (h4 gs o) e = let q : Call ends 0 Void ≡ Return words =
+    on_there ends Void gs there (Return words) o e in absurd (cc)
 gives d (in_helper hs u) at f words (h5 gs o) e =
     let q : Return 0 ≡ Return words = some_is e in
     let w : 0 ≡ words = cc in
@@ -184,7 +193,8 @@ tests_sign = record {
   backs = λ words q. cc;
 }
 
-pub calling : (held at : ℕ) (s : Shape Known) (gs : ℕ → Option Group) (name : Name) (has : Result) (m : Offer) → nth unknown s.operands 0 ≡ object →
+pub calling : (held at : ℕ) (s : Shape Known) (gs : ℕ → Option Group) (name : Name) (has : Result) (m : Offer) →
+    nth unknown s.operands 0 ≡ object →
     Only gs there → offered_at c (tos.State 0) name ≡ Some m →
     ((to : ℕ) (after : Sight) → Way p held (Call name 0 has) at (sight s gs 1) to after → NoneOpen held after) →
     Holds p held at (Call name 0 has) (sight s gs 1)
@@ -277,7 +287,8 @@ holds d in_taker at f i (t6' gs none) e =
     subst (λ j. Holds p 0 6 j f) (some_is e) (going_back 0 6 f 0 (λ g x l over. none_some (sym (none g) ∙ l)))
 holds d in_getter at f i (g0 gs none) e =
     subst (λ j. Holds p 0 0 j f) (some_is e)
-    (quiet 0 0 f (Move 0 (Just Null ∷ [])) gives_null (λ to after w. (getter_next 0 to f after (Move 0 (Just Null ∷ [])) (g0 gs none) refl w).kept))
+    (quiet 0 0 f (Move 0 (Just Null ∷ [])) gives_null (λ to after w. (getter_next 0 to f after (Move 0 (Just Null ∷ []))
+    (g0 gs none) refl w).kept))
 holds d in_getter at f i (g1 gs none) e =
     subst (λ j. Holds p 0 1 j f) (some_is e) (going_back 0 1 f 1 (λ g x l over. none_some (sym (none g) ∙ l)))
 holds d (in_helper hs u) at f i (h0 gs o) e =
@@ -301,7 +312,8 @@ holds d (in_helper hs u) at f i (h5 gs o) e =
     subst (λ j. Holds p 1 5 j f) (some_is e) (going_back 1 5 f 0 (λ g x l over. all_done gs ended o refl g x l))
 
 -- receivers of calls are objects
-pub on_it : (v w : Invocation) (s : Shape Known) → v ≡ w → nth unknown s.operands v.words ≡ object → Receives false w (nth unknown s.operands w.words)
+pub on_it : (v w : Invocation) (s : Shape Known) → v ≡ w → nth unknown s.operands v.words ≡ object →
+    Receives false w (nth unknown s.operands w.words)
 on_it v w s e top =
     subst (λ (z : Invocation). Receives false z (nth unknown s.operands z.words)) e
     (subst (Receives false v) (sym top) (record { not_null = λ q. absurd (cc); known = refl }))

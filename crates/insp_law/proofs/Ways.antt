@@ -6,10 +6,12 @@ use Rattle.mg_text.specs.Call.{Name}
 use Rattle.ts_tree.specs.declared.parts.To.{To}
 use Rattle.ts_tree.specs.declared.parts.Branch.{Branch}
 use Rattle.ts_tree.specs.Typestate.{One, ByAnswer, Method as Offer}
-use Rattle.insp_rules.specs.Program.{Class, Comparison, Result, Invocation, Instruction, IfNull, IfSign, Make, Call, CallIn, CallOut, Return, Program}
+use Rattle.insp_rules.specs.Program.{Class, Comparison, Result, Invocation, Instruction, IfNull, IfSign, Make, Call, CallIn, CallOut}
+use Rattle.insp_rules.specs.Program.{Return, Program}
 use Rattle.insp_rules.specs.Program.{taken, class_of, agree, is_zero_by, truth, Shape, nth, rest, popped, straight, way}
 use Rattle.insp_rules.specs.Skeleton.{Tells, fresh_of, offered_at}
-use Rattle.insp_rules.specs.Frames.{Known, unknown, Object, Element, At, Pending, Group, Sight, group, knowns, refined, forget_all, is_it, with_shape}
+use Rattle.insp_rules.specs.Frames.{Known, unknown, Object, Element, At, Pending, Group, Sight, group, knowns, refined, forget_all, is_it}
+use Rattle.insp_rules.specs.Frames.{with_shape}
 use Rattle.insp_rules.specs.Frames.{added, behind, asked, leaves, told, Way, MayBe, new_group, is_null, null_shows, shown, sign_asks}
 use Rattle.insp_rules.specs.Frames as frames
 use Rattle.insp_rules.proofs.Lists.{some_is, none_some}
@@ -30,14 +32,18 @@ module _ (p : Program) (held at : ℕ) (f : Sight) where
   moves_way i s e (frames.switch a0 a1 a2 q a4) = none_some (sym (ap (λ j. straight knowns j f.shape) q) ∙ e)
   moves_way i s e (frames.mapped a0 a1 a2 a3 a4 a5 a6 q a8 a9 a10) = none_some (sym (ap (λ j. straight knowns j f.shape) q) ∙ e)
   moves_way i s e (frames.makes a0 q) = none_some (sym (ap (λ j. straight knowns j f.shape) q) ∙ e)
-  moves_way i s e (frames.leads a0 a1 a2 a3 a4 a5 a6 a7 q a9 a10 a11 a12 a13 a14) = none_some (sym (ap (λ j. straight knowns j f.shape) q) ∙ e)
-  moves_way i s e (frames.leads_made a0 a1 a2 a3 a4 a5 a6 a7 a8 q a10 a11 a12 a13 a14 a15) = none_some (sym (ap (λ j. straight knowns j f.shape) q) ∙ e)
-  moves_way i s e (frames.answers a0 a1 a2 a3 a4 a5 a6 a7 q a9 a10 a11 a12 a13) = none_some (sym (ap (λ j. straight knowns j f.shape) q) ∙ e)
+  moves_way i s e (frames.leads a0 a1 a2 a3 a4 a5 a6 a7 q a9 a10 a11 a12 a13 a14) =
+      none_some (sym (ap (λ j. straight knowns j f.shape) q) ∙ e)
+  moves_way i s e (frames.leads_made a0 a1 a2 a3 a4 a5 a6 a7 a8 q a10 a11 a12 a13 a14 a15) =
+      none_some (sym (ap (λ j. straight knowns j f.shape) q) ∙ e)
+  moves_way i s e (frames.answers a0 a1 a2 a3 a4 a5 a6 a7 q a9 a10 a11 a12 a13) =
+      none_some (sym (ap (λ j. straight knowns j f.shape) q) ∙ e)
   moves_way i s e (frames.outside a0 q a2) = none_some (sym (ap (λ j. straight knowns j f.shape) q) ∙ e)
   moves_way i s e (frames.outside_made a0 a1 q a3) = none_some (sym (ap (λ j. straight knowns j f.shape) q) ∙ e)
   moves_way i s e (frames.keeps a0 q) = none_some (sym (ap (λ j. straight knowns j f.shape) q) ∙ e)
 
-  pub makes_way : (c : Class) {to : ℕ} {g : Sight} → Way p held (Make c) at f to g → (to ≡ suc at) × (g ≡ added (new_group false c) f.shape f)
+  pub makes_way : (c : Class) {to : ℕ} {g : Sight} → Way p held (Make c) at f to g →
+      (to ≡ suc at) × (g ≡ added (new_group false c) f.shape f)
   makes_way c (frames.makes d q) =
       let i : d ≡ c = cc in
       (refl, ap (λ d. added (new_group false d) f.shape f) i)
@@ -209,7 +215,8 @@ module _ (p : Program) (held at : ℕ) (f : Sight) where
   is_place e from to (frames.at {to = t}) q = cc
   is_place e from to (frames.by {branches = bs} label l) q = absurd (cc)
 
-  module _ (name : Name) (k : ℕ) (has : Result) (g : ℕ) (x : Group) (from : To) (m : Offer) (receiver : nth unknown f.shape.operands k ≡ Object g)
+  module _ (name : Name) (k : ℕ) (has : Result) (g : ℕ) (x : Group) (from : To) (m : Offer)
+      (receiver : nth unknown f.shape.operands k ≡ Object g)
       (live : f.groups g ≡ Some x) (stands : x.element ≡ At from) (offers : offered_at x.of from name ≡ Some m) where
     -- what the parts of a way are
     record Same (name' : Name) (k' : ℕ) (has' : Result) (g' : ℕ) (x' : Group) (m' : Offer) : Type 0 where
@@ -220,7 +227,8 @@ module _ (p : Program) (held at : ℕ) (f : Sight) where
       m_is : m' ≡ m
 
     same : (name' : Name) (k' : ℕ) (has' : Result) (g' : ℕ) (x' : Group) (from' : To) (m' : Offer) → Call name k has ≡ Call name' k' has' →
-        nth unknown f.shape.operands k' ≡ Object g' → f.groups g' ≡ Some x' → MayBe x'.element from' → offered_at x'.of from' name' ≡ Some m' →
+        nth unknown f.shape.operands k' ≡ Object g' → f.groups g' ≡ Some x' → MayBe x'.element from' →
+        offered_at x'.of from' name' ≡ Some m' →
         Same name' k' has' g' x' m'
     same name' k' has' g' x' from' m' q u v w y =
         let k_is : k' ≡ k = cc in

@@ -139,7 +139,8 @@ pub record IsSafe (p : Program) (roots : List Context) (s : State) : Type 0 wher
       AllByRecursion (λ v. is_followed v ≡ false) (first k shape.operands)
   -- an object on which a method outside is called isn't handed on
   pub stays : (m at : ℕ) (shape : Shape Value) (fs : List Frame) (v : Invocation) → s.stack ≡ frame m at shape ∷ fs →
-      instruction_at p s.things m at shape ≡ Some (CallOut v) → v.has_receiver ≡ true → is_followed (nth Plain shape.operands v.words) ≡ true →
+      instruction_at p s.things m at shape ≡ Some (CallOut v) → v.has_receiver ≡ true →
+      is_followed (nth Plain shape.operands v.words) ≡ true →
       StaysHere v
   -- what is given back to a call from outside isn't followed, where the result is of no followed class; by a method that may be called
   -- otherwise it is handed out as new, where it is of one

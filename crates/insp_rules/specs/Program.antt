@@ -1,4 +1,5 @@
--- Code, as far as it moves, tests and calls followed objects.
+-- Code, as far as it moves, tests and calls followed objects. Behind each instruction stands which of a class file are written so; a long
+-- or a double is two words, of which nothing is known.
 use Rattle.std.specs.Prelude.{ℕ, zero, suc, Bool, true, false, not, List, [], ◌∷◌, Option, Some, None, slice_get, option_and_then, is_some}
 use Rattle.std.specs.Prelude.{if◌then◌else◌}
 use Rattle.std.specs.Prelude.{◌==◌, codes}
@@ -126,31 +127,33 @@ pub record Arm : Type 0 where
 
 -- an instruction; where it goes on is the next one, or a place that it names
 pub data Instruction : Type 0 where
-  -- takes so many operands, and gives these, the last one first
+  -- takes so many operands, and gives these, the last one first (`pop`, `dup` and those like it, `swap`, constants, arithmetic,
+  -- conversions, arrays, fields that are read, `new` of a class that isn't followed, `instanceof`, `monitorenter`, `monitorexit`)
   Move : ℕ → List Give → Instruction
-  -- a local is put on the operands; the last operand goes into a local; a local becomes something that isn't followed
+  -- a local is put on the operands; the last operand goes into a local; a local becomes something that isn't followed (`iinc`, and the
+  -- two of a long or a double behind a `Move` that takes its words)
   Load : ℕ → Instruction
   Store : ℕ → Instruction
   Forget : ℕ → Instruction
-  -- the last operand is taken to be of a followed class
+  -- the last operand is taken to be of a followed class (`checkcast` to one)
   Cast : Instruction
-  -- takes an array and a number, the last one, and gives what the array has there
+  -- takes an array and a number, the last one, and gives what the array has there (`iaload`)
   Index : Instruction
-  -- takes a constant, and gives its place in its class
+  -- takes a constant, and gives its place in its class (`ordinal()`)
   TakeOrdinal : Instruction
-  -- goes on at this place; either there or at the next one
+  -- goes on at this place (`goto`); either there or at the next one (tests of which nothing is followed)
   Go : ℕ → Instruction
   Either : ℕ → Instruction
-  -- takes an operand, and goes on there where it is null, or where it isn't
+  -- takes an operand, and goes on there where it is null, or where it isn't (`ifnull`, `ifnonnull`)
   IfNull : Bool → ℕ → Instruction
-  -- takes two, and goes on there where they are the same, or where they aren't
+  -- takes two, and goes on there where they are the same, or where they aren't (`if_acmpeq`, `if_acmpne`)
   IfSame : Bool → ℕ → Instruction
   -- takes a number, and goes on there where it compares so with 0; takes two, and goes on there where they compare so
   IfSign : Comparison → ℕ → Instruction
   IfNumbers : Comparison → ℕ → Instruction
   -- takes a number, and goes on at the arm that has it, or at this place
   Switch : List Arm → ℕ → Instruction
-  -- a new object of a class
+  -- a new object of a class that is followed (`new`; its `<init>` is a call)
   Make : Class → Instruction
   -- a method of a protocol, with so many arguments, and its result
   Call : Name → ℕ → Result → Instruction
@@ -160,10 +163,12 @@ pub data Instruction : Type 0 where
   CallIn : ℕ → ℕ → ℕ → Instruction
   -- a method outside; its result is null or an object that nobody else has where it is of a followed class, and isn't followed else
   CallOut : Invocation → Instruction
-  -- keeps so many operands somewhere else: in fields, arrays, or behind a method outside
+  -- keeps so many operands somewhere else (what `putfield`, `putstatic` and `aastore` store, and what `invokedynamic` takes; what they take
+  -- besides goes by a `Move`)
   Keep : ℕ → Instruction
   -- with so many words of a result
   Return : ℕ → Instruction
+  -- throws the last operand (`athrow`); only handlers are behind it
   Throw : Instruction
 
 -- what code is made of: instructions, and calls, of which the receiver decides what they do
