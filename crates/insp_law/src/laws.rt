@@ -4,7 +4,8 @@ ghost use Rattle.insp_law.specs.Laws.{Example, RightIsPath, RunsAreSafe};
 
 /// Where no demand fails in a reached frame, then in every run the calls of each object are a path of its typestate up
 /// to the first throw that came upon it and from `thrown` behind that, calls of protocols are on objects, no object is
-/// handed out, and one that no frame has behind a step may be left.
+/// handed out or thrown, what is given back outside is new or isn't followed, and an object that no frame has behind a
+/// step may be left.
 pub fn runs_are_safe()
     ensures { RunsAreSafe }
 {}
