@@ -1,0 +1,11 @@
+pub mod Answer
+pub mod Front
+pub mod Letters
+pub mod Pool
+pub mod Constants
+pub mod Instructions
+pub mod Jumps
+pub mod Attributes
+pub mod Codes
+pub mod Members
+pub mod Class
