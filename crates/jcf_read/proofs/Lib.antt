@@ -1,3 +1,4 @@
 mod Folds
 mod Lists
 mod Loops
+mod Units

@@ -1,6 +1,6 @@
 use Rattle.std.proofs.Common.{◌≡◌, ◌++◌, ◌≤◌, replicate}
 use Rattle.std.specs.Prelude.{false}
-use Rattle.jcf_read.proofs.instructions.put_unmarked.Given as goal
+use Rattle.jcf_code.proofs.marks.put_unmarked.Given as goal
 
 abbrev pub invariant-loop : goal.invariant-loop
 invariant-loop l = record {
