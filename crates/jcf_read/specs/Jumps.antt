@@ -11,6 +11,7 @@ use Rattle.jcf_code.specs.declared.fault.CodeFault.TheVariants as faults
 use Rattle.jcf_code.specs.Bytes.{number}
 use Rattle.jcf_code.specs.Layout.{pad, table_length, laid}
 use Rattle.jcf_code.specs.Marks.{marks_from}
+use Rattle.jcf_code.specs.Instructions.{count_or_none}
 use Rattle.jcf_read.specs.declared.fault.FaultKind.{FaultKind}
 use Rattle.jcf_read.specs.declared.fault.FaultKind.TheVariants as kinds
 use Rattle.jcf_read.specs.declared.fault.Fault.{Fault}
@@ -33,10 +34,6 @@ unfoldable pub are_straying : List Bool → ℕ → ℕ → ℕ → ℕ → List
 are_straying marks len place step zero bytes = false
 are_straying marks len place step (suc n) bytes =
     strays marks len place (number 4 bytes) 2147483648 || are_straying marks len place step n (drop step bytes)
-
-abbrev pub count_or_none : Option ℕ → ℕ
-count_or_none None = 0
-count_or_none (Some count) = count
 
 unfoldable pub table_strays : List Bool → ℕ → ℕ → List ℕ → Bool
 table_strays marks len place rest =
