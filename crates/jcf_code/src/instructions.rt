@@ -1,6 +1,8 @@
 //! The instructions of a code, one behind the other (JVMS chapter 6).
 
-ghost use Rattle.std.specs.Prelude.{◌≡◌, ◌≤◌, ◌<◌, ◌+◌, ◌^◌, length, IfOk, OnOk, map};
+ghost use Rattle.std.specs.Prelude.{◌≡◌, ◌<◌, ◌+◌, ◌^◌, IfOk, map};
+ghost use Rattle.std.specs.Int.{cast_signed};
+ghost use mir.Syntax.{w32};
 ghost use Rattle.jcf_code.specs.Instructions.{operand_of, instruction_of, landing, far_landing, table_cases, lookup_cases, count_or_none};
 ghost use Rattle.jcf_code.specs.Instructions.{table_operand, lookup_operand, operand_at, wide_operand, meant, instruction_at, instructions};
 
@@ -30,6 +32,16 @@ fn far_landing(place: usize, bytes: &[u8]) -> usize
     landing(place, u4_in(bytes), 0x8000_0000)
 }
 
+/// An int that a switch has, by its bits, and the place to which it leads.
+fn case_of(bits: u32, target: usize) -> Case
+    ensures { result ≡ record { number = cast_signed w32 bits; target = target } }
+{
+    Case {
+        number: bits.cast_signed(),
+        target,
+    }
+}
+
 /// So many ints from one on, whose distances stand in these bytes.
 fn table_cases(
     alloc: Global,
@@ -45,10 +57,7 @@ fn table_cases(
     let mut rest = bytes;
     let mut number = low;
     for _ in 0..count {
-        cases.push(Case {
-            number: number.cast_signed(),
-            target: far_landing(place, rest),
-        })?;
+        cases.push(case_of(number, far_landing(place, rest)))?;
         number = number.wrapping_add(1);
         rest = tail(rest, 4);
     }
@@ -63,10 +72,7 @@ fn lookup_cases(alloc: Global, place: usize, count: u32, bytes: &[u8]) -> Result
     let mut cases = List::new(alloc);
     let mut rest = bytes;
     for _ in 0..count {
-        cases.push(Case {
-            number: u4_in(rest).cast_signed(),
-            target: far_landing(place, tail(rest, 4)),
-        })?;
+        cases.push(case_of(u4_in(rest), far_landing(place, tail(rest, 4))))?;
         rest = tail(rest, 8);
     }
     Ok(cases)
