@@ -1,4 +1,3 @@
 mod Folds
 mod Lists
 mod Loops
-mod Units
