@@ -1,0 +1,4 @@
+mod Reads
+mod Named
+mod Consts
+mod Pools

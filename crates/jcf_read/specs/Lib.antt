@@ -1,0 +1,12 @@
+pub mod Answer
+pub mod Front
+pub mod Letters
+pub mod Pool
+pub mod Constants
+pub mod Jumps
+pub mod Attributes
+pub mod Annotations
+pub mod Codes
+pub mod Members
+pub mod Class
+pub mod inner
