@@ -324,11 +324,14 @@ def try_aloud(browser):
 
 # What of a section is about files of other kinds, and isn't told of this one's.
 OTHER_KINDS = [
-    ("UnknownClass", "Main.java", "class behind", "Class files that are read"),
+    ("UnknownClass", "Main.java", "or the class behind", "that a class file names"),
+    ("UnknownClass", "A.class", "that a class file names", "or the class behind"),
     ("TooLarge", "calls", "A file of calls has over", "A source has over"),
-    ("TooLarge", "P.protocol", "A typestate file has over", "A protocol has over"),
-    ("Syntax", "P.scr", "The tokens spell no file", "A parenthesis"),
-    ("Unsupported", "Main.java", "In a Java source", "In a Scribble file"),
+    ("TooLarge", "P.protocol", "A typestate has over", "A protocol has over"),
+    ("Syntax", "P.scr", "text of a protocol", "text of a source"),
+    ("Unsupported", "Main.java", "belongs to Java", "belongs to Scribble"),
+    ("DuplicateName", "P.protocol", "Two classes or enums", "lists a role twice"),
+    ("NotOffered", "Main.java", "in a state of the object", "### "),
 ]
 
 
