@@ -17,9 +17,9 @@ first_port() {
 }
 
 # Takes a part of the ports for this run and what it starts, by a lock that ends with them: `ports` is the first. Where all parts
-# are taken, or nothing locks, it is any.
+# are taken, or nothing locks, it is any. PORT_LOCKS names another folder of locks.
 claim_ports() {
-    local first part locks=/tmp/mungo.ports.$UID held
+    local first part locks=${PORT_LOCKS:-/tmp/mungo.ports.$UID} held
     first=$(first_port)
     if command -v flock >/dev/null && mkdir -p -m 700 "$locks" 2>/dev/null && [ -O "$locks" ]; then
         for part in 0 1 2 3 4; do
@@ -41,7 +41,7 @@ answers() { (exec 3<>"/dev/tcp/127.0.0.1/$1") 2>/dev/null; }
 # is none: HOW_MANY.
 port() {
     local tries at
-    for tries in {1..10000}; do
+    for tries in {1..500}; do
         at=$((ports + RANDOM % $1))
         if mkdir "$room/port.$at" 2>/dev/null && ! answers $at; then
             echo $at
