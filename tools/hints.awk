@@ -3,7 +3,7 @@
 # `tokenize` keeps the tokens of a file, without comments; `hint_of` gives the words, or "" where there is nothing to say.
 # tools/check runs it with variables: `answers` has methods that answer with labels, as `hasNext next`, and the variable
 # `file` of the shell the name of the file, which may have letters that awk would take for others.
-BEGIN { if (answers != "") print outside_switch(ENVIRON["file"], row, col, name, answers) }
+BEGIN { if (answers != "" && (told = outside_switch(ENVIRON["file"], row, col, name, answers)) != "") print told }
 
 # A name as one word of the shell.
 function quoted(name,    at, front) {

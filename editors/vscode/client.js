@@ -18,7 +18,8 @@ function cut(bytes) {
     }
 }
 
-// A server that runs. `told` gets the parameters of each notification, by its method; `ended` why the server is gone.
+// A server that runs. `told` gets the parameters of each notification, by its method; `ended` why the server is gone, and
+// whether it ran: a program that isn't there didn't.
 class Client {
     constructor(program, told, ended) {
         this.told = told;
@@ -40,7 +41,7 @@ class Client {
         this.gone = true;
         for (const answer of this.waiting.values()) answer(null);
         this.waiting.clear();
-        this.ended(why);
+        this.ended(why, this.process.pid !== undefined);
     }
 
     hear(bytes) {

@@ -1,5 +1,5 @@
 // Starts mungo-lsp for protocols and typestates, and for Java files in whose folder one of them stands; shows its diagnostics,
-// hover and inlay hints, and what else it offers. It stands on VS Code and node alone.
+// hover and inlay hints, and what else it offers; starts it again where it ends by itself. It stands on VS Code and node alone.
 "use strict";
 const fs = require("node:fs");
 const path = require("node:path");
@@ -9,6 +9,11 @@ const { Client } = require("./client.js");
 let client = null;
 let starting = null;
 let shown = null;
+let output = null;
+// A server that ends by itself is started again, at most so many times in so many milliseconds; and when it last was.
+const MOST_RESTARTS = 5;
+const WITHIN = 3 * 60 * 1000;
+let restarts = [];
 // What the server says that it can do.
 let offers = {};
 // The names of the documents that the server knows as open, as the server has them.
@@ -44,11 +49,22 @@ function told(method, params) {
     shown.set(vscode.Uri.parse(params.uri, true), params.diagnostics.map(diagnosticOf));
 }
 
-function ended(why) {
+function ended(why, ran) {
     client = starting = null;
     open.clear();
     shown.clear();
-    vscode.window.showWarningMessage(`mungo-lsp: ${why}. The setting mungo.server names the program.`);
+    const now = Date.now();
+    restarts = restarts.filter((time) => now - time < WITHIN);
+    if (ran && restarts.length < MOST_RESTARTS) {
+        restarts.push(now);
+        output.appendLine(`mungo-lsp: ${why}, and is started again.`);
+        start();
+        return;
+    }
+    const often = ran ? ` It was started again ${MOST_RESTARTS} times in three minutes, and now it isn't, until a file is opened.` : "";
+    const told = `mungo-lsp: ${why}.${often} The setting mungo.server names the program.`;
+    output.appendLine(told);
+    vscode.window.showWarningMessage(told);
 }
 
 // The documents are told when the server has answered; until then `client` is null, and `starting` is the server.
@@ -148,9 +164,12 @@ async function draw() {
 
 function activate(context) {
     shown = vscode.languages.createDiagnosticCollection("mungo");
+    output = vscode.window.createOutputChannel("mungo");
+    restarts = [];
     const selector = ["scribble", "typestate", "java"].map((language) => ({ language }));
     context.subscriptions.push(
         shown,
+        output,
         vscode.workspace.onDidOpenTextDocument((document) => (client ? opened(document) : isOurs(document) && start())),
         vscode.workspace.onDidChangeTextDocument(changed),
         vscode.workspace.onDidSaveTextDocument(saved),
@@ -166,7 +185,7 @@ function activate(context) {
 }
 
 function deactivate() {
-    const last = client;
+    const last = starting;
     client = starting = null;
     return last ? last.stop() : undefined;
 }

@@ -16,7 +16,7 @@ class SymbolInformation { constructor(name, kind, within, location) { Object.ass
 class CompletionItem { constructor(label, kind) { Object.assign(this, { label, kind }); } }
 class InlayHint { constructor(position, label) { Object.assign(this, { position, label }); } }
 
-const shown = new Map(), heard = {}, providers = {}, warnings = [], pages = [];
+const shown = new Map(), heard = {}, providers = {}, warnings = [], pages = [], output = [];
 const provider = (name) => (_, it) => { providers[name] = it; return { dispose() {} }; };
 const on = (name) => (call) => { heard[name] = call; return { dispose() {} }; };
 let server = process.env.MUNGO_LSP;
@@ -25,7 +25,10 @@ const vscode = {
     Location, SymbolInformation, CompletionItem, CompletionItemKind: { Method: 1 }, ViewColumn: { Beside: -2 },
     commands: { registerCommand: (_, it) => { providers.draw = it; return { dispose() {} }; } },
     Uri: { parse: (text) => ({ toString: () => text }) },
-    window: { showWarningMessage: (text) => warnings.push(text), showTextDocument: (page) => pages.push(page.content) },
+    window: {
+        showWarningMessage: (text) => warnings.push(text), showTextDocument: (page) => pages.push(page.content),
+        createOutputChannel: () => ({ appendLine: (text) => output.push(text), dispose() {} }),
+    },
     languages: {
         createDiagnosticCollection: () =>
             ({ set: (uri, list) => shown.set(uri.toString(), list), clear: () => shown.clear(), dispose() {} }),
@@ -40,6 +43,12 @@ const vscode = {
         onDidOpenTextDocument: on("opened"), onDidChangeTextDocument: on("changed"),
         onDidSaveTextDocument: on("saved"), onDidCloseTextDocument: on("closed"),
     },
+};
+// Each server that the extension starts.
+const servers = [], child = require("node:child_process"), spawn = child.spawn;
+child.spawn = (...words) => {
+    servers.push(spawn(...words));
+    return servers.at(-1);
 };
 const load = Module._load;
 Module._load = (name, ...more) => (name === "vscode" ? vscode : load(name, ...more));
@@ -56,7 +65,7 @@ const saw = (name, value) => seen.push(`${name}: ${value}`);
 const faults = () => (shown.get(uri.toString()) ?? []).map((it) => `${it.range.start.line + 1} ${it.code}`).join(", ");
 
 async function wait(holds) {
-    const end = Date.now() + 20000;
+    const end = Date.now() + 120000;
     while (!holds() && Date.now() < end) await new Promise((go) => setTimeout(go, 20));
     return holds();
 }
@@ -67,6 +76,23 @@ function change(line, until, text) {
     lines.splice(line, until - line, ...(text === "" ? [] : [text.slice(0, -1)]));
     document.text = lines.join("\n");
     heard.changed({ document, contentChanges: [{ range: new Range(line, 0, until, 0), text }] });
+}
+
+// A server that is killed is started again, and told what is open; five times in three minutes, and then when a file is opened.
+async function kill(row) {
+    change(row, row + 1, "");
+    await wait(() => faults() !== "");
+    const told = faults();
+    for (let kills = 1; kills <= 6; kills++) {
+        servers.at(-1).kill("SIGKILL");
+        if (kills <= 5) await wait(() => servers.length === kills + 1 && faults() === told);
+        else await wait(() => warnings.length > 0);
+        if (kills === 1) saw("behind a kill", `${faults() === told} ${servers.length} ${output}`);
+    }
+    saw("behind six kills", `'${faults()}' ${servers.length} ${output.length} ${warnings}`);
+    heard.closed(document);
+    heard.opened(document);
+    saw("behind a file that is opened", `${await wait(() => faults() === told)} ${servers.length}`);
 }
 
 async function drive() {
@@ -98,11 +124,16 @@ async function drive() {
     saw("hover in a protocol", over ? over.contents.value.split("\n")[0] : "none");
     await providers.draw();
     saw("diagram", pages.length ? pages[0].split("\n").slice(0, 2).join(" ") : "none");
+    await kill(row);
     heard.closed(document);
+    const started = servers.length, last = servers.at(-1);
     await extension.deactivate();
+    saw("stopped", `${await wait(() => last.exitCode !== null || last.signalCode !== null)} ${servers.length - started}`);
     server = "/nowhere/mungo-lsp";
+    output.length = warnings.length = 0;
     await extension.activate({ subscriptions: [] });
-    saw("no server", (await wait(() => warnings.length === 1)) ? "told" : `told ${warnings.length} times`);
+    await wait(() => warnings.length > 0);
+    saw("no server", `${warnings.length} ${output.length} ${servers.length - started}`);
 }
 
 drive().catch((fault) => saw("fault", String(fault))).finally(() => fs.writeFileSync(process.env.SAW, `${seen.join("\n")}\n`));

@@ -12,7 +12,7 @@ from counting import count, same
 from programs import TOP, Folder, copied, lines_of, read
 from session import Session
 
-EDITORS, HERE, SECONDS = f"{TOP}/editors", f"{TOP}/tools/lsp", 120
+EDITORS, HERE, SECONDS = f"{TOP}/editors", f"{TOP}/tools/lsp", 900
 HOVER = "c.send_byeToS State0 -> end"
 
 
@@ -113,7 +113,14 @@ def try_code(program):
     if seen is not None:
         try_seen("VS Code's client", seen)
         count("VS Code's client: hints", int(seen.get("hints", "0")) == 3, str(seen))
-        same("VS Code's client: a server that isn't there is told", seen.get("no server"), "told")
+        again = "mungo-lsp: it ended with SIGKILL, and is started again."
+        same("VS Code's client: a server that is killed is started again", seen.get("behind a kill"), f"true 2 {again}")
+        given_up = "mungo-lsp: it ended with SIGKILL. It was started again 5 times in three minutes, and now it isn't, until a file is opened."
+        given_up += " The setting mungo.server names the program."
+        same("VS Code's client: five times", seen.get("behind six kills"), f"'' 6 6 {given_up}")
+        same("VS Code's client: a file that is opened starts it", seen.get("behind a file that is opened"), "true 7")
+        same("VS Code's client: a server that is stopped isn't started again", seen.get("stopped"), "true 0")
+        same("VS Code's client: a server that isn't there is told, and isn't started again", seen.get("no server"), "1 1 1")
         try_offered(program, "VS Code's client", seen)
 
 

@@ -28,14 +28,14 @@ function markdown(text) {
     return parts.map(part => part.startsWith('```') ? block(part) : paragraphs(part)).join('');
 }
 
-// The section of a fault in a file: its head, and those of its parts that are about files of that kind, or else about types.
+// What is told of a fault in a file: of several parts those that are about files of that kind, or else about sources.
 function explanation(section, file) {
     const kinds = [
-        [/\.scr$/, /Scribble/], [/\.protocol$/, /typestate/], [/\.java$/, /Java|Types/], [/\.class$/, /class file/],
-        [/(^|\/)[^.]*$/, /calls/],
+        [/\.scr$/, 'Protocols'], [/\.protocol$/, 'Typestates'], [/\.java$/, 'Java sources'], [/\.class$/, 'Class files'],
+        [/(^|\/)[^.]*$/, 'Files and words'],
     ];
     const [head, ...parts] = `\n${section}`.split(/^(?=### )/m), mine = file && kinds.find(([ending]) => ending.test(file));
-    const of = form => parts.filter(part => form.test(part.split('\n')[0]));
-    const fitting = mine ? [of(mine[1]), of(/Types/), []].find(list => list.length) ?? [] : parts;
+    const of = kind => parts.filter(part => part.split('\n')[0] === `### ${kind}`);
+    const fitting = mine ? [of(mine[1]), of('Java sources'), []].find(list => list.length) ?? [] : parts;
     return markdown([head, ...fitting].join('\n'));
 }

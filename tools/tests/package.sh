@@ -99,6 +99,9 @@ if command -v dpkg-deb >/dev/null && [ -x release/mungo ] && [ -x release/mungo-
         diff <("$bin/mungo" --explain LeftOpen) <(./mungo --explain LeftOpen)
     count "package: what ./mungo answers itself" $?
     gives "package: run" 0 "$bin/mungo" run --main Hello examples/hello/Hello.java < <(release/mungo run --main Hello examples/hello/Hello.java 2>&1)
+    if [ -f "$room/near/terminal.py" ] && command -v python3 >/dev/null; then
+        gives "package: the nearest command" 2 python3 "$room/near/terminal.py" "$bin/mungo" chek < <(echo "mungo: words chek"; said_of check)
+    fi
     env -u MUNGO "$bin/mungo-check" examples/file/*.* examples/file/refused/Forgetful.java >"$room/got" 2>&1
     [ $? -eq 1 ] && grep -q 'Close of FileProtocol offers: close()' "$room/got"
     count "package: mungo-check" $?
