@@ -1,8 +1,6 @@
 -- Each course is a run, and each order of turns that names every role has one.
-use Rattle.std.proofs.Common.{◌≡◌, ◌<◌, ◌≤◌, ℕ, List, [], ◌∷◌, length, map, Contains, refl, subst, arith}
-use Rattle.std.specs.List.{AllByRecursion, IsDistinct}
-use Rattle.std.specs.Str.{bytes_eq}
-use Rattle.jv_core.specs.Tree as Core
+use Rattle.std.proofs.Common.{◌≡◌, ◌<◌, ℕ, List, [], ◌∷◌, length, map, Contains, refl, subst, arith}
+use Rattle.std.specs.List.{AllByRecursion}
 use Rattle.vm_model.specs.Program.{Program}
 use Rattle.vm_model.specs.Messages.{no_messages}
 use Rattle.vm_model.specs.Start.{started}
@@ -12,12 +10,7 @@ use Rattle.vm_world_law.specs.World.{Runs, Role, World, StartAt, turns, IsBegun}
 use Rattle.vm_world_law.specs.Turns.{RunsStop, all_counts}
 use Rattle.vm_world_law.proofs.Once.{begun_many}
 use Rattle.gen_rules.specs.Linked.{linked_program}
-use Rattle.mg_sources.specs.Files.{Source}
-use Rattle.mg_accepted.specs.Accepted.{AreAccepted}
-use Rattle.mg_compile.specs.declared.files.ClassFile.{ClassFile}
-use Rattle.mg_compile.specs.Files.{AreClassFiles}
-use Rattle.mg_runs.specs.Runs.{HaveMains, IsLoaded}
-use Rattle.mg_runs.specs.Headline.{Course, IsCourse}
+use Rattle.mg_runs.specs.Runs.{IsLoaded}
 use Rattle.mg_runs.specs.Laws.{WrittenClassesLink, RunsAreMeant, RolesAreMeant, RolesKeep, RolesPlay, RolesFit, AllProtocolsAgree}
 use Rattle.mg_runs.specs.Laws.{CoursesAreRuns, EachOrderHasACourse}
 use Rattle.mg_runs.proofs.Playing.{from_there}
@@ -57,7 +50,7 @@ ready p (main ∷ mains) h =
         (machine, record { class = (h.0).class; method = (h.0).method; main = (h.0).is; machine = refl }, refl),
         more.start,
       );
-      none = more.none;
+      none = let none = more.none in omega arith;
     }
 
 pub course_law : WrittenClassesLink → RunsAreMeant → RunsStop → EachOrderHasACourse
