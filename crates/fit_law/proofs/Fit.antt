@@ -2,6 +2,8 @@
 use Rattle.std.proofs.Common.{◌≡◌, ◌≢◌, ◌⊎◌, inl, inr, ⊎_elim, ℕ, suc, ◌+◌, ◌<◌, true, false, List, [], ◌∷◌, ◌++◌}
 use Rattle.std.proofs.Common.{map, length, Some, None, refl, sym, ap, ◌∙◌, subst, arith, append-nil}
 use Rattle.std.specs.Prelude.{◌==◌, slice_get, Contains}
+use Rattle.std.proofs.lemmas.List.Elements.{Contains-append_left}
+use Rattle.mg_text.specs.declared.event.Event.TheVariants as seen
 use Rattle.std.specs.List.{IsDistinct}
 use Rattle.std.specs.Str.{bytes_eq}
 use Rattle.std.proofs.lemmas.Bool.Decides.{eqb_tells}
@@ -64,12 +66,13 @@ use Rattle.scr_faithful.specs.Heard.{NoneIsForgotten, CanDoMore}
 use Rattle.scr_faithful.proofs.Heard.{each_has_done_a_part}
 use Rattle.fit_law.specs.Conversed.{TurnsGoOnInConversation, passed, parcel_of, RestIsConversation, TurnsAreInConversation}
 use Rattle.fit_law.specs.Conversed.{IsConfiguration, IsFinished, TurnsAreConfigurations, RestIsFinished, IsPartOfConversation, IsPartOfGoing}
-use Rattle.fit_law.specs.Fit.{IsHad, KeepsTo, IsCast, AreMeant, IsWell, IsOfOne, IsComplete, NoneGetsStuck}
+use Rattle.fit_law.specs.Fit.{IsHad, KeepsTo, IsCast, AreMeant, IsWell, IsOfOne, ActsByOne, IsComplete, NoneGetsStuck}
+use Rattle.fit_law.specs.Fit.{TurnsAreOfOne}
 use Rattle.fit_law.proofs.Deeds.{deeds-append, Walked, walked, but_look}
 use Rattle.fit_law.proofs.Worlds.{Stands, Good, fresh_is_good, turns_good}
 use Rattle.fit_law.proofs.Objects.{label_known, runs_so, exactly_so, Ahead, ahead, refusal, refused_ahead, completes, at_end}
 use Rattle.fit_law.proofs.Moves.{moved_step, moved_finds, alike_waits, alike_take, alike_look, map_nothing, heads, labels_are, taken_long}
-use Rattle.fit_law.proofs.Wanted.{nothing_first, take_act, look_act, act_wants, peer_same, found_taken, found_looked, wait_is, cut_other}
+use Rattle.fit_law.proofs.Wanted.{no_acts, nothing_first, take_act, look_act, act_wants, peer_same, found_taken, found_looked, wait_is, cut_other}
 use Rattle.fit_law.proofs.Wanted.{not_busy, of_one}
 use Rattle.fit_law.proofs.Moves.{got_behind, Emptied, step_waits, Chosen, choose, main_at, name_at}
 
@@ -205,6 +208,31 @@ module _ (j : Sources) (typestates : List Typestate) (roles : List Name) (g : Gl
           go (by_one o made alone acting ends) =
               let x = runs_so j typestates L valid had P says main.class inputs (suc role.count) keeps o made es shown.later shown.is in
               (x.0, as_named (subst (λ ds. Walked false (first_of L) ds x.0) (sym (acting es shown.later shown.is)) x.1))
+
+      -- one object has done all so far
+      acts_so_far : ActsByOne roles es
+      acts_so_far = go done_so
+        where
+          made_then : (other : ℕ) (class : Name) → IsMade es other class → IsMade run.events other class
+          made_then other class made =
+              subst (λ x. Contains x (seen.Made other class)) (sym shown.is) (Contains-append_left es shown.later (seen.Made other class) made)
+
+          go : IsDoneByOne j (roles ++ cast.idle) L.me (protocol_of L) inputs run → ActsByOne roles es
+          go (not_yet nobody none busy) =
+              let nothing : deeds es ≡ [] = nothing_first (deeds es) (deeds shown.later)
+              (sym (deeds-append es shown.later) ∙ ap deeds (sym shown.is) ∙ none) in
+              record {
+                object = 0;
+                only = λ you other has made.
+                    absurd (nobody you other (Contains-append_left roles cast.idle you has) (made_then other (role_class you) made));
+                acting = nothing ∙ sym (no_acts 0 false es nothing);
+              }
+          go (by_one o made alone acting ends) = record {
+            object = o;
+            only = λ you other has made_so.
+                alone you other (Contains-append_left roles cast.idle you has) (made_then other (role_class you) made_so);
+            acting = acting es shown.later shown.is;
+          }
 
     -- the walk of each role of a number
     anywhere : (i : ℕ) → i < length names → (end : Position) × Walk i end
@@ -776,6 +804,10 @@ none_gets_stuck j typestates roles g locals mains cast p first begun meant taken
 pub turns_are_configurations : TurnsAreConfigurations
 turns_are_configurations j typestates roles g locals mains cast p first begun meant taken =
     is_configuration j typestates roles g locals mains cast p first begun meant taken
+
+pub turns_are_of_one : TurnsAreOfOne
+turns_are_of_one j typestates roles g locals mains cast p first begun meant taken r main at =
+    acts_so_far j typestates roles g locals mains cast p first begun meant taken r main at
 
 pub rest_is_finished : RestIsFinished
 rest_is_finished j typestates roles g locals mains cast p first begun meant taken rests no_zero =

@@ -25,9 +25,9 @@ use Rattle.vm_world_law.specs.World.{State, Runs, Over, Role, World, Rests}
 use Rattle.vm_world_law.proofs.Turns.{rest_is_no_bound}
 use Rattle.fit_law.specs.Fit.{IsCast}
 use Rattle.fit_law.proofs.Fit.{none_gets_stuck, rest_is_finished, rest_is_conversation, turns_are_configurations, turns_are_in_conversation}
-use Rattle.fit_law.proofs.Fit.{turns_go_on_in_conversation}
+use Rattle.fit_law.proofs.Fit.{turns_go_on_in_conversation, turns_are_of_one}
 use Rattle.fit_law.specs.Play.{PlayIn, AllKeep, HasEndedWell, NoneGetsStuckIn, ZeroIn, RunsEndWell, TurnsAreReached, TurnsConverse}
-use Rattle.fit_law.specs.Play.{TurnsGoOn}
+use Rattle.fit_law.specs.Play.{TurnsGoOn, TurnsActByOne}
 
 some_is : {A : Type 0} {a b : A} → Some a ≡ Some b → a ≡ b
 some_is e = cc
@@ -141,3 +141,7 @@ pub turns_go_on : TurnsGoOn
 turns_go_on j typestates roles g locals mains play keeps heard p first begun meant taken =
     turns_go_on_in_conversation j typestates roles g locals mains (is_cast j typestates roles g locals mains play keeps) heard p first begun
     meant taken
+
+pub turns_act_by_one : TurnsActByOne
+turns_act_by_one j typestates roles g locals mains play keeps p first begun meant taken =
+    turns_are_of_one j typestates roles g locals mains (is_cast j typestates roles g locals mains play keeps) p first begun meant taken

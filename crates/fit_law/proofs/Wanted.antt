@@ -1,5 +1,7 @@
 -- What acts of a doing want, which of those that are alike finds what it wants, and how ends sort.
-use Rattle.std.proofs.Common.{◌≡◌, ◌⊎◌, inl, inr, ℕ, List, [], ◌∷◌, ◌++◌, Some, refl, sym, ap, ◌∙◌, subst, append-nil}
+use Rattle.std.proofs.Common.{◌≡◌, ◌⊎◌, inl, inr, ℕ, Bool, true, false, List, [], ◌∷◌, ◌++◌, Some, refl, sym, ap, ap₂, ◌∙◌, subst}
+use Rattle.std.proofs.Common.{append-nil}
+use Rattle.std.specs.Prelude.{if◌then◌else◌}
 use Rattle.std.proofs.lemmas.List.Elements.{Contains-append_left}
 use Rattle.mg_text.specs.Call.{Name}
 use Rattle.scr_tree.specs.declared.syntax.Payload.{Payload}
@@ -8,7 +10,9 @@ use Rattle.scr_tree.specs.Steps.{Act, Moves, Looks}
 use Rattle.scr_global.specs.Systems.{waits_for}
 use Rattle.fit_law.proofs.Inside.{peer_at}
 use Rattle.stm_api.specs.Doings.{Doing, Passes, Asks}
-use Rattle.stm_acts.specs.Ends.{peer_in, Wants, IsOther, IsCut, IsBusy, IsDoneByOne, not_yet, by_one}
+use Rattle.mg_text.specs.declared.event.Event.{Event}
+use Rattle.stm_acts.specs.Acts.{Deed, deed_of, runs_behind, acts_while}
+use Rattle.stm_acts.specs.Ends.{peer_in, Wants, IsOther, IsCut, IsBusy, IsDoneByOne, not_yet, by_one, deeds}
 use Rattle.stm_acts.proofs.Standing.{Of}
 use Rattle.jv_meaning.specs.Program.{Sources}
 use Rattle.fit_law.specs.Fit.{IsOfOne}
@@ -102,3 +106,16 @@ of_one roles idle {run = run} (by_one o made alone acting ends) e = record {
   only = λ you other has made_so. alone you other (Contains-append_left roles idle you has) made_so;
   acting = acting run.events [] (sym (append-nil run.events));
 }
+
+unless_running : (b : Bool) (ds : List Deed) → ds ≡ [] → (if b then ds else []) ≡ []
+unless_running true ds h = h
+unless_running false ds h = refl
+
+-- where nothing was sent, looked at or taken no object has done anything
+pub no_acts : (o : ℕ) (running : Bool) (events : List Event) → deeds events ≡ [] → acts_while o running events ≡ []
+no_acts o running [] h = refl
+no_acts o running (event ∷ events) h =
+    let first : deed_of event ≡ [] = nothing_first (deed_of event) (deeds events) h in
+    let later : deeds events ≡ [] = subst (λ (ds : List Deed). ds ++ deeds events ≡ []) first h in
+    ap₂ (λ (a b : List Deed). a ++ b) (unless_running running (deed_of event) first)
+    (no_acts o (runs_behind o running event) events later)

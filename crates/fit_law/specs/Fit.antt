@@ -80,6 +80,17 @@ pub record IsOfOne (roles : List Name) (me : Name) (events : List Event) : Type 
   pub only : (you : Name) (other : ℕ) → Contains roles you → IsMade events other (role_class you) → other ≡ object
   pub acting : deeds events ≡ acts object events
 
+-- At a moment: one object has done all that the role has sent, looked at and taken so far, and each object of a class of these roles that it
+-- has made so far is that one.
+pub record ActsByOne (roles : List Name) (events : List Event) : Type 0 where
+  pub object : ℕ
+  pub only : (you : Name) (other : ℕ) → Contains roles you → IsMade events other (role_class you) → other ≡ object
+  pub acting : deeds events ≡ acts object events
+
+-- each of these roles does
+abbrev pub EachActsByOne : List Name → List RoleMain → World → Type 0
+EachActsByOne roles mains w = (r : ℕ) (main : RoleMain) → slice_get mains r ≡ Some main → ActsByOne roles (events_of r w.events)
+
 -- Every role has returned, no message is left, each role has acted by one object, and each object of a role's class is at the end of its
 -- protocol.
 pub record IsComplete (j : Sources) (roles : List Name) (locals : Name → LocalTree) (mains : List RoleMain) (w : World) : Type 0 where
@@ -100,3 +111,11 @@ NoneGetsStuck =
     × (Rests p (turns p first taken) →
     ((r : ℕ) (role : Role) → slice_get (turns p first taken).roles r ≡ Some role → role.state ≢ Over endings.Zero) →
     IsComplete j roles locals mains (turns p first taken))
+
+-- After every list of turns each role has acted by one object.
+abbrev pub TurnsAreOfOne : Type 0
+TurnsAreOfOne =
+    (j : Sources) (typestates : List Typestate) (roles : List Name) (g : Global) (locals : Name → LocalTree) (mains : List RoleMain)
+    → IsCast j typestates roles g locals mains →
+    (p : Program) (first : World) → IsBegun p mains first → ((taken : List ℕ) → AreMeant j mains p (turns p first taken)) →
+    (taken : List ℕ) → EachActsByOne roles mains (turns p first taken)

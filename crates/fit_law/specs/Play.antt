@@ -21,7 +21,7 @@ use Rattle.vm_world_law.specs.Turns.{IsRun, counted}
 use Rattle.vm_world_law.specs.World.{Over, Role, World, turns, IsBegun, Rests}
 use Rattle.stm_acts.specs.Calm.{OnlyMainsPlay, MainPlaysOne}
 use Rattle.fit_law.specs.Conversed.{IsConfiguration, IsFinished, IsConversation, IsPartOfConversation, IsPartOfGoing}
-use Rattle.fit_law.specs.Fit.{AreLocals, IsHad, KeepsTo, AreMeant, IsWell, IsComplete}
+use Rattle.fit_law.specs.Fit.{AreLocals, IsHad, KeepsTo, AreMeant, IsWell, IsComplete, EachActsByOne}
 
 -- The sources play a global protocol: each of its roles has what is generated of its projection, and the `main` of its class makes one
 -- object of the generated class.
@@ -114,3 +114,11 @@ TurnsAreReached =
     → PlayIn j typestates roles g locals mains → AllKeep j typestates mains →
     (p : Program) (first : World) → IsBegun p mains first → ((taken : List ℕ) → AreMeant j mains p (turns p first taken)) →
     (taken : List ℕ) → IsConfiguration roles locals mains (turns p first taken)
+
+-- At each moment each role has acted by one object.
+abbrev pub TurnsActByOne : Type 0
+TurnsActByOne =
+    (j : Sources) (typestates : List Typestate) (roles : List Name) (g : Global) (locals : Name → LocalTree) (mains : List RoleMain)
+    → PlayIn j typestates roles g locals mains → AllKeep j typestates mains →
+    (p : Program) (first : World) → IsBegun p mains first → ((taken : List ℕ) → AreMeant j mains p (turns p first taken)) →
+    (taken : List ℕ) → EachActsByOne roles mains (turns p first taken)

@@ -5,7 +5,7 @@
 ghost use Rattle.fit_law.specs.Conversed.{RestIsConversation, RestIsFinished, TurnsAreConfigurations, TurnsAreInConversation, TurnsGoOnInConversation};
 ghost use Rattle.fit_law.specs.Fit.{NoneGetsStuck};
 ghost use Rattle.fit_law.specs.Next.{NextIsAlike};
-ghost use Rattle.fit_law.specs.Play.{ApiIsHad, NoneGetsStuckIn, RunsEndWell, TurnsAreReached, TurnsConverse, TurnsGoOn};
+ghost use Rattle.fit_law.specs.Play.{ApiIsHad, NoneGetsStuckIn, RunsEndWell, TurnsAreReached, TurnsActByOne, TurnsConverse, TurnsGoOn};
 ghost use Rattle.fit_law.specs.Same.{SameAreLocals};
 
 /// At each moment the next acts of a role are alike: one message that is taken, sends, or looks at one choice of one peer.
@@ -67,7 +67,9 @@ pub fn api_is_had()
 /// At each moment what the roles have done, with the messages on their way, is a configuration that steps of their
 /// protocols reach from the start. Where each conversation can be brought to an end, what was sent and taken is part
 /// of a complete one, and each role can do the rest; where no role is forgotten, of one that needn't come to an end.
+/// One object has done all that a role has sent, looked at and taken.
 pub fn turns_converse()
+    ensures one { TurnsActByOne }
     ensures reached { TurnsAreReached }
     ensures end { TurnsConverse }
     ensures on { TurnsGoOn }

@@ -35,7 +35,7 @@ use Rattle.fit_law.specs.Fit.{AreLocals, IsHad}
 use Rattle.fit_law.proofs.Sameness.{same_are_locals}
 use Rattle.fit_law.specs.Play.{PlayIn, AllKeep}
 use Rattle.fit_law.proofs.Had.{api_is_had}
-use Rattle.fit_law.proofs.Play.{none_gets_stuck_in, runs_end_well, turns_are_reached, turns_converse}
+use Rattle.fit_law.proofs.Play.{none_gets_stuck_in, runs_end_well, turns_are_reached, turns_converse, turns_go_on, turns_act_by_one}
 use Rattle.fit_uses.specs.declared.usage.Use.{Use}
 use Rattle.fit_uses.specs.declared.usage.Use.TheVariants.{Talks, Makes}
 use Rattle.mg_sources.specs.Files.{Source}
@@ -268,6 +268,10 @@ roles_that_fit law kept files core accepted mains have program first begun meant
                 (own_local fits.parts fits.locals) mains play keep program first begun meant taken;
             part = λ can. turns_converse sources.files sources.typestates fits.tree.roles (said fits.tree.body)
                 (own_local fits.parts fits.locals) mains play keep can program first begun meant taken;
+            going = λ heard. turns_go_on sources.files sources.typestates fits.tree.roles (said fits.tree.body)
+                (own_local fits.parts fits.locals) mains play keep heard program first begun meant taken;
+            by_one = turns_act_by_one sources.files sources.typestates fits.tree.roles (said fits.tree.body)
+                (own_local fits.parts fits.locals) mains play keep program first begun meant taken;
           };
       runs = runs_end_well sources.files sources.typestates fits.tree.roles (said fits.tree.body)
           (own_local fits.parts fits.locals) mains play keep program first begun meant;

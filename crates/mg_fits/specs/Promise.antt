@@ -9,8 +9,9 @@ use Rattle.vm_model.specs.Program.{Program}
 use Rattle.vm_world_law.specs.declared.role.RoleMain.{RoleMain}
 use Rattle.vm_world_law.specs.Turns.{IsRun, counted}
 use Rattle.vm_world_law.specs.World.{Role, World, turns, Rests}
-use Rattle.fit_law.specs.Fit.{IsWell}
-use Rattle.fit_law.specs.Conversed.{IsConfiguration, IsPartOfConversation}
+use Rattle.scr_faithful.specs.Heard.{NoneIsForgotten}
+use Rattle.fit_law.specs.Fit.{IsWell, EachActsByOne}
+use Rattle.fit_law.specs.Conversed.{IsConfiguration, IsPartOfConversation, IsPartOfGoing}
 use Rattle.fit_law.specs.Play.{NoZero, ZeroIn, HasEndedWell}
 
 -- these sources, the roles of a global protocol with their local protocols, and the roles that run with their classes
@@ -25,6 +26,10 @@ module _ (j : Sources) (roles : List Name) (g : Global) (locals : Name → Local
     pub configuration : IsConfiguration roles locals mains w
     -- where each conversation can be brought to an end, what was said so far is part of a complete one, and each role can say the rest
     pub part : CanEnd g → IsPartOfConversation roles locals g mains w
+    -- where they can't, but no role is forgotten, it is part of one that needn't come to an end, and each role can do more
+    pub going : NoneIsForgotten roles g locals → IsPartOfGoing roles locals g mains w
+    -- one object has done all that a role has sent, looked at and taken
+    pub by_one : EachActsByOne roles mains w
 
   -- After every list of turns; and a run in an order of turns up to a limit ends well, or some role has ended by a zero divisor, or the
   -- limit is reached before the world rests.

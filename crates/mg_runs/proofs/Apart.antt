@@ -25,7 +25,7 @@ use Rattle.mg_compile.specs.Files.{AreClassFiles}
 use Rattle.mg_compile.proofs.Apart.{one_list, not_exceeded}
 use Rattle.mg_runs.specs.declared.ran.Ran.{Ran}
 use Rattle.mg_runs.specs.Runs.{IsLoaded, HaveMains, names_of, messages_in}
-use Rattle.mg_runs.specs.Headline.{Course, IsRun}
+use Rattle.mg_runs.specs.Headline.{Course, IsCourse}
 use Rattle.mg_runs.specs.View.{Shows, IsOfRun}
 use Rattle.mg_runs.specs.Commanded.{FirstRefusal}
 use Rattle.mg_runs.proofs.Sound.{one_spelled_list}
@@ -39,7 +39,7 @@ lacks_none core (x ∷ front) main rest h = lacks_none core front main rest h.1
 
 -- files that are refused aren't run
 pub not_refused : (files : List Source) (mains : List RoleMain) (order : List ℕ) (limit : ℕ) (run : Course) (r : Refusal) →
-    IsRun files mains order limit run → FirstRefusal files mains r → ⊥
+    IsCourse files mains order limit run → FirstRefusal files mains r → ⊥
 not_refused files mains order limit run r h = then_never (λ r first. accepted.not_refused files run.core r h.accepted first) (λ core a.
     let same : core ≡ run.core = one_core files core run.core a.have h.accepted.have in
     then_never
@@ -61,9 +61,9 @@ pub record SameRun (a b : Course) : Type 0 where
   pub program : a.program ≡ b.program
   pub last : a.last ≡ b.last
 
-pub one_of_run : (files : List Source) (mains : List RoleMain) (order : List ℕ) (limit : ℕ) (a b : Course) → IsRun files mains order limit a
+pub one_of_run : (files : List Source) (mains : List RoleMain) (order : List ℕ) (limit : ℕ) (a b : Course) → IsCourse files mains order limit a
     →
-    IsRun files mains order limit b → SameRun a b
+    IsCourse files mains order limit b → SameRun a b
 one_of_run files mains order limit a b h g =
     let core : a.core ≡ b.core = one_core files a.core b.core h.accepted.have g.accepted.have in
     let written : a.written ≡ b.written
@@ -83,7 +83,7 @@ one_of_run files mains order limit a b h g =
 
 -- what one run shows, every run of the same files shows
 shows_same : (files : List Source) (mains : List RoleMain) (order : List ℕ) (limit : ℕ) (named traced : Bool) (a b : Course) (ran : Ran) →
-    IsRun files mains order limit a → IsRun files mains order limit b → Shows mains named traced a ran → Shows mains named traced b ran
+    IsCourse files mains order limit a → IsCourse files mains order limit b → Shows mains named traced a ran → Shows mains named traced b ran
 shows_same files mains order limit named traced a b ran h g s =
     let same = one_of_run files mains order limit a b h g in
     record {
@@ -97,7 +97,7 @@ shows_same files mains order limit named traced a b ran h g s =
 
 module _ (files : List Source) (mains : List RoleMain) (order : List ℕ) (limit : ℕ) (named traced : Bool) (result : Result Ran Stop)
     (h : Answers (IsOfRun files mains order limit named traced) (FirstRefusal files mains) result) where
-  pub only_run : (run : Course) → IsRun files mains order limit run → AnswersOnly (Shows mains named traced run) result
+  pub only_run : (run : Course) → IsCourse files mains order limit run → AnswersOnly (Shows mains named traced run) result
   only_run run is =
       unless_refused (IsOfRun files mains order limit named traced) (FirstRefusal files mains) (Shows mains named traced run) result h
       (λ ran of. shows_same files mains order limit named traced of.run run ran of.is is of.shows)

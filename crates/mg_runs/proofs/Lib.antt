@@ -10,3 +10,4 @@ pub mod Apart
 pub mod Naming
 pub mod Alike
 pub mod Sending
+pub mod Courses

@@ -4,7 +4,6 @@ use Rattle.std.proofs.Common.{map, refl, ap, ◌∙◌}
 use Rattle.std.proofs.lemmas.Option.{get_or_from_slice_get}
 use Rattle.jv_core.specs.Tree as Core
 use Rattle.vm_world_law.specs.declared.role.RoleMain.{RoleMain}
-use Rattle.vm_world_law.specs.World.{turns}
 use Rattle.mg_text.specs.Call.{Name}
 use Rattle.mg_text.specs.Row.{Row}
 use Rattle.vm_model.specs.Program.{Program}
@@ -24,12 +23,9 @@ use Rattle.mg_runs.specs.declared.going.Gone.{Gone}
 use Rattle.mg_runs.specs.Going.{IsGone}
 use Rattle.mg_runs.specs.Runs.{HaveMains, IsLoaded, messages_in}
 use Rattle.mg_runs.specs.Commanded.{no_main, FirstRefusal}
-use Rattle.mg_runs.specs.Laws.{RolesAreMeant, RolesKeep, RolesPlay, RolesFit, AllProtocolsAgree}
 use Rattle.mg_runs.specs.View.{IsOfRun}
 use Rattle.mg_runs.specs.Mains.{IsWithout}
 use Rattle.mg_runs.specs.inner.Going.{IsRunOf, told}
-use Rattle.mg_runs.proofs.Playing.{from_there}
-use Rattle.mg_runs.proofs.Roles.{any_order}
 
 -- a list is what stands before one of its items, the item, and the rest
 parts_at : {A : Type 0} (xs : List A) (k : ℕ) (x : A) → slice_get xs k ≡ Some x → xs ≡ take k xs ++ x ∷ drop (suc k) xs
@@ -62,35 +58,15 @@ gone_shown core files mains order limit named traced program gone trace messages
 }
 
 module _ (files : List Source) (mains : List RoleMain) (order : List ℕ) (limit : ℕ) (named traced : Bool) where
-  -- the run of class files is that of their files
-  pub shown : RolesAreMeant → RolesKeep → RolesPlay → RolesFit → AllProtocolsAgree → (core : Core.Program) (written : List ClassFile) (ran : Ran) →
-      AreAccepted files core →
-      HaveMains core mains → AreClassFiles core written → IsRunOf core written mains order limit named traced ran →
+  -- the run of class files is a course of their files
+  pub shown : (core : Core.Program) (written : List ClassFile) (ran : Ran) → AreAccepted files core → HaveMains core mains →
+      AreClassFiles core written → IsRunOf core written mains order limit named traced ran →
       IsOfRun files mains order limit named traced ran
-  shown law keep play fit agree core written ran a have made r =
-      let meant = law files core written a.have made mains have r.program r.loaded in
-      let kept = keep files core a mains have in
-      record {
-        run = record { core = core; written = written; program = r.program; first = r.first; last = r.last };
-        is = record {
-          accepted = a;
-          have_mains = have;
-          class_files = made;
-          loaded = r.loaded;
-          begins = r.begins;
-          runs = r.runs;
-          meant = meant.1 r.first r.begins;
-          does = meant.0;
-          keep = λ taken. kept.1 r.program (turns r.program r.first taken) (meant.1 r.first r.begins taken);
-          meanings = kept.0;
-          parts = λ taken. play files core a mains have r.program (turns r.program r.first taken)
-              (from_there a.have.program mains r.program r.first (meant.1 r.first r.begins) taken);
-          fitting = fit files core a mains have r.program r.first r.begins (meant.1 r.first r.begins);
-          orders = any_order r.program mains r.first r.begins;
-          protocols = agree files;
-        };
-        shows = r.shows;
-      }
+  shown core written ran a have made r = record {
+    run = record { core = core; written = written; program = r.program; first = r.first; last = r.last };
+    is = record { accepted = a; have_mains = have; class_files = made; loaded = r.loaded; begins = r.begins; runs = r.runs };
+    shows = r.shows;
+  }
 
   abbrev Runs : Result Ran Stop → Type 0
   Runs answer = Answers (IsOfRun files mains order limit named traced) (FirstRefusal files mains) answer

@@ -116,8 +116,8 @@ abbrev pub ProtocolsAgree : List Source → Type 0
 ProtocolsAgree files = (source : Source) (local : LocalTree) → Contains files source → Reads source (Protocol local) →
     Agrees local.me (protocol_of local) (typestate_of local)
 
--- These files are an accepted program, and the run of these roles, in this order of turns, up to so many instructions, is this one.
-pub record IsRun (files : List Source) (mains : List RoleMain) (order : List ℕ) (limit : ℕ) (run : Course) : Type 0 where
+-- These files are an accepted program, which these roles run, in this order of turns, up to so many instructions: so each run goes.
+pub record IsCourse (files : List Source) (mains : List RoleMain) (order : List ℕ) (limit : ℕ) (run : Course) : Type 0 where
   -- the files are accepted
   pub accepted : AreAccepted files run.core
   pub have_mains : HaveMains run.core mains
@@ -128,20 +128,26 @@ pub record IsRun (files : List Source) (mains : List RoleMain) (order : List ℕ
   pub begins : IsBegun run.program mains run.first
   -- the turns are in this order, up to the first moment at which every role has ended or waits, or so many instructions were counted
   pub runs : turning.IsRun run.program run.first order limit run.last
-  -- after every list of turns each role did what is meant, on the messages that were sent to it
-  pub meant : (taken : List ℕ) → AreMeant accepted.have.program mains run.program (turns run.program run.first taken)
-  pub does : DoAsMeant accepted.have.program mains run.program
-  -- and keeps to the typestates: no null is dereferenced, the calls of each object are a path, and a role that returns leaves each at
-  -- its end or at a state marked drop
-  pub keep : (taken : List ℕ) → EachKeeps accepted.have.program mains (turns run.program run.first taken)
-  pub meanings : MeaningsKeep accepted.have.program mains
-  -- and its objects do their part: their acts are steps of the protocols that their classes are generated of
-  pub parts : (taken : List ℕ) → ObjectsDoTheirPart files accepted.have.program mains run.program (turns run.program run.first taken)
-  -- where the files and the roles fit a global protocol, whichever it is, no role gets stuck on another: after every list of turns each
-  -- goes on, has returned or has ended by a zero divisor; and where the turns come to rest without such an end, all have returned, each
-  -- message is taken, and what was said is a complete conversation of the global protocol
-  pub fitting : NoRoleIsStuckWhereFit files run.core accepted mains run.program run.first
-  -- turn orders don't matter: those that come to rest come to the same, and others show a part of it
-  pub orders : OrderIsFreeFrom run.program run.first
-  -- the typestates of the protocols allow exactly the protocols' traces
-  pub protocols : ProtocolsAgree files
+
+-- What holds of a course.
+pub record IsRun (files : List Source) (mains : List RoleMain) (order : List ℕ) (limit : ℕ) (run : Course)
+    (course : IsCourse files mains order limit run) : Type 0
+  where
+    -- after every list of turns each role did what is meant, on the messages that were sent to it
+    pub meant : (taken : List ℕ) → AreMeant course.accepted.have.program mains run.program (turns run.program run.first taken)
+    pub does : DoAsMeant course.accepted.have.program mains run.program
+    -- and keeps to the typestates: no null is dereferenced, the calls of each object are a path, and a role that returns leaves each at
+    -- its end or at a state marked drop
+    pub keep : (taken : List ℕ) → EachKeeps course.accepted.have.program mains (turns run.program run.first taken)
+    pub meanings : MeaningsKeep course.accepted.have.program mains
+    -- and its objects do their part: their acts are steps of the protocols that their classes are generated of
+    pub parts : (taken : List ℕ) →
+        ObjectsDoTheirPart files course.accepted.have.program mains run.program (turns run.program run.first taken)
+    -- where the files and the roles fit a global protocol, whichever it is, no role gets stuck on another: after every list of turns each
+    -- goes on, has returned or has ended by a zero divisor; and where the turns come to rest without such an end, all have returned, each
+    -- message is taken, and what was said is a complete conversation of the global protocol
+    pub fitting : NoRoleIsStuckWhereFit files run.core course.accepted mains run.program run.first
+    -- turn orders don't matter: those that come to rest come to the same, and others show a part of it
+    pub orders : OrderIsFreeFrom run.program run.first
+    -- the typestates of the protocols allow exactly the protocols' traces
+    pub protocols : ProtocolsAgree files

@@ -1,5 +1,7 @@
 -- Laws of the class files that are written of sources, whether the usages of their objects are right or not.
-use Rattle.std.specs.Prelude.{◌≢◌, ℕ, List, [], map, None}
+use Rattle.std.specs.Prelude.{◌≢◌, ℕ, ◌<◌, List, [], map, length, Contains, None}
+use Rattle.std.specs.List.{IsDistinct}
+use Rattle.std.specs.Str.{bytes_eq}
 use Rattle.mg_text.specs.Call.{Name}
 use Rattle.cls_tree.specs.Tree.{Class as File}
 use Rattle.jv_values.specs.Values.{Inputs}
@@ -25,7 +27,8 @@ use Rattle.mg_fits.specs.Laws.{NoRoleIsStuckWhereFit}
 use Rattle.mg_compile.specs.declared.files.ClassFile.{ClassFile}
 use Rattle.mg_compile.specs.Files.{AreClassFiles}
 use Rattle.mg_runs.specs.Runs.{AreSpelled, IsLoaded, HaveMains}
-use Rattle.mg_runs.specs.Headline.{AreMeant, DoAsMeant, EachKeeps, MeaningsKeep, ObjectsDoTheirPart, ProtocolsAgree}
+use Rattle.mg_runs.specs.Headline.{AreMeant, DoAsMeant, EachKeeps, MeaningsKeep, ObjectsDoTheirPart, ProtocolsAgree, Course, IsCourse}
+use Rattle.mg_runs.specs.Headline.{IsRun}
 
 -- The bytes of these class files are read back, and what is read links to the program that is expected of the core.
 abbrev pub WrittenClassesLink : Type 0
@@ -82,3 +85,16 @@ RolesFit = (files : List Source) (core : Core.Program) (accepted : AreAccepted f
 -- What is said of protocols holds of those of all files.
 abbrev pub AllProtocolsAgree : Type 0
 AllProtocolsAgree = (files : List Source) → ProtocolsAgree files
+
+-- All that is promised of a run holds of each course.
+abbrev pub CoursesAreRuns : Type 0
+CoursesAreRuns = (files : List Source) (mains : List RoleMain) (order : List ℕ) (limit : ℕ) (run : Course)
+    (course : IsCourse files mains order limit run) → IsRun files mains order limit run course
+
+-- Accepted files whose class files can be written, with roles of different names whose classes have a `main`, have a course in each order of
+-- turns that names every role, up to whatever limit.
+abbrev pub EachOrderHasACourse : Type 0
+EachOrderHasACourse = (files : List Source) (core : Core.Program) (written : List ClassFile) (mains : List RoleMain) →
+    AreAccepted files core → AreClassFiles core written → HaveMains core mains → IsDistinct bytes_eq (map (λ m. m.role) mains) →
+    (order : List ℕ) → ((r : ℕ) → r < length mains → Contains order r) → (limit : ℕ) →
+    (run : Course) × IsCourse files mains order limit run

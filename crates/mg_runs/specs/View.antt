@@ -6,7 +6,7 @@ use Rattle.vm_world_law.specs.Turns.{stands_in}
 use Rattle.mg_trace.specs.Trace.{trace, printed}
 use Rattle.mg_runs.specs.declared.ran.Ran.{Ran}
 use Rattle.mg_runs.specs.Runs.{names_of, messages_in}
-use Rattle.mg_runs.specs.Headline.{Course, IsRun}
+use Rattle.mg_runs.specs.Headline.{Course, IsCourse}
 
 -- The class files of a run, how many instructions each role took and how it stands, what was printed, each text behind the name of its role
 -- where that is asked for, the trace where it is asked for, and how many messages were sent.
@@ -18,9 +18,9 @@ pub record Shows (mains : List RoleMain) (named traced : Bool) (run : Course) (s
   pub trace_is : shown.trace ≡ (if traced then trace run.core (names_of mains) run.last.events else [])
   pub messages_are : shown.messages ≡ messages_in run.last.events
 
--- some run of these files is shown
+-- some course of these files is shown
 pub record IsOfRun (files : List Source) (mains : List RoleMain) (order : List ℕ) (limit : ℕ) (named traced : Bool) (shown : Ran) : Type 0
   where
     pub run : Course
-    pub is : IsRun files mains order limit run
+    pub is : IsCourse files mains order limit run
     pub shows : Shows mains named traced run shown

@@ -1,7 +1,7 @@
 //! What holds of the class files of sources, also of those whose usages aren't right.
 //! There is no running code here; each function carries a law.
 
-ghost use Rattle.mg_runs.specs.Laws.{AllProtocolsAgree, LoadedClassesAreTypable, RolesAreMeant, RolesFit, RolesKeep, RolesPlay, RunsAreMeant, WrittenClassesLink};
+ghost use Rattle.mg_runs.specs.Laws.{AllProtocolsAgree, CoursesAreRuns, EachOrderHasACourse, LoadedClassesAreTypable, RolesAreMeant, RolesFit, RolesKeep, RolesPlay, RunsAreMeant, WrittenClassesLink};
 
 use gen_held::written_cores_are_held;
 use gen_links::files_link;
@@ -10,7 +10,7 @@ use jv_names::{core_is_kept, types_are_enough};
 use jv_resolve_law::spelled_is_shaped;
 use mg_accepted_law::{accepted_keep_typestates, accepted_objects_play};
 use mg_fits::roles_that_fit;
-use vm_world_law::{begun_is_fresh, turns_deliver, worlds_are_meant};
+use vm_world_law::{begun_is_fresh, one_run, turns_deliver, worlds_are_meant};
 
 /// The bytes of the class files that are written of the core of some files are read back, and what
 /// is read links to the program that is expected of the core.
@@ -94,3 +94,25 @@ pub fn roles_fit()
 pub fn protocols_agree()
     ensures { AllProtocolsAgree }
 {}
+
+/// All that is promised of a run holds of each course of these files and roles, in whatever order
+/// they take turns and up to whatever limit.
+pub fn courses_are_runs()
+    ensures { CoursesAreRuns }
+{
+    roles_are_meant();
+    roles_keep();
+    roles_play();
+    roles_fit();
+    protocols_agree();
+}
+
+/// Accepted files whose class files can be written have a course in each order of turns that names
+/// every role.
+pub fn each_order_has_a_course()
+    ensures { EachOrderHasACourse }
+{
+    written_classes_link();
+    runs_are_meant();
+    one_run();
+}

@@ -12,8 +12,8 @@ mod sent;
 
 pub use going::{Gone, go};
 pub use laws::{
-    loaded_classes_are_typable, protocols_agree, roles_are_meant, roles_fit, roles_keep,
-    roles_play, runs_are_meant, written_classes_link,
+    courses_are_runs, each_order_has_a_course, loaded_classes_are_typable, protocols_agree,
+    roles_are_meant, roles_fit, roles_keep, roles_play, runs_are_meant, written_classes_link,
 };
 pub use mains::first_without;
 pub use ran::Ran;

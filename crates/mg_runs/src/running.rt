@@ -10,17 +10,14 @@ ghost use Rattle.mg_accepted.specs.Accepted.{AreAccepted};
 ghost use Rattle.mg_compile.specs.Files.{AreClassFiles};
 ghost use Rattle.mg_compile.specs.View.{IsOfFiles};
 ghost use Rattle.mg_runs.specs.Commanded.{no_main, FirstRefusal};
-ghost use Rattle.mg_runs.specs.Headline.{Course, IsRun};
+ghost use Rattle.mg_runs.specs.Headline.{Course, IsCourse};
 ghost use Rattle.mg_runs.specs.Going.{IsOrder};
 ghost use Rattle.mg_runs.specs.Runs.{HaveMains};
 ghost use Rattle.mg_runs.specs.View.{IsOfRun, Shows};
 ghost use Rattle.mg_runs.specs.inner.Going.{IsRunOf, told};
 
 use crate::going::{Gone, go};
-use crate::laws::{
-    loaded_classes_are_typable, protocols_agree, roles_are_meant, roles_fit, roles_keep,
-    roles_play, runs_are_meant,
-};
+use crate::laws::{loaded_classes_are_typable, runs_are_meant};
 use crate::loading::load_back;
 use crate::mains::first_without;
 use crate::ran::Ran;
@@ -65,7 +62,7 @@ pub fn run_roles(
     ensures answered { Answers (IsOfRun (sources names.now contents.now) mains.now order.now limit named traced)
         (FirstRefusal (sources names.now contents.now) mains.now) result }
     // Each run of these files is the one that is answered, unless memory runs out.
-    ensures only { (run : Course) → IsRun (sources names.now contents.now) mains.now order.now limit run →
+    ensures only { (run : Course) → IsCourse (sources names.now contents.now) mains.now order.now limit run →
         AnswersOnly (Shows mains.now named traced run) result }
     // Files that are refused aren't run.
     ensures refused { (r : Refusal) → FirstRefusal (sources names.now contents.now) mains.now r → OnOk result ⊥ }
@@ -114,11 +111,6 @@ fn ran_by(
     ensures { (files : Seq Source) → AreAccepted files core.now →
         Answers (IsOfRun files mains.now order.now limit named traced) (FirstRefusal files mains.now) result }
 {
-    roles_are_meant();
-    roles_keep();
-    roles_play();
-    roles_fit();
-    protocols_agree();
     if let Some(number) = first_without(core, mains) {
         let refusal = no_main(&mains[number].class)?;
         return Err(Stop::Refused(refusal));

@@ -31,7 +31,6 @@ use Rattle.mg_faults.specs.Faults.{AllRefusals}
 use Rattle.mg_shown.specs.Shown.{IsShown}
 use Rattle.mg_delivery.specs.Lines.{refusal_lines}
 use Rattle.mg_verified.specs.Verified.{AreVerified}
-use Rattle.mg_typed_law.specs.Laws.{RunsAreTypable}
 use Rattle.mg_top.specs.Commands.{IsRefused, judged_names, Yields, gives, refused}
 use Rattle.mg_refined.specs.Refined.{AreJudged}
 use Rattle.mg_read.specs.First.{Judged, with_earlier}
@@ -182,14 +181,14 @@ run_asked asked files mains order limit named outcome m o l n h =
     (subst (λ (z : List RoleMain). IsOfRun files z order limit named asked.traced outcome) m h)))
 
 -- the class files of a run, what it printed, its trace and the lines of its roles
-pub run_given : RunsAreTypable → (asked : Asked) (files : List Word) (contents : List (List ℕ)) (mains : List RoleMain)
+pub run_given : (asked : Asked) (files : List Word) (contents : List (List ℕ)) (mains : List RoleMain)
     (order : List ℕ) (limit : ℕ) (named : Bool) (outcome : Ran) (d : Delivery) → mains ≡ role_mains_of asked → order ≡ order_of asked →
     limit ≡ limit_of asked →
     named ≡ are_named asked → IsOfRun (sources files contents) mains order limit named asked.traced outcome →
     d.actions.items ≡ shown_so asked outcome.files.items outcome.printed outcome.trace (names_of mains)
     (map (λ r. r.instructions) outcome.roles.items) (map (λ r. r.stand) outcome.roles.items) →
     d.status ≡ status_of (map (λ r. r.stand) outcome.roles.items) → Gives (Run asked files) contents d.actions.items d.status
-run_given typable asked files contents mains order limit named outcome d m o l n given actions status =
+run_given asked files contents mains order limit named outcome d m o l n given actions status =
     let h : IsOfRun (sources files contents) (role_mains_of asked) (order_of asked) (limit_of asked) (are_named asked) asked.traced outcome =
     run_asked asked (sources files contents) mains order limit named outcome m o l n given in
     gives_so (Run asked files) contents (shown_by asked outcome) (status_of (map (λ r. r.stand) outcome.roles.items)) d
@@ -198,7 +197,7 @@ run_given typable asked files contents mains order limit named outcome d m o l n
     (subst (λ (z : Status). Gives (Run asked files) contents (shown_by asked outcome) z) (ap status_of (sym h.shows.stands))
     (subst (λ (z : List Action). Gives (Run asked files) contents z (status_of (stands_in h.run.program h.run.last)))
     (sym (shown_same asked h.run outcome h.shows))
-    (ran h.run h.is (typable (sources files contents) (role_mains_of asked) (order_of asked) (limit_of asked) h.run h.is))))
+    (ran h.run h.is)))
 
 -- ---- what all commands give
 

@@ -32,7 +32,8 @@ use Rattle.vm_world_law.specs.declared.stand.Stand.{Stand}
 use Rattle.vm_world_law.specs.Turns.{stands_in, is_bound, is_broken, is_zero, is_mismatch, is_waiting}
 use Rattle.mg_runs.proofs.Apart.{not_refused as not_halted, one_of_run}
 use Rattle.mg_top.proofs.Unbroken.{none_broken}
-use Rattle.mg_runs.specs.Headline.{Course, IsRun}
+use Rattle.mg_runs.specs.Headline.{Course, IsCourse}
+use Rattle.mg_runs.specs.Laws.{CoursesAreRuns}
 use Rattle.mg_exec.proofs.Apart.{not_refused as not_stopped, one_course}
 use Rattle.vm_world_law.specs.declared.role.RoleMain.{RoleMain}
 use Rattle.mg_top.specs.Translation.{Target, AreTranslated}
@@ -58,8 +59,8 @@ not_untranslated to files actions r t =
     then_never (λ r judged. no_both (none_refused_of_translated t.each) judged) (λ parts each r judged. no_both t.apart judged) r
 
 -- the roles of one run stand in one way
-one_stand : (files : List Source) (mains : List RoleMain) (order : List ℕ) (limit : ℕ) (r s : Course) → IsRun files mains order limit r →
-    IsRun files mains order limit s → stands_in r.program r.last ≡ stands_in s.program s.last
+one_stand : (files : List Source) (mains : List RoleMain) (order : List ℕ) (limit : ℕ) (r s : Course) → IsCourse files mains order limit r →
+    IsCourse files mains order limit s → stands_in r.program r.last ≡ stands_in s.program s.last
 one_stand files mains order limit r s h k =
     let same = one_of_run files mains order limit r s h k in
     λ i. stands_in (same.program i) (same.last i)
@@ -117,21 +118,21 @@ not_both {r = r} (conforms {protocol = protocol} {calls = calls} {bytes = bytes}
     (λ local' o' r h. listed_once (source_of 1 calls listed) list r l h) r h
 not_both {contents = contents} {r = r} (checked {files = files} core a report) (commands.check h) =
     not_unmet (sources files contents) core r a h
-not_both {contents = contents} {r = r} (compiled {files = files} written a typable) (commands.compile h) =
+not_both {contents = contents} {r = r} (compiled {files = files} written a) (commands.compile h) =
     not_exceeded (sources files contents) written r a h
-not_both {contents = contents} {r = r} (ran {asked = asked} {files = files} course is typable) (commands.run h) =
+not_both {contents = contents} {r = r} (ran {asked = asked} {files = files} course is) (commands.run h) =
     not_halted (sources files contents) (role_mains_of asked) (order_of asked) (limit_of asked) course r is h
-not_both {contents = contents} {r = r} (executed {asked = asked} {files = files} course is never) (commands.exec h) =
+not_both {contents = contents} {r = r} (executed {asked = asked} {files = files} course is) (commands.exec h) =
     not_stopped (sources files contents) (role_mains_of asked) (order_of asked) (limit_of asked) course r is h
 not_both {contents = contents} {r = r} (refined {files = files} a) (commands.refine h) =
     none_spelled (sources files contents) _ r a.spell h
 not_both {contents = contents} {r = r} (projected {files = files} written a) (commands.project h) =
     not_unprojected (sources files contents) written r a h
-not_both {r = r} (loaded {branches = n} {seed = seed} course is typable) (commands.load h) =
+not_both {r = r} (loaded {branches = n} {seed = seed} course is) (commands.load h) =
     not_halted (load_sources n seed) (role_mains_of load_asked) (order_of load_asked) (limit_of load_asked) course r is h
 not_both {contents = contents} {r = r} (verified {files = files} {line = line} a) (commands.verify h) =
     not_unverified (sources files contents) line r a h
-not_both {r = r} (fitted {roles = roles} {global = global} {files = files} {bytes = bytes} {contents = contents} a never) (commands.fit h) =
+not_both {r = r} (fitted {roles = roles} {global = global} {files = files} {bytes = bytes} {contents = contents} a) (commands.fit h) =
     not_unfit (source_of (length files) global bytes) (sources files contents) (cast_mains_of roles) a r h
 not_both {contents = contents} {r = r} (shown {files = files} core have is) (commands.show h) =
     no_refusal (sources files contents) have.program r have.are h
@@ -160,19 +161,19 @@ gives_status {contents = contents} (checked {files = files} core a r) (faulted {
 gives_status {contents = contents} (faulted {files = files} {rs = rs} h) (checked core a r) =
     absurd (none_where_accepted (sources files contents) core rs a h)
 gives_status (faulted h) (faulted k) = refl
-gives_status (compiled written h typable) (compiled written' h' typable') = refl
-gives_status {contents = contents} (ran {asked = asked} {files = files} r h typable) (ran s k typable') =
+gives_status (compiled written h) (compiled written' h') = refl
+gives_status {contents = contents} (ran {asked = asked} {files = files} r h) (ran s k) =
     ap status_of (one_stand (sources files contents) (role_mains_of asked) (order_of asked) (limit_of asked) r s h k)
-gives_status {contents = contents} (executed {asked = asked} {files = files} r h never) (executed s k never') =
+gives_status {contents = contents} (executed {asked = asked} {files = files} r h) (executed s k) =
     let same = one_course (sources files contents) (role_mains_of asked) (order_of asked) (limit_of asked) r s h k in
     ap status_of (λ i. stands_in (same.program i) (same.last i))
 gives_status {contents = contents} (refined {files = files} {text = x} {stands = s} h) (refined {text = y} {stands = t} k) =
     ap refined_status (one_telling (sources files contents) x y s t h k).1
 gives_status (projected written h) (projected written' h') = refl
-gives_status (loaded {branches = n} {seed = seed} r h typable) (loaded s k typable') =
+gives_status (loaded {branches = n} {seed = seed} r h) (loaded s k) =
     ap status_of (one_stand (load_sources n seed) (role_mains_of load_asked) (order_of load_asked) (limit_of load_asked) r s h k)
 gives_status (verified h) (verified k) = refl
-gives_status (fitted h never) (fitted k never') = refl
+gives_status (fitted h) (fitted k) = refl
 gives_status (shown core have is) (shown other have' is') = refl
 
 pub one_status : {command : Command} {contents : List (List ℕ)} {xa xb : List Action} {m n : Status} → Yields command contents xa m →
@@ -224,14 +225,14 @@ gives_proper (translated t) = done_proper
 gives_proper (conforms local list o l c) = answer_proper c
 gives_proper (checked core a r) = done_proper
 gives_proper (faulted h) = refused_proper
-gives_proper (compiled written h typable) = done_proper
-gives_proper (ran r h typable) = stands_proper (stands_in r.program r.last)
-gives_proper (executed r h never) = stands_proper (stands_in r.program r.last)
+gives_proper (compiled written h) = done_proper
+gives_proper (ran r h) = stands_proper (stands_in r.program r.last)
+gives_proper (executed r h) = stands_proper (stands_in r.program r.last)
 gives_proper (refined {stands = stands} h) = told_proper stands
 gives_proper (projected written h) = done_proper
-gives_proper (loaded r h typable) = stands_proper (stands_in r.program r.last)
+gives_proper (loaded r h) = stands_proper (stands_in r.program r.last)
 gives_proper (verified h) = done_proper
-gives_proper (fitted h never) = done_proper
+gives_proper (fitted h) = done_proper
 gives_proper (shown core have is) = done_proper
 
 pub proper : {command : Command} {contents : List (List ℕ)} {actions : List Action} {status : Status} →
@@ -278,14 +279,14 @@ gives_says (translated t) e = absurd cc
 gives_says (conforms local list o l c) e = answer_says c e
 gives_says (checked core a r) e = absurd cc
 gives_says (faulted {files = files} {rs = rs} h) e = inl (refusal_lines files rs, refl)
-gives_says (compiled written h typable) e = absurd cc
-gives_says (ran r h typable) e = absurd (never_refused (stands_in r.program r.last) e)
-gives_says (executed r h never) e = absurd (never_refused (stands_in r.program r.last) e)
+gives_says (compiled written h) e = absurd cc
+gives_says (ran r h) e = absurd (never_refused (stands_in r.program r.last) e)
+gives_says (executed r h) e = absurd (never_refused (stands_in r.program r.last) e)
 gives_says (refined {text = text} {stands = stands} h) e = told_says h.a h.b text stands h.tells e
 gives_says (projected written h) e = absurd cc
-gives_says (loaded r h typable) e = absurd (never_refused (stands_in r.program r.last) e)
+gives_says (loaded r h) e = absurd (never_refused (stands_in r.program r.last) e)
 gives_says (verified h) e = absurd cc
-gives_says (fitted h never) e = absurd cc
+gives_says (fitted h) e = absurd cc
 gives_says (shown core have is) e = absurd cc
 
 pub refusal_says : {command : Command} {contents : List (List ℕ)} {actions : List Action} {status : Status} →
@@ -313,31 +314,31 @@ told_whole : (stands : Bool) → refined_status stands ≢ statuses.Broken
 told_whole true e = cc
 told_whole false e = cc
 
-gives_whole : {command : Command} {contents : List (List ℕ)} {actions : List Action} {status : Status} →
+gives_whole : CoursesAreRuns → {command : Command} {contents : List (List ℕ)} {actions : List Action} {status : Status} →
     Gives command contents actions status → status ≡ statuses.Broken → (asked : Asked) × (files : List Word) × (command ≡ Exec asked files)
-gives_whole (translated t) e = absurd cc
-gives_whole (conforms local list o l c) e = absurd (answer_whole c e)
-gives_whole (checked core a r) e = absurd cc
-gives_whole (faulted h) e = absurd cc
-gives_whole (compiled written h typable) e = absurd cc
-gives_whole {contents = contents} (ran {asked = asked} {files = files} r h typable) e =
+gives_whole law (translated t) e = absurd cc
+gives_whole law (conforms local list o l c) e = absurd (answer_whole c e)
+gives_whole law (checked core a r) e = absurd cc
+gives_whole law (faulted h) e = absurd cc
+gives_whole law (compiled written h) e = absurd cc
+gives_whole law {contents = contents} (ran {asked = asked} {files = files} r h) e =
     let all : List Stand = stands_in r.program r.last in
     absurd (tests_whole (list_any is_bound all) (list_any is_broken all) (list_any is_zero all) (list_any is_mismatch all)
     (list_any is_waiting all)
-    (none_broken (sources files contents) (role_mains_of asked) (order_of asked) (limit_of asked) r h) e)
-gives_whole (refined {stands = stands} h) e = absurd (told_whole stands e)
-gives_whole (projected written h) e = absurd cc
-gives_whole (loaded {branches = n} {seed = seed} r h typable) e =
+    (none_broken law (sources files contents) (role_mains_of asked) (order_of asked) (limit_of asked) r h) e)
+gives_whole law (refined {stands = stands} h) e = absurd (told_whole stands e)
+gives_whole law (projected written h) e = absurd cc
+gives_whole law (loaded {branches = n} {seed = seed} r h) e =
     let all : List Stand = stands_in r.program r.last in
     absurd (tests_whole (list_any is_bound all) (list_any is_broken all) (list_any is_zero all) (list_any is_mismatch all)
     (list_any is_waiting all)
-    (none_broken (load_sources n seed) (role_mains_of load_asked) (order_of load_asked) (limit_of load_asked) r h) e)
-gives_whole (executed {asked = asked} {files = files} r h never) e = (asked, files, refl)
-gives_whole (verified h) e = absurd cc
-gives_whole (fitted h never) e = absurd cc
-gives_whole (shown core have is) e = absurd cc
+    (none_broken law (load_sources n seed) (role_mains_of load_asked) (order_of load_asked) (limit_of load_asked) r h) e)
+gives_whole law (executed {asked = asked} {files = files} r h) e = (asked, files, refl)
+gives_whole law (verified h) e = absurd cc
+gives_whole law (fitted h) e = absurd cc
+gives_whole law (shown core have is) e = absurd cc
 
-pub broken_command : {command : Command} {contents : List (List ℕ)} {actions : List Action} {status : Status} →
+pub broken_command : CoursesAreRuns → {command : Command} {contents : List (List ℕ)} {actions : List Action} {status : Status} →
     Yields command contents actions status → status ≡ statuses.Broken → (asked : Asked) × (files : List Word) × (command ≡ Exec asked files)
-broken_command (gives y) e = gives_whole y e
-broken_command (refused r) e = absurd cc
+broken_command law (gives y) e = gives_whole law y e
+broken_command law (refused r) e = absurd cc

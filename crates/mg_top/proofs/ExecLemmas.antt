@@ -9,7 +9,6 @@ use Rattle.mg_runs.specs.Runs.{names_of}
 use Rattle.mg_exec.specs.declared.ran.Ran.{Ran}
 use Rattle.mg_exec.specs.Runs.{Course}
 use Rattle.mg_exec.specs.View.{Shows, IsOfRun}
-use Rattle.mg_typed_law.specs.Laws.{TypableRunsNeverBad}
 use Rattle.mg_words.specs.Words.{Word, Asked, limit_of, order_of, are_named, Exec}
 use Rattle.mg_delivery.specs.declared.status.Status.{Status}
 use Rattle.mg_delivery.specs.declared.delivery.Action.{Action}
@@ -43,14 +42,14 @@ exec_asked asked files mains order limit named shown m o l n h =
     (subst (λ (z : List RoleMain). IsOfRun files z order limit named asked.traced shown) m h)))
 
 -- what a run printed, its trace and the lines of its roles
-pub exec_given : TypableRunsNeverBad → (asked : Asked) (files : List Word) (contents : List (List ℕ)) (mains : List RoleMain)
+pub exec_given : (asked : Asked) (files : List Word) (contents : List (List ℕ)) (mains : List RoleMain)
     (order : List ℕ) (limit : ℕ) (named : Bool) (shown : Ran) (d : Delivery) → mains ≡ role_mains_of asked → order ≡ order_of asked →
     limit ≡ limit_of asked →
     named ≡ are_named asked → IsOfRun (sources files contents) mains order limit named asked.traced shown →
     d.actions.items ≡ shown_so shown.printed shown.trace (names_of mains)
     (map (λ r. r.instructions) shown.roles.items) (map (λ r. r.stand) shown.roles.items) →
     d.status ≡ status_of (map (λ r. r.stand) shown.roles.items) → Gives (Exec asked files) contents d.actions.items d.status
-exec_given never asked files contents mains order limit named shown d m o l n given actions status =
+exec_given asked files contents mains order limit named shown d m o l n given actions status =
     let h : IsOfRun (sources files contents) (role_mains_of asked) (order_of asked) (limit_of asked) (are_named asked) asked.traced shown =
     exec_asked asked (sources files contents) mains order limit named shown m o l n given in
     gives_so (Exec asked files) contents (shown_by asked shown) (status_of (map (λ r. r.stand) shown.roles.items)) d
@@ -59,4 +58,4 @@ exec_given never asked files contents mains order limit named shown d m o l n gi
     (subst (λ (z : Status). Gives (Exec asked files) contents (shown_by asked shown) z) (ap status_of (sym h.shows.stands))
     (subst (λ (z : List Action). Gives (Exec asked files) contents z (status_of (stands_in h.run.program h.run.last)))
     (sym (shown_same asked h.run shown h.shows))
-    (executed h.run h.is (never (sources files contents) (role_mains_of asked) (order_of asked) (limit_of asked) h.run h.is))))
+    (executed h.run h.is)))

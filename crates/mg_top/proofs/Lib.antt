@@ -9,4 +9,5 @@ pub mod LoadLemmas
 pub mod Unbroken
 pub mod Exact
 pub mod OneThing
+pub mod Theorems
 pub mod Promised

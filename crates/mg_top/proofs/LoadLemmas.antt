@@ -16,7 +16,6 @@ use Rattle.mg_runs.specs.declared.ran.Ran.{Ran}
 use Rattle.mg_runs.specs.Headline.{Course}
 use Rattle.mg_runs.specs.Commanded.{FirstRefusal}
 use Rattle.mg_runs.specs.View.{Shows, IsOfRun}
-use Rattle.mg_typed_law.specs.Laws.{RunsAreTypable}
 use Rattle.mg_words.specs.Words.{Word, limit_of, order_of, Load}
 use Rattle.mg_words.proofs.WordsLemmas.{All-cons, All-one}
 use Rattle.mg_delivery.specs.declared.status.Status.{Status}
@@ -115,13 +114,13 @@ run_loaded n seed names contents mains order shown e f m o h =
     (subst (λ (z : List Word). IsOfRun (sources z contents) mains order 20000000 true false shown) e h)))
 
 -- what it printed and how large it was, and the lines of its roles
-pub load_given : RunsAreTypable → (n seed : ℕ) (read : List (List ℕ)) (names contents : List (List ℕ)) (mains : List RoleMain)
+pub load_given : (n seed : ℕ) (read : List (List ℕ)) (names contents : List (List ℕ)) (mains : List RoleMain)
     (order : List ℕ) (shown : Ran) (d : Delivery) → names ≡ file_names → contents ≡ file_texts n seed → mains ≡ role_mains_of load_asked →
     order ≡ order_of load_asked → IsOfRun (sources names contents) mains order 20000000 true false shown →
     d.actions.items ≡ shown_so n seed shown.printed shown.messages shown.trace (names_of mains)
     (map (λ r. r.instructions) shown.roles.items) (map (λ r. r.stand) shown.roles.items) →
     d.status ≡ status_of (map (λ r. r.stand) shown.roles.items) → Gives (Load n seed) read d.actions.items d.status
-load_given typable n seed read names contents mains order shown d e f m o given actions status =
+load_given n seed read names contents mains order shown d e f m o given actions status =
     let h : IsOfRun (load_sources n seed) (role_mains_of load_asked) (order_of load_asked) (limit_of load_asked) true false shown =
     run_loaded n seed names contents mains order shown e f m o given in
     gives_so (Load n seed) read (shown_by n seed shown) (status_of (map (λ r. r.stand) shown.roles.items)) d
@@ -130,7 +129,7 @@ load_given typable n seed read names contents mains order shown d e f m o given 
     (subst (λ (z : Status). Gives (Load n seed) read (shown_by n seed shown) z) (ap status_of (sym h.shows.stands))
     (subst (λ (z : List Action). Gives (Load n seed) read z (status_of (stands_in h.run.program h.run.last)))
     (sym (shown_same n seed h.run shown h.shows))
-    (loaded h.run h.is (typable (load_sources n seed) (role_mains_of load_asked) (order_of load_asked) (limit_of load_asked) h.run h.is))))
+    (loaded h.run h.is)))
 
 -- its refusal
 pub refusal_given : (n seed : ℕ) (read : List (List ℕ)) (names contents : List (List ℕ)) (mains : List RoleMain) (r : Refusal) →

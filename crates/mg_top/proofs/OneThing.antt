@@ -212,9 +212,9 @@ given_once {m = m} {n = n} (conforms {protocol = protocol} {calls = calls} {byte
 given_once {contents = contents} (checked {files = files} {text = t} core h r) (checked {text = u} other k q) e =
     let same : core ≡ other = one_core (sources files contents) core other h.have k.have in
     inl (ap prints (one_report other t u (subst (λ (p : Core.Program). IsReport p t) same r) q))
-given_once {contents = contents} (compiled {folder = folder} {files = files} written h typable) (compiled written' k typable') e =
+given_once {contents = contents} (compiled {folder = folder} {files = files} written h) (compiled written' k) e =
     inl (ap (classes_written folder) (one_compiled (sources files contents) written written' h k))
-given_once {contents = contents} (ran {asked = asked} {files = files} r h typable) (ran s k typable') e =
+given_once {contents = contents} (ran {asked = asked} {files = files} r h) (ran s k) e =
     let same = one_of_run (sources files contents) (role_mains_of asked) (order_of asked) (limit_of asked) r s h k in
     inl (λ i. run_actions asked (record {
       core = same.core i;
@@ -224,13 +224,13 @@ given_once {contents = contents} (ran {asked = asked} {files = files} r h typabl
       last =
           same.last i;
     }))
-given_once {contents = contents} (executed {asked = asked} {files = files} r h never) (executed s k never') e =
+given_once {contents = contents} (executed {asked = asked} {files = files} r h) (executed s k) e =
     let same = one_course (sources files contents) (role_mains_of asked) (order_of asked) (limit_of asked) r s h k in
     inl (λ i. exec_actions asked (record { program = same.program i; first = r.first; last = same.last i }))
 given_once {contents = contents} (refined {files = files} {text = x} {stands = s} h) (refined {text = y} {stands = t} k) e = inl (ap (λ (text : List ℕ). Print text ∷ []) (one_telling (sources files contents) x y s t h k).0)
 given_once {contents = contents} (projected {folder = folder} {files = files} written h) (projected written' k) e =
     inl (ap (roles_written folder) (written_once (sources files contents) written written' h k))
-given_once (loaded {branches = n} {seed = seed} r h typable) (loaded s k typable') e =
+given_once (loaded {branches = n} {seed = seed} r h) (loaded s k) e =
     let same = one_of_run (load_sources n seed) (role_mains_of load_asked) (order_of load_asked) (limit_of load_asked) r s h k in
     inl (λ i. load_actions n seed (record {
       core = same.core i;
@@ -240,7 +240,7 @@ given_once (loaded {branches = n} {seed = seed} r h typable) (loaded s k typable
       last = same.last i;
     }))
 given_once {contents = contents} (verified {files = files} {line = x} h) (verified {line = y} k) e = inl (ap (λ (line : List ℕ). Print line ∷ []) (one_line (sources files contents) x y h k))
-given_once (fitted h never) (fitted k never') e = inl refl
+given_once (fitted h) (fitted k) e = inl refl
 given_once (checked core h r) (faulted k) e = let no : ⊥ = cc in absurd no
 given_once (faulted k) (checked core h r) e = let no : ⊥ = cc in absurd no
 given_once {contents = contents} (faulted {files = files} {rs = rs} h) (faulted {rs = qs} k) e = inr (record {

@@ -18,6 +18,8 @@ use Rattle.mg_top.specs.Ending.{read_limit, MayRead, IsUnread, IsDue, wrong, unr
 use Rattle.mg_top.specs.Promises.{IsYielded, Carries, MayWrite, IsSmooth, Promises}
 use Rattle.mg_words.proofs.WordsLemmas.{wrong_is_none}
 use Rattle.mg_words.proofs.RunLemmas.{same_command}
+use Rattle.mg_runs.specs.Laws.{CoursesAreRuns}
+use Rattle.mg_top.specs.Theorems.{Theorems}
 use Rattle.mg_top.proofs.Exact.{one_status, proper, SaysRefusal, refusal_says, broken_command}
 use Rattle.mg_text.specs.Call.{Call}
 use Rattle.ts_refine.specs.declared.verdict.Reason.{Reason}
@@ -132,12 +134,12 @@ module _ (words : List Word) (before : Outside) where
   broken_yielded : {status : Status} → status ≡ statuses.Broken → IsYielded status
   broken_yielded {status = status} e = subst (λ (s : Status). IsYielded s) (sym e) (λ h. cc, λ h. cc, λ h. cc, λ h. cc)
 
-  broken_only : {actions : List Action} {meant status : Status} {at after : Outside} → IsDue words before actions meant at →
+  broken_only : CoursesAreRuns → {actions : List Action} {meant status : Status} {at after : Outside} → IsDue words before actions meant at →
       Delivers actions meant at status after →
       status ≡ statuses.Broken → (asked : Asked) × (files : List Word) × IsCommand (Exec asked files) words
-  broken_only due d e =
+  broken_only law due d e =
       let c = (only due d (broken_yielded e)).1 in
-      let (asked, files, same) = broken_command c.yields e in
+      let (asked, files, same) = broken_command law c.yields e in
       (asked, files, subst (λ (k : Command). IsCommand k words) same c.is)
 
   abbrev OneLine : Outside → Type 0
@@ -325,9 +327,10 @@ module _ (words : List Word) (before : Outside) where
   kept (mute other may) d name isnt = laws.kept name (λ file has e. no_writes memory_line file has) d
 
 -- all that is promised
-pub promised : (words : List Word) (before : Outside) (status : Status) (after : Outside) → Ends words before status after →
+pub promised : Theorems → (words : List Word) (before : Outside) (status : Status) (after : Outside) → Ends words before status after →
     Promises words before status after
-promised words before status after h = record {
+promised theorems words before status after h = record {
+  theorems = theorems;
   ends = h;
   words_only = words_only words before h.due h.delivered;
   words_where = words_where words before h.due h.delivered;
@@ -336,7 +339,7 @@ promised words before status after h = record {
   only = only words before h.due h.delivered;
   where_yielded = where_yielded words before h.due h.delivered;
   refused_only = refused_only words before h.due h.delivered;
-  broken_only = broken_only words before h.due h.delivered;
+  broken_only = broken_only words before theorems.runs h.due h.delivered;
   write_only = write_only words before h.due h.delivered;
   write_where = write_where words before h.due h.delivered;
   put_where = put_where words before h.due h.delivered;

@@ -12,7 +12,8 @@ use Rattle.vm_world_law.specs.Turns.{first_turns, waiting_for, stand_of, stands_
 use Rattle.vm_world_law.proofs.Lists.{got_within, get_within}
 use Rattle.vm_world_law.proofs.Once.{turns_long}
 use Rattle.mg_sources.specs.Files.{Source}
-use Rattle.mg_runs.specs.Headline.{Course, IsRun}
+use Rattle.mg_runs.specs.Headline.{Course, IsCourse}
+use Rattle.mg_runs.specs.Laws.{CoursesAreRuns}
 
 -- a role that goes on, or ended otherwise
 pub record IsFine (state : State) : Type 0 where
@@ -54,10 +55,10 @@ started_long p [] (role ∷ roles) h = absurd h
 started_long p (main ∷ mains) [] h = absurd h
 started_long p (main ∷ mains) (role ∷ roles) h = ap suc (started_long p mains roles h.1)
 
-pub none_broken : (files : List Source) (mains : List RoleMain) (order : List ℕ) (limit : ℕ) (r : Course) → IsRun files mains order limit r
-    →
-    list_any is_broken (stands_in r.program r.last) ≡ false
-none_broken files mains order limit r h =
+pub none_broken : CoursesAreRuns → (files : List Source) (mains : List RoleMain) (order : List ℕ) (limit : ℕ) (r : Course) →
+    IsCourse files mains order limit r → list_any is_broken (stands_in r.program r.last) ≡ false
+none_broken law files mains order limit r h =
+    let run = law files mains order limit r h in
     let taken : List ℕ = first_turns order h.runs.taken in
     let long : length r.last.roles ≡ length mains
     = ap (λ (w : World). length w.roles) h.runs.is ∙ turns_long r.program r.first taken ∙ started_long r.program mains r.first.roles
@@ -66,9 +67,9 @@ none_broken files mains order limit r h =
     let main = get_within mains i (subst (λ (n : ℕ). i < n) long (got_within r.last.roles i role at)) in
     let at_moment : slice_get (turns r.program r.first taken).roles i ≡ Some role
     = subst (λ (w : World). slice_get w.roles i ≡ Some role) h.runs.is at in
-    let met = (h.meant taken).each i main.0 main.1 in
+    let met = (run.meant taken).each i main.0 main.1 in
     let same : met.0 ≡ role = some_same (sym met.1 ∙ at_moment) in
     record {
-      no_null = (h.keep taken i main.0 role main.1 at_moment).no_null;
+      no_null = (run.keep taken i main.0 role main.1 at_moment).no_null;
       well = subst (λ (other : Role). (kind : BadKind) → other.state ≢ Over (endings.Bad kind)) same met.2.well;
     })

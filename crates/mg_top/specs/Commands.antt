@@ -13,20 +13,18 @@ use Rattle.mg_shown.specs.Shown.{IsShown}
 use Rattle.mg_compile.specs.declared.files.ClassFile.{ClassFile}
 use Rattle.mg_compile.specs.Compiled.{AreCompiled}
 use Rattle.mg_compile.specs.Compiled as compiling
-use Rattle.cls_verify.specs.Typing.{AllTypable}
 use Rattle.vm_world_law.specs.declared.role.RoleMain.{RoleMain}
 use Rattle.vm_world_law.specs.Turns.{stands_in}
 use Rattle.mg_trace.specs.Trace.{trace, plain_trace, printed}
 use Rattle.mg_runs.specs.Lines.{role_lines}
 use Rattle.mg_runs.specs.Runs.{names_of, messages_in}
-use Rattle.mg_runs.specs.Headline.{Course, IsRun}
+use Rattle.mg_runs.specs.Headline.{Course, IsCourse}
 use Rattle.mg_runs.specs.Commanded as running
 use Rattle.mg_refined.specs.Refined.{AreJudged}
 use Rattle.mg_refined.specs.Refined as refining
 use Rattle.mg_exec.specs.Runs as executing
 use Rattle.mg_verified.specs.Verified.{AreVerified}
 use Rattle.mg_verified.specs.Verified as verifying
-use Rattle.mg_typed_law.specs.Typed.{NeverBad, LinkTypable}
 use Rattle.mg_fitted.specs.Fitted.{AreFitted}
 use Rattle.mg_fitted.specs.Fitted as fitting
 use Rattle.mg_load.specs.Workload.{file_names, file_texts, loaded_line}
@@ -46,7 +44,6 @@ use Rattle.mg_sources.specs.Sources as reading
 use Rattle.mg_top.specs.Writing.{classes_written, roles_written}
 use Rattle.mg_top.specs.Translation.{AreTranslated}
 use Rattle.mg_top.specs.Statuses.{status_of}
-use Rattle.mg_top.specs.Fitting.{NoRunGetsStuck}
 use Rattle.mg_delivery.specs.Lines.{refusal_line, refusal_lines}
 use Rattle.mg_top.specs.Conformance.{Lists, Conforms, ConformRefusal}
 
@@ -127,19 +124,16 @@ pub data Gives : Command → List (List ℕ) → List Action → Status → Type
   -- or all that is wrong, a line for each
   faulted : {files : List Word} {contents : List (List ℕ)} {rs : List Refusal} → AllRefusals (sources files contents) rs →
       Gives (Check true files) contents (Say (refusal_lines files rs) ∷ []) Refused
-  -- each method of the classes has a typing
   compiled : {folder : Option Word} {files : List Word} {contents : List (List ℕ)} (written : List ClassFile) →
-      AreCompiled (sources files contents) written → LinkTypable written →
+      AreCompiled (sources files contents) written →
       Gives (Compile folder files) contents (classes_written folder written) Done
-  -- so has each of the classes that run
   ran : {asked : Asked} {files : List Word} {contents : List (List ℕ)} (r : Course) →
-      IsRun (sources files contents) (role_mains_of asked) (order_of asked) (limit_of asked) r → AllTypable r.program →
+      IsCourse (sources files contents) (role_mains_of asked) (order_of asked) (limit_of asked) r →
       Gives (Run asked files) contents (kept_in asked.folder r.written ++ (prints (run_printed asked r) ++ Say (run_said asked r) ∷ []))
       (status_of (stands_in r.program r.last))
-  -- of class files as they are that isn't known; where each method has a typing no role ends badly
+  -- of class files as they are that isn't known
   executed : {asked : Asked} {files : List Word} {contents : List (List ℕ)} (r : executing.Course) →
       executing.IsRun (sources files contents) (role_mains_of asked) (order_of asked) (limit_of asked) r →
-      (AllTypable r.program → NeverBad r) →
       Gives (Exec asked files) contents (prints (exec_printed asked r) ++ Say (exec_said asked r) ∷ [])
       (status_of (stands_in r.program r.last))
   refined : {files : List Word} {contents : List (List ℕ)} {text : List ℕ} {stands : Bool} → AreJudged (sources files contents) text stands
@@ -150,7 +144,7 @@ pub data Gives : Command → List (List ℕ) → List Action → Status → Type
       AreWritten (sources files contents) written → Gives (Project folder files) contents (roles_written folder written) Done
   -- a workload is run as other files are; behind what is printed stands the line that tells how large it was
   loaded : {branches seed : ℕ} {contents : List (List ℕ)} (r : Course) →
-      IsRun (load_sources branches seed) (role_mains_of load_asked) (order_of load_asked) (limit_of load_asked) r → AllTypable r.program →
+      IsCourse (load_sources branches seed) (role_mains_of load_asked) (order_of load_asked) (limit_of load_asked) r →
       Gives (Load branches seed) contents
       (Print (run_printed load_asked r ++ loaded_line branches seed (messages_in r.last.events)) ∷ Say (run_said load_asked r) ∷ [])
       (status_of (stands_in r.program r.last))
@@ -158,10 +152,9 @@ pub data Gives : Command → List (List ℕ) → List Action → Status → Type
   verified : {files : List Word} {contents : List (List ℕ)} {line : List ℕ} → AreVerified (sources files contents) line →
       Gives (Verify files) contents (Print line ∷ []) Done
   -- the program of the files behind the first, run by these roles, fits the global protocol of the first, whose number is the next behind
-  -- theirs; and so in no run of these roles does one of them get stuck, and none has the status of one in which one did
+  -- theirs
   fitted : {roles : List RoleClass} {global : Word} {files : List Word} {bytes : List ℕ} {contents : List (List ℕ)} →
       AreFitted (source_of (length files) global bytes) (sources files contents) (cast_mains_of roles) →
-      NoRunGetsStuck (source_of (length files) global bytes) (sources files contents) (cast_mains_of roles) →
       Gives (Fit roles (global ∷ files)) (bytes ∷ contents) (Print fits_text ∷ []) Done
   -- a line for each call of a protocol method in the program, whether or not its demands fail
   shown : {files : List Word} {contents : List (List ℕ)} {text : List ℕ} (core : Core.Program) → HaveCore (sources files contents) core →

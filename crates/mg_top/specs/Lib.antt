@@ -1,6 +1,7 @@
 pub mod Writing
 pub mod Statuses
 pub mod Fitting
+pub mod Theorems
 pub mod Translation
 pub mod Conformance
 pub mod Commands

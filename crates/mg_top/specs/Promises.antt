@@ -14,6 +14,7 @@ use Rattle.mg_delivery.specs.Lines.{words_line, read_line, not_offered_line}
 use Rattle.mg_delivery.specs.Outside.{Outside, held}
 use Rattle.mg_delivery.specs.Delivery.{AreDone, IsUnlessStopped}
 use Rattle.mg_top.specs.Commands.{Yields}
+use Rattle.mg_top.specs.Theorems.{Theorems}
 use Rattle.mg_delivery.specs.Contents.{AreRead, after_read}
 use Rattle.mg_top.specs.Ending.{read_limit, MayRead, IsUnread, Ends}
 
@@ -46,6 +47,8 @@ pub record IsSmooth (before after : Outside) : Type 0 where
   pub err : Rose before.err.faults after.err.faults → ⊥
 
 pub record Promises (words : List Word) (before : Outside) (status : Status) (after : Outside) : Type 0 where
+  -- what holds of all that commands give
+  pub theorems : Theorems
   -- how the run went, and what stands after it
   pub ends : Ends words before status after
   -- Words comes exactly where the words are no command, and its line alone was put

@@ -11,7 +11,6 @@ use mg_compile::ClassFile;
 use mg_delivery::{Action, Delivery, Status};
 use mg_refusal::Stop;
 use mg_text::{Bytes, List, Memory, Text};
-use mg_typed_law::written_classes_are_typable;
 use std::alloc::Global;
 
 /// The class files of the program that the files are, or the first refusal.
@@ -26,7 +25,6 @@ pub fn compile(
     requires kinds { HaveKinds names.now }
     ensures { IsCarried (Compile (option_map (λ f. f.now) folder.entry) names.now) contents.now result }
 {
-    written_classes_are_typable();
     let files = mg_compile::compile(alloc, names, contents)?;
     Ok(write_files(alloc, folder, files.as_slice())?)
 }

@@ -15,7 +15,6 @@ use mg_delivery::{Action, Delivery, Status};
 use mg_exec::{Ran, exec_roles};
 use mg_refusal::Stop;
 use mg_text::{Bytes, List, Memory};
-use mg_typed_law::typable_runs_never_bad;
 use mg_words::Asked;
 use std::alloc::Global;
 use vm_world::RoleMain;
@@ -26,7 +25,6 @@ pub fn exec(alloc: Global, asked: &Asked<'_>, contents: &[Bytes]) -> Result<Deli
     requires count { length contents.now < 2 ^ 32 }
     ensures { (names : Seq Word) → length names ≡ length contents.now → IsCarried (Exec (asked_of asked.now) names) contents.now result }
 {
-    typable_runs_never_bad();
     let mains = mains_of(alloc, asked)?;
     let roles = mains.as_slice();
     let order = asked.order(alloc)?;

@@ -16,7 +16,6 @@ use mg_load::{load_files, loaded_line};
 use mg_refusal::Stop;
 use mg_runs::{Ran, run_roles};
 use mg_text::{List, Memory, Text};
-use mg_typed_law::written_classes_are_typable;
 use std::alloc::Global;
 use vm_world::RoleMain;
 
@@ -33,7 +32,6 @@ pub fn load(alloc: Global, branches: u32, seed: u64) -> Result<Delivery, Stop>
     requires most { branches ≤ 400 }
     ensures { (contents : Seq (Seq ℕ)) → IsCarried (Load branches seed) contents result }
 {
-    written_classes_are_typable();
     let workload = load_files(alloc, branches, seed)?;
     let mains = mains(alloc)?;
     let roles = mains.as_slice();

@@ -20,7 +20,6 @@ use mg_delivery::{Action, Delivery, Status};
 use mg_refusal::Stop;
 use mg_runs::{Ran, run_roles};
 use mg_text::{BadKind, Bytes, Ending, List, Memory, Text};
-use mg_typed_law::written_classes_are_typable;
 use mg_words::{Asked, RoleClass};
 use std::alloc::Global;
 use vm_world::{RoleMain, RoleRan, Stand};
@@ -41,7 +40,6 @@ pub fn run(
     requires kinds { HaveKinds names.now }
     ensures { IsCarried (Run (asked_of asked.now) names.now) contents.now result }
 {
-    written_classes_are_typable();
     let mains = mains_of(alloc, asked)?;
     let roles = mains.as_slice();
     let order = asked.order(alloc)?;

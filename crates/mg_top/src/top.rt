@@ -26,7 +26,9 @@ use mg_delivery::{Delivery, Status, Unread, deliver, lines, read_all, starve};
 use mg_io::{Folder, Sink};
 use mg_load::file_names;
 use mg_refusal::{Refusal, Stop};
+use mg_runs::{courses_are_runs, each_order_has_a_course};
 use mg_text::{Bytes, List, Memory, Text};
+use mg_typed_law::{typable_runs_never_bad, written_classes_are_typable};
 use mg_words::{Command, Judged, judge};
 use std::alloc::Global;
 
@@ -86,6 +88,10 @@ pub fn mungo<F: Folder, O: Sink, E: Sink>(
         (outside (F.files folder.new) (F.failed_reads folder.new) (F.failed_writes folder.new)
         (stream (O.bytes out.new) (O.faults out.new)) (stream (E.bytes err.new) (E.faults err.new))) }
 {
+    courses_are_runs();
+    each_order_has_a_course();
+    written_classes_are_typable();
+    typable_runs_never_bad();
     match prepare(alloc, words, folder) {
         Ok(delivery) => deliver(alloc, &delivery, folder, out, err),
         Err(Memory) => starve(err),

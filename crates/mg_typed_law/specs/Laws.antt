@@ -5,7 +5,7 @@ use Rattle.vm_world_law.specs.declared.role.RoleMain.{RoleMain}
 use Rattle.mg_sources.specs.Files.{Source}
 use Rattle.mg_compile.specs.declared.files.ClassFile.{ClassFile}
 use Rattle.mg_compile.specs.Compiled.{AreCompiled}
-use Rattle.mg_runs.specs.Headline.{Course, IsRun}
+use Rattle.mg_runs.specs.Headline.{Course, IsCourse}
 use Rattle.mg_exec.specs.Runs as executing
 use Rattle.mg_typed_law.specs.Typed.{NeverBad, LinkTypable}
 
@@ -16,7 +16,7 @@ CompiledClassesAreTypable = (files : List Source) (written : List ClassFile) →
 -- Each method of the program that roles of such files run has one.
 abbrev pub RunsAreTypable : Type 0
 RunsAreTypable = (files : List Source) (mains : List RoleMain) (order : List ℕ) (limit : ℕ) (run : Course) →
-    IsRun files mains order limit run → AllTypable run.program
+    IsCourse files mains order limit run → AllTypable run.program
 
 -- Where class files from outside link to a program each of whose methods has a typing, no role of their run ends badly.
 abbrev pub TypableRunsNeverBad : Type 0

@@ -9,3 +9,6 @@ returns-clause-on c = play.turns_go_on
 
 pub returns-clause-reached : goal.returns-clause-reached
 returns-clause-reached c = play.turns_are_reached
+
+pub returns-clause-one : goal.returns-clause-one
+returns-clause-one c = play.turns_act_by_one

@@ -35,6 +35,5 @@ returns-in_err-run_files c files accepted =
 
 pub returns : goal.returns
 returns c files accepted =
-    shown files c.args.mains.now c.args.order.now c.args.limit c.args.named c.args.traced c.roles_are_meant.ensures c.roles_keep.ensures
-    c.roles_play.ensures c.roles_fit.ensures c.protocols_agree.ensures c.args.core.now c.in_ok-files.files.items c.in_ok-run_files.field-0
-    accepted c.in_default.ensures c.in_ok-files.ensures c.in_ok-run_files.ensures
+    shown files c.args.mains.now c.args.order.now c.args.limit c.args.named c.args.traced c.args.core.now c.in_ok-files.files.items
+    c.in_ok-run_files.field-0 accepted c.in_default.ensures c.in_ok-files.ensures c.in_ok-run_files.ensures

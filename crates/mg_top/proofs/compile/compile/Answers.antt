@@ -29,4 +29,4 @@ returns c =
     let files = sources c.args.names.now c.args.contents.now in
     let h : AreCompiled files c.as_slice.result.now = rw c.as_slice.ensures.items c.in_ok-files.ensures.answered in
     gives_so _ _ _ _ c.in_ok-write_files.field-0 c.in_ok-write_files.ensures.actions c.in_ok-write_files.ensures.status
-    (compiled c.as_slice.result.now h (c.written_classes_are_typable.ensures.compiled files c.as_slice.result.now h))
+    (compiled c.as_slice.result.now h)

@@ -56,7 +56,7 @@ returns-in_err-show c = λ names same.
 
 pub returns : goal.returns
 returns c = λ names same.
-    exec_given c.typable_runs_never_bad.ensures (asked_of c.args.asked.now) names c.args.contents.now _ _ c.limit_of-limit.result
+    exec_given (asked_of c.args.asked.now) names c.args.contents.now _ _ c.limit_of-limit.result
     c.is_named-named.result c.in_ok-ran.ran c.in_ok-show.field-0
     (c.as_slice-roles.ensures.items ∙ c.in_ok-mains.ensures.items) (c.as_slice.ensures.value ∙ c.in_ok-order.ensures.items)
     c.limit_of-limit.ensures c.is_named-named.ensures (c.in_ok-ran.ensures.answered names same) c.in_ok-show.ensures.actions

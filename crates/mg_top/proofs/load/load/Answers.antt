@@ -59,7 +59,7 @@ returns-in_err-show c = λ read.
 
 pub returns : goal.returns
 returns c = λ read.
-    load_given c.written_classes_are_typable.ensures.ran c.args.branches c.args.seed read c.as_slice.result.now c.as_slice-2.result.now
+    load_given c.args.branches c.args.seed read c.as_slice.result.now c.as_slice-2.result.now
     c.as_slice-roles.result.now _ c.in_ok-ran.ran c.in_ok-show.field-0
     (c.as_slice.ensures.items ∙ c.in_ok-workload.ensures.names) (c.as_slice-2.ensures.items ∙ c.in_ok-workload.ensures.contents)
     (c.as_slice-roles.ensures.items ∙ c.in_ok-mains.ensures) refl c.in_ok-ran.ensures.answered c.in_ok-show.ensures.actions

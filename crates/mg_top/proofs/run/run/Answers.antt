@@ -55,7 +55,7 @@ returns-in_err-show c =
 
 pub returns : goal.returns
 returns c =
-    run_given c.written_classes_are_typable.ensures.ran (asked_of c.args.asked.now) c.args.names.now c.args.contents.now _ _
+    run_given (asked_of c.args.asked.now) c.args.names.now c.args.contents.now _ _
     c.limit_of-limit.result c.is_named-named.result c.in_ok-ran.ran c.in_ok-show.field-0
     (c.as_slice-roles.ensures.items ∙ c.in_ok-mains.ensures.items) (c.as_slice.ensures.value ∙ c.in_ok-order.ensures.items)
     c.limit_of-limit.ensures c.is_named-named.ensures c.in_ok-ran.ensures.answered c.in_ok-show.ensures.actions

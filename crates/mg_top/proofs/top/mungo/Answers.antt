@@ -2,11 +2,13 @@ use Rattle.std.proofs.Common.{refl}
 use Rattle.mg_delivery.specs.Outside.{stream}
 use Rattle.mg_top.proofs.CommandLemmas.{starved_due}
 use Rattle.mg_top.proofs.Promised.{promised}
+use Rattle.mg_top.proofs.Theorems.{theorems}
 use Rattle.mg_top.proofs.top.mungo.Goals as goal
 
 pub returns-in-Ok : goal.returns-in-Ok
 returns-in-Ok g c =
-    promised c.args.words.now _ c.deliver.result _ (record {
+    promised (theorems c.courses_are_runs.ensures c.each_order_has_a_course.ensures c.written_classes_are_typable.ensures.compiled
+    c.written_classes_are_typable.ensures.ran c.typable_runs_never_bad.ensures) c.args.words.now _ c.deliver.result _ (record {
       actions = c.in-Ok.delivery.actions.items;
       meant = c.in-Ok.delivery.status;
       at = _;
@@ -17,7 +19,8 @@ returns-in-Ok g c =
 
 pub returns-in-Err : goal.returns-in-Err
 returns-in-Err g c =
-    promised c.args.words.now _ c.starve.result _ (record {
+    promised (theorems c.courses_are_runs.ensures c.each_order_has_a_course.ensures c.written_classes_are_typable.ensures.compiled
+    c.written_classes_are_typable.ensures.ran c.typable_runs_never_bad.ensures) c.args.words.now _ c.starve.result _ (record {
       actions = _;
       meant = _;
       at = _;
