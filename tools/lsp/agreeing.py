@@ -81,7 +81,7 @@ def try_speed(program):
         main, took = folder.uri("CMain.java"), []
         it.open(main, long_client())
         same("a file of 200 lines", (it.shown.get(main), len(lines_of(long_client()))), ([], 200))
-        while len(took) < 20 or (min(took) > MILLISECONDS and len(took) < 80):
+        while len(took) < 20 or (min(took) > MILLISECONDS and len(took) < 600):
             began = time.monotonic()
             it.change(main, len(took) + 2, ({"start": place(4, 0), "end": place(4, 0)}, " "))
             took.append((time.monotonic() - began) * 1000)

@@ -65,7 +65,7 @@ const saw = (name, value) => seen.push(`${name}: ${value}`);
 const faults = () => (shown.get(uri.toString()) ?? []).map((it) => `${it.range.start.line + 1} ${it.code}`).join(", ");
 
 async function wait(holds) {
-    const end = Date.now() + 60000;
+    const end = Date.now() + 120000;
     while (!holds() && Date.now() < end) await new Promise((go) => setTimeout(go, 20));
     return holds();
 }

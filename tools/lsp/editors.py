@@ -12,7 +12,7 @@ from counting import count, same
 from programs import TOP, Folder, copied, lines_of, read
 from session import Session
 
-EDITORS, HERE, SECONDS = f"{TOP}/editors", f"{TOP}/tools/lsp", 120
+EDITORS, HERE, SECONDS = f"{TOP}/editors", f"{TOP}/tools/lsp", 900
 HOVER = "c.send_byeToS State0 -> end"
 
 

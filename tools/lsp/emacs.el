@@ -4,13 +4,17 @@
 
 (load (concat (getenv "MUNGO_EDITORS") "/emacs/mungo"))
 (require 'flymake)
-(setq mungo-lsp-program (getenv "MUNGO_LSP") eglot-sync-connect 30 eglot-send-changes-idle-time 0 eglot-autoshutdown t)
+(require 'jsonrpc)
+;; How long eglot waits for an answer that it wants at once.
+(defvar jsonrpc-default-request-timeout)
+(setq jsonrpc-default-request-timeout 120)
+(setq mungo-lsp-program (getenv "MUNGO_LSP") eglot-sync-connect 120 eglot-send-changes-idle-time 0 eglot-autoshutdown t)
 
 (defun saw (name value) (append-to-file (format "%s: %s\n" name value) nil (getenv "SAW")))
 
 (defun wait-until (holds)
-  "Waits at most 20 seconds. Whether it holds."
-  (let ((end (+ (float-time) 20)))
+  "Waits at most 120 seconds. Whether it holds."
+  (let ((end (+ (float-time) 120)))
     (while (and (not (funcall holds)) (< (float-time) end))
       (accept-process-output nil 0.05)
       (run-hooks 'post-command-hook))
@@ -42,7 +46,7 @@
 (goto-char (point-min))
 (search-forward "c.send_byeToS")
 (backward-char 3)
-(let* ((said (jsonrpc-request (eglot-current-server) :textDocument/hover (eglot--TextDocumentPositionParams) :timeout 20))
+(let* ((said (jsonrpc-request (eglot-current-server) :textDocument/hover (eglot--TextDocumentPositionParams) :timeout 120))
        (text (and said (substring-no-properties (eglot--hover-info (plist-get said :contents) (plist-get said :range))))))
   (saw "hover" (car (split-string (or text "none") "\n"))))
 (defun names-in (index)
@@ -77,7 +81,7 @@
   (goto-char (point-min))
   (search-forward "bye")
   (backward-char 1)
-  (let ((said (jsonrpc-request (eglot-current-server) :textDocument/hover (eglot--TextDocumentPositionParams) :timeout 20)))
+  (let ((said (jsonrpc-request (eglot-current-server) :textDocument/hover (eglot--TextDocumentPositionParams) :timeout 120)))
     (saw "hover in a protocol"
          (if said (car (split-string (substring-no-properties (eglot--hover-info (plist-get said :contents) nil)) "\n")) "none"))))
 (condition-case nil (mungo-diagram) (error nil))

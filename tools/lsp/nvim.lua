@@ -12,7 +12,7 @@ local function faults()
   return table.concat(found, ", ")
 end
 
-local function wait(holds) return vim.wait(20000, holds, 20) end
+local function wait(holds) return vim.wait(120000, holds, 20) end
 
 local function drive()
   vim.cmd("edit " .. vim.fn.fnameescape(vim.env.FILE))
@@ -38,7 +38,7 @@ local function drive()
   -- The answer to a question about the cursor, or about the document.
   local function ask(method)
     local params = vim.lsp.util.make_position_params(0, "utf-16")
-    local _, answer = next(vim.lsp.buf_request_sync(0, method, params, 20000) or {})
+    local _, answer = next(vim.lsp.buf_request_sync(0, method, params, 120000) or {})
     return answer and answer.result
   end
   local function hover()
@@ -71,8 +71,13 @@ local function drive()
     vim.fn.setline(call, whole)
   end
   if offers("definitionProvider") then
-    at_call()
-    vim.cmd([[execute "normal! \<C-]>"]])
+    -- Neovim gives the server a second for this, which may be too short beside other work.
+    local from = vim.fn.bufnr("%")
+    for _ = 1, 60 do
+      at_call()
+      pcall(vim.cmd, [[execute "normal! \<C-]>"]])
+      if vim.fn.bufnr("%") ~= from then break end
+    end
     saw("define", vim.fn.expand("%:t") .. " " .. vim.fn.line(".") .. " " .. vim.fn.expand("<cword>"))
     saw("hover in a protocol", hover())
     vim.cmd("buffer #")
@@ -80,7 +85,7 @@ local function drive()
   vim.cmd("edit! C.scr")
   wait(is_ready)
   pcall(vim.cmd, "MungoDiagram")
-  vim.wait(vim.env.DRAWS and 20000 or 300, function() return vim.fn.getline(1) == "stateDiagram-v2" end, 20)
+  vim.wait(vim.env.DRAWS and 120000 or 300, function() return vim.fn.getline(1) == "stateDiagram-v2" end, 20)
   saw("diagram", vim.fn.getline(1) == "stateDiagram-v2" and "yes" or "none")
   vim.lsp.stop_client(vim.lsp.get_active_clients())
 end

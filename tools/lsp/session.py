@@ -7,7 +7,8 @@ import subprocess
 import threading
 import urllib.parse
 
-SECONDS = 60
+# How long an answer is waited for, also on a machine that has much else to do: what comes sooner is taken at once.
+SECONDS = 300
 # The end of the server's output, in the queue of what it told.
 END = object()
 UTF8, UTF16 = ["utf-8", "utf-16"], ["utf-16"]

@@ -1,4 +1,5 @@
 """Drives headless Chromium over a pipe, by the protocol of its developer tools: no driver, no socket, Python alone."""
+import atexit
 import base64
 import json
 import os
@@ -10,13 +11,36 @@ import time
 
 # The keys that tests press beside letters: name, and code of Windows by which Chromium knows it.
 KEYS = {"Tab": 9, "Enter": 13, "End": 35, "Home": 36, "ArrowRight": 39, "ArrowDown": 40, "Delete": 46}
-SHIFT, CONTROL, SECONDS = 8, 2, 100
+SHIFT, CONTROL = 8, 2
+# How long something is waited for, also on a machine that has much else to do: what comes sooner is taken at once.
+SECONDS = 300
 
 
 def find():
     """The path of Chromium, or None."""
     found = (shutil.which(name) for name in ("chromium", "chromium-browser", "google-chrome"))
     return next((path for path in found if path), None)
+
+
+def processor_seconds(root):
+    """How many seconds of a processor a process and all those below it have used, or None where the system doesn't tell."""
+    below, used, tick = {}, {}, os.sysconf("SC_CLK_TCK")
+    for number in filter(str.isdigit, os.listdir("/proc") if os.path.isdir("/proc") else []):
+        try:
+            with open(f"/proc/{number}/stat", encoding="utf-8", errors="replace") as file:
+                parts = file.read().rpartition(")")[2].split()
+        except OSError:  # it has ended meanwhile
+            continue
+        below.setdefault(int(parts[1]), []).append(int(number))
+        used[int(number)] = sum(map(int, parts[11:15])) / tick
+    if root not in used:
+        return None
+    total, left = 0, [root]
+    while left:
+        one = left.pop()
+        total += used.get(one, 0)
+        left += below.get(one, [])
+    return total
 
 
 class Fault(Exception):
@@ -27,7 +51,9 @@ class Browser:
     """A browser with one page, whose window has a size. What the page reports, as errors, is kept in `events`."""
 
     def __init__(self, width=1440, height=900):
-        self.profile = tempfile.TemporaryDirectory(prefix="test-page.")
+        self.profile = tempfile.mkdtemp(prefix="test-page.")
+        # Faults are passed over: a process of the browser that is still at its end may write there.
+        atexit.register(shutil.rmtree, self.profile, ignore_errors=True)
         theirs_in, self.write_end = os.pipe()
         self.read_end, theirs_out = os.pipe()
 
@@ -40,17 +66,31 @@ class Browser:
 
         words = [find(), "--headless", "--no-sandbox", "--disable-gpu", "--remote-debugging-pipe", "--no-first-run"]
         words += ["--disable-background-networking", "--disable-dev-shm-usage", "--hide-scrollbars=false"]
-        words += [f"--window-size={width},{height}", f"--user-data-dir={self.profile.name}", "about:blank"]
+        words += [f"--window-size={width},{height}", f"--user-data-dir={self.profile}", "about:blank"]
         quiet = {"stdin": subprocess.DEVNULL, "stdout": subprocess.DEVNULL, "stderr": subprocess.DEVNULL}
         self.process = subprocess.Popen(words, preexec_fn=wire, close_fds=False, **quiet)
         os.close(theirs_in)
         os.close(theirs_out)
         self.kept, self.number, self.session, self.events = b"", 0, None, []
-        pages = [it for it in self.call("Target.getTargets")["targetInfos"] if it["type"] == "page"]
-        self.session = self.call("Target.attachToTarget", targetId=pages[0]["targetId"], flatten=True)["sessionId"]
+        self.session = self.call("Target.attachToTarget", targetId=self.first_page(), flatten=True)["sessionId"]
         for domain in ("Page", "Runtime", "Log"):
             self.call(f"{domain}.enable")
         self.resize(width, height)
+
+    def first_page(self):
+        """The page that the browser opens of itself, which may come some time behind its first answer."""
+        end = time.monotonic() + SECONDS
+        while time.monotonic() < end:
+            for it in self.call("Target.getTargets")["targetInfos"]:
+                if it["type"] == "page":
+                    return it["targetId"]
+            time.sleep(0.03)
+        raise Fault("chromium opens no page")
+
+    def spent(self):
+        """How many seconds of a processor the browser has used: what the clock says depends on what else the machine does."""
+        used = processor_seconds(self.process.pid)
+        return time.monotonic() if used is None else used
 
     def call(self, method, **params):
         """Calls a method of the protocol, and answers its result. What else arrives meanwhile goes to `events`."""
@@ -137,8 +177,7 @@ class Browser:
         except (Fault, OSError):
             pass
         try:
-            self.process.wait(timeout=20)
+            self.process.wait(timeout=60)
         except subprocess.TimeoutExpired:
             self.process.kill()
             self.process.wait()
-        self.profile.cleanup()

@@ -8,6 +8,8 @@ import zlib
 import drive
 from trial import PAGE, READY, act, add_probe, count, open_example, open_page, same
 
+# Within how many seconds of a processor, which hardly depend on what else the machine does, a page is there, and answers; and
+# within how many milliseconds a change is judged.
 MEBI, FROZEN, SOON, TYPED_MS = 1 << 20, 20, 5, 200
 
 
@@ -36,7 +38,7 @@ def type_at(browser, text):
     """Types before the text of the file that is open, key by key."""
     browser.eval("document.getElementById('text').focus(), document.getElementById('text').setSelectionRange(0, 0)")
     browser.type(text)
-    browser.wait(f"document.getElementById('text').value.startsWith({json.dumps(text)})", SOON)
+    browser.wait(f"document.getElementById('text').value.startsWith({json.dumps(text)})")
 
 
 def written(browser):
@@ -71,13 +73,13 @@ LARGE = {
 def try_large(browser):
     """A link to what is too large is opened in time, and what is wrong with it is told; the page doesn't freeze."""
     for name, (made, where, wanted) in LARGE.items():
-        hash_part, began = made(), time.monotonic()
+        hash_part, began = made(), browser.spent()
         open_page(browser, hash_part)
-        browser.wait(f"document.getElementById('{where}').innerText.includes({json.dumps(wanted)})", FROZEN)
+        browser.wait(f"document.getElementById('{where}').innerText.includes({json.dumps(wanted)})")
         said = seen(browser, where) or ""
         count(f"{name} in a link: what is told", wanted in said, said[:200])
-        took = time.monotonic() - began
-        count(f"{name} in a link: in time", took < FROZEN, f"after {took:.1f} s")
+        took = browser.spent() - began
+        count(f"{name} in a link: in time", took < FROZEN, f"after {took:.1f} s of a processor")
 
 
 def try_parts(browser):
@@ -85,7 +87,7 @@ def try_parts(browser):
     lines = [f"// line {it}" if it % 2 else "class" for it in range(1, 20000)]
     open_page(browser, link({"Main.java": "\n".join(lines) + "\n"}))
     browser.eval("document.getElementById('text').scrollTop = 19 * 9000, document.getElementById('text').scrollTop")
-    browser.wait("document.getElementById('numbers').innerText.includes('9001')", SOON)
+    browser.wait("document.getElementById('numbers').innerText.includes('9001')")
     numbers = browser.eval("document.getElementById('numbers').innerText.split('\\n').map(Number)")
     shown = browser.eval("document.getElementById('shown').innerText.split('\\n')")
     same("the lines that are drawn", shown[:len(numbers)], [lines[it - 1] for it in numbers])
@@ -112,6 +114,9 @@ ENDLESS = {"Main.java": """class Main {
 }
 """}
 LONG_RUN = "--main Main --steps 20000000"
+# While it runs what is of an earlier run is pale. A page that it keeps from all else shows that to nobody: by the time that
+# it answers again the run is over.
+RUNS = "getComputedStyle(document.getElementById('view')).opacity < 1 && document.getElementById('stop')?.disabled === false"
 
 
 def try_stop(browser):
@@ -121,33 +126,34 @@ def try_stop(browser):
     def begin():
         browser.eval(f"""(() => {{ const it = document.getElementById('words'); it.value = '{LONG_RUN}';
             setTimeout(() => it.dispatchEvent(new Event('change', {{ bubbles: true }})), 20); }})()""")
-        time.sleep(0.3)
 
     begin()
-    began = time.monotonic()
-    count("what is of an earlier run is pale", browser.eval("getComputedStyle(document.getElementById('view')).opacity < 1"))
-    count("there is a button to stop that can be pressed", browser.eval("document.getElementById('stop')?.disabled === false"))
+    count("what is of an earlier run is pale while a program runs, and there is a button to stop", browser.wait(RUNS))
+    began = browser.spent()
     press(browser, "stop")
-    took = time.monotonic() - began
-    count("the page answers while a program runs", took < SOON, f"after {took:.1f} s")
-    count("that it was stopped is told", browser.wait("document.getElementById('view').innerText.includes('Stopped')", SOON))
+    took = browser.spent() - began
+    count("the page answers while a program runs", took < SOON, f"after {took:.1f} s of a processor")
+    count("that it was stopped is told", browser.wait("document.getElementById('view').innerText.includes('Stopped')"))
     same("it is told aloud", seen(browser, "told"), "Stopped.")
     begin()
-    began = time.monotonic()
+    count("a program runs again", browser.wait(RUNS))
+    began = browser.spent()
     type_at(browser, "}")
-    told = browser.wait("document.getElementById('say').innerText.includes('Main.java:1:1: Syntax')", SOON)
-    took = time.monotonic() - began
-    count("a change is judged while a program runs", told and took < SOON, f"after {took:.1f} s")
+    told = browser.wait("document.getElementById('say').innerText.includes('Main.java:1:1: Syntax')")
+    took = browser.spent() - began
+    count("a change is judged while a program runs", told and took < SOON, f"after {took:.1f} s of a processor")
     try_stopped_judgement(browser)
 
 
 def try_stopped_judgement(browser):
     """A judgement that is stopped says nothing of the files, and is asked for again by a button."""
     open_page(browser, link({"Main.java": "class Main { }\n"}))
-    type_at(browser, "}")
-    same("a judgement that is stopped", [press(browser, "stop"), (seen(browser, "say") or "").split("\n")[0]], [True, "Stopped."])
+    # At once, since else it may have been judged before.
+    browser.eval("""(() => { const it = document.getElementById('text'); it.focus(); it.setRangeText('}', 0, 0);
+        it.dispatchEvent(new Event('input', { bubbles: true })); document.getElementById('stop').click(); })()""")
+    same("a judgement that is stopped", (seen(browser, "say") or "").split("\n")[0], "Stopped.")
     browser.eval("document.querySelector('#say button')?.click(), 0")
-    count("it is asked for again", browser.wait("document.getElementById('say').innerText.includes('Main.java:1:1: Syntax')", FROZEN))
+    count("it is asked for again", browser.wait("document.getElementById('say').innerText.includes('Main.java:1:1: Syntax')"))
 
 
 def client(count_of_lines):
@@ -158,15 +164,13 @@ def client(count_of_lines):
 
 
 # Keeps for each frame in which a verdict is seen whether the text is the one that is refused, and what is told of it. A
-# verdict that was made quickly stands for some frames behind a change, so those of the first tenth of a second don't count.
+# verdict that was made quickly goes by a transition, some frames behind a change: while that is under way it doesn't count.
 RECORDER = """(() => {
     const text = document.getElementById('text'), say = document.getElementById('say'), seen = globalThis.seenFrames = [];
-    let length = 0, changed = 0;
     const frame = () => {
-        const verdict = say.firstElementChild, now = performance.now();
-        if (text.value.length !== length) [length, changed] = [text.value.length, now];
-        const isSeen = verdict && getComputedStyle(verdict).visibility === 'visible' && getComputedStyle(verdict).opacity === '1';
-        if (isSeen && now - changed > 100) seen.push(text.value.startsWith('}') === !!say.querySelector('.no'));
+        const verdict = say.firstElementChild, style = verdict && getComputedStyle(verdict);
+        const isSeen = verdict && style.visibility === 'visible' && style.opacity === '1' && !verdict.getAnimations().length;
+        if (isSeen) seen.push(text.value.startsWith('}') === !!say.querySelector('.no'));
         requestAnimationFrame(frame);
     };
     requestAnimationFrame(frame);
@@ -180,7 +184,7 @@ def try_typing(browser, adder):
     browser.eval(RECORDER)
     took = []
     # The quickest of many counts, since machines have other work.
-    while len(took) < 10 or (min(took) > TYPED_MS and len(took) < 60):
+    while len(took) < 10 or (min(took) > TYPED_MS and len(took) < 400):
         browser.eval("document.getElementById('text').focus(), document.getElementById('text').setSelectionRange(0, 0)")
         browser.type("}")
         took.append(until_told(browser, ".no"))
@@ -203,7 +207,7 @@ def until_told(browser, kind):
         const began = performance.now(), say = document.getElementById('say');
         const look = () => {{
             const it = say.querySelector('{kind}');
-            if (it && getComputedStyle(it).visibility === 'visible' || performance.now() - began > 20000)
+            if (it && getComputedStyle(it).visibility === 'visible' || performance.now() - began > 120000)
                 then(performance.now() - began);
             else setTimeout(look, 2);
         }};
@@ -223,12 +227,18 @@ def reload(browser):
     browser.eval("probe.settled?.()")
 
 
+def settle(browser):
+    """Waits until what a deed of the user leads to has been shown."""
+    browser.eval("new Promise(then => setTimeout(then, 50))")
+    browser.eval("probe.settled()")
+
+
 def pick(browser, name):
     """Picks an example as a user does."""
     browser.eval(f"""(() => {{ const it = document.getElementById('pick');
         it.selectedIndex = [...it.options].findIndex(one => one.textContent === {json.dumps(name)});
         it.dispatchEvent(new Event('change', {{ bubbles: true }})); }})()""")
-    time.sleep(0.2)
+    settle(browser)
 
 
 PICKED = "document.getElementById('pick').selectedOptions[0]?.textContent ?? ''"
@@ -249,17 +259,17 @@ def try_reload(browser):
     pick(browser, "two_buyer")
     count("there is a question", browser.eval("document.getElementById('question')?.open === true"))
     press(browser, "leave")
-    time.sleep(0.1)
+    settle(browser)
     same("what the user keeps", [written(browser)[:7], browser.eval(PICKED)], ["// mine", "adder"])
     hash_part = link({"Other.java": "class Other { }\n"})
     browser.eval(f"location.hash = {json.dumps(hash_part)}, 0")
-    count("there is a question before a link", browser.wait("document.getElementById('question')?.open === true", SOON))
+    count("there is a question before a link", browser.wait("document.getElementById('question')?.open === true"))
     press(browser, "leave")
-    time.sleep(0.1)
+    settle(browser)
     same("what the user keeps, and the address", [written(browser)[:7], browser.eval("location.hash")], ["// mine", ""])
     pick(browser, "two_buyer")
     press(browser, "replace")
-    time.sleep(0.3)
+    settle(browser)
     same("what the user gives up", [written(browser)[:7] != "// mine", browser.eval(PICKED)], [True, "two_buyer"])
     try_linked_reload(browser, hash_part)
 
@@ -275,7 +285,7 @@ def try_linked_reload(browser, hash_part):
     browser.go(f"file://{PAGE}{link({'New.java': 'class New { }'})}", "document.getElementById('question')?.open === true")
     same("what stands there until the user answers", written(browser)[:7], "// mine")
     press(browser, "replace")
-    browser.wait(READY)
+    browser.wait(f"{READY} && document.getElementById('text').value !== '' && document.getElementById('question')?.open === false")
     same("the link that the user opens", written(browser), "class New { }")
 
 

@@ -32,16 +32,10 @@ public final class Plays {
         return addresses;
     }
 
-    private static int port() throws Exception {
-        try (ServerSocket door = new ServerSocket(0, 1, InetAddress.getLoopbackAddress())) {
-            return door.getLocalPort();
-        }
-    }
-
     /** Both roles of a conversation, each in a thread, again and again at one address. */
     private static void both() throws Exception {
         int done = 0;
-        Map<String, InetSocketAddress> addresses = addresses("C=" + port(), "S=1");
+        Map<String, InetSocketAddress> addresses = addresses("C=" + Integer.getInteger("port"), "S=1");
         for (int k = 0; k < 25; k++) {
             int number = k;
             String[] other = new String[1];
@@ -96,7 +90,7 @@ public final class Plays {
 
     /** A role that waits for a peer in a thread which is interrupted. */
     private static void interruptedBefore() throws Exception {
-        Map<String, InetSocketAddress> addresses = addresses("C=" + port(), "S=1");
+        Map<String, InetSocketAddress> addresses = addresses("C=" + Integer.getInteger("port"), "S=1");
         String[] ending = new String[1];
         Thread thread = new Thread(() -> ending[0] = Session.play("C", NONE, addresses, () -> Session.take("S", "hi")));
         thread.start();

@@ -23,6 +23,8 @@ import mungo.lib.Wires;
 public final class Serves {
     private static final AtomicInteger RUNNING = new AtomicInteger();
     private static final AtomicInteger HIGHEST = new AtomicInteger();
+    /** The first sessions wait for one another: as many as may run at once. */
+    private static final CountDownLatch FULL = new CountDownLatch(7);
 
     private Serves() {}
 
@@ -85,7 +87,9 @@ public final class Serves {
 
     private static void serves() {
         HIGHEST.accumulateAndGet(RUNNING.incrementAndGet(), Math::max);
+        FULL.countDown();
         try {
+            FULL.await(300, TimeUnit.SECONDS);
             String label = Session.look("C");
             if (label.equals("throw")) {
                 throw new IllegalStateException("mine");

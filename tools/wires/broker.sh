@@ -31,7 +31,7 @@ rabbitmq() {
 
 # Settles where the broker is to be, with its ports in `broker`, `sealed`, `inner` and `names`, and starts what keeps names.
 settle_broker() {
-    broker=$(port) sealed=$(port) inner=$(port) names=$(port)
+    broker=$(port $each) sealed=$(port $each) inner=$(port $each) names=$(port $each)
     mkdir -p "$room/rabbit/made"
     # In memory where that can be: what is written for good waits for nobody else's disk then.
     data=$(mktemp -d -p /dev/shm 2>/dev/null) || data=$(mktemp -d -p "$room")
@@ -53,7 +53,8 @@ END
     chown -R "$user" "$room/rabbit" "$data"
     # Else the broker starts one that stays.
     ERL_EPMD_PORT=$names ERL_EPMD_ADDRESS=127.0.0.1 epmd >/dev/null 2>&1 </dev/null &
-    await answers "$names"
+    last=$!
+    listens "$names"
     link=amqp://127.0.0.1:$broker
 }
 
@@ -64,10 +65,15 @@ broker_starts() {
     listens "$broker"
 }
 
+# Starts it where it was, when its name isn't kept any more; where it can't start then, once more.
 start_broker() {
-    broker_starts
+    await_not is_named
+    broker_starts || { kill_broker && broker_starts; }
     count "the broker is there" $? "$room/rabbit.said"
 }
+
+# Whether the name of the broker is kept. What keeps it sees some time behind the broker's end that it is free.
+is_named() { ERL_EPMD_PORT=$names epmd -names 2>/dev/null | grep -q '^name mungo '; }
 
 # Settles and starts the broker. Where it can't start it is settled anew, with other ports and files, twice at most.
 begin_broker() {
@@ -150,18 +156,17 @@ outage() {
     local s1 c1 classes=slow
     rm -f "$room/stop"
     program slow C 'role C, role S' 'rec X { choice at C { add(int) to S; total(int) from S; continue X; } or { bye() to S; } }' \
-        'int t = 0; while (t < 100) { r.send_addIntToS(1); t = r.receive_totalIntFromS(); } r.send_byeToS(); System.out.println(t);'
+        'int t = 0; while (t < 100) { r.send_addIntToS(1); t = r.receive_totalIntFromS(); if (t == 10) { System.out.println("goes on"); } }
+        r.send_byeToS(); System.out.println(t);'
     cp "$room/adder/class/SMain.class" "$room/adder/class/SRole.class" "$room/slow/class"
     many s1 serves S SMain mungo.amqp.Amqp "$link#Slow/C/S" "$room/stop"
     many c1 plays C CMain mungo.amqp.Amqp "$link#Slow/C/S" 50 50
-    await grep -q begun "$room/c1.err"
-    sleep 2
+    await grep -q 'goes on' "$room/c1.out"
     kill_broker
     await_not answers "$broker"
     count "the broker is killed" $? "$room/c1.out"
     jobs -pr | grep -qx "$c1"
     count "the broker is killed in the middle" $? "$room/c1.out"
-    sleep 1
     start_broker
     wait "$c1"
     touch "$room/stop"
@@ -169,27 +174,31 @@ outage() {
     ended_as "the broker is killed: those who play" c1 "{done=50}, left: no threads, no sockets"
     ended_as "the broker is killed: who serves" s1 "{done=50}, left: no threads, no sockets"
     says "the broker is killed: what is printed" <(cat "$room"/[cs]1.out | grep -v done | sort | uniq -c | sed 's/^ *//') "50 100
+50 goes on
 50 sum 100"
 }
 
 # A role is killed: the other waits for it as long as a role does, and ends.
 killed() {
-    local s1 c1 limit=8 patience=20
-    many s1 serves S Sleeps mungo.amqp.Amqp "$link#Adder/C/S" "$room/never"
-    await grep -q serves "$room/s1.err"
-    many c1 plays C CMain mungo.amqp.Amqp "$link#Adder/C/S" 1 1
-    await grep -q begun "$room/s1.err"
-    kill -9 "$s1"
-    wait "$s1" 2>/dev/null
-    wait "$c1"
+    local s1 c1 limit
+    for limit in 8 30 120; do
+        many s1 serves S Sleeps mungo.amqp.Amqp "$link#Adder/C/S" "$room/never"
+        await grep -q serves "$room/s1.err"
+        many c1 plays C CMain mungo.amqp.Amqp "$link#Adder/C/S" 1 1
+        await grep -q begun "$room/s1.err"
+        kill -9 "$s1"
+        wait "$s1" 2>/dev/null
+        wait "$c1"
+        grep -qx "C: S: no message within $limit seconds" "$room/c1.err" && break
+    done
     ended_as "a role is killed" c1 "{waits S=1}, left: no threads, no sockets"
-    grep -qx 'C: S: no message within 8 seconds' "$room/c1.err"
+    grep -qx "C: S: no message within $limit seconds" "$room/c1.err"
     count "a role is killed: why" $? "$room/c1.err"
 }
 
 # Roles by settings alone, which are processes; and a role to which nobody comes.
 by_settings() {
-    local other
+    local other seconds was
     jvm -Dmungo.role=S -Dmungo.wire=C="$link#Adder/C/S" "${long[@]}" -cp "$room/adder/class:$lib:$room/amqp:$client:$logs" SMain \
         >"$room/S.out" 2>"$room/S.err" &
     other=$!
@@ -199,25 +208,34 @@ by_settings() {
     wait $other
     is "AMQP by settings: S" $? 0 "$room/S.err"
     says "AMQP by settings: what is printed" <(cat "$room/out" "$room/S.out") $'1\n3\n6\nsum 6'
-    jvm -Dmungo.role=C -Dmungo.wire=S="$link#Adder/C/S" -Dmungo.patience=3 -cp "$room/adder/class:$lib:$room/amqp:$client:$logs" CMain \
-        >"$room/out" 2>"$room/err"
-    is "nobody is invited" $? 7 "$room/err"
+    for seconds in 3 12 60; do
+        jvm -Dmungo.role=C -Dmungo.wire=S="$link#Adder/C/S" -Dmungo.patience=$seconds \
+            -cp "$room/adder/class:$lib:$room/amqp:$client:$logs" CMain >"$room/out" 2>"$room/err"
+        was=$?
+        grep -qx "C: S: it hasn't come" "$room/err" && break
+    done
+    is "nobody is invited" $was 7 "$room/err"
     says "nobody is invited: the lines" "$room/err" $'C: S: it hasn\'t come\nC: no peer S'
 }
 
 # The broker by TLS, with certificates that are right and wrong: NAME CERTIFICATE HOST WANTED.
 broker_by_tls() {
-    local name
+    local name seconds was line
     for name in own:127.0.0.1 expired:127.0.0.1 strange:127.0.0.1 own:127.0.0.2; do
-        # shellcheck disable=SC2046
-        jvm -Dmungo.role=C -Dmungo.wire=S="amqps://${name#*:}:$sealed#Adder/C/S" -Dmungo.patience=6 $(by_tls "${name%:*}") \
-            -cp "$room/adder/class:$lib:$room/amqp:$client:$logs" CMain >"$room/out" 2>"$room/err"
-        is "the broker by TLS, $name" $? 7 "$room/err"
         case $name in
-            own:127.0.0.1) grep -qx "C: S: it hasn't come" "$room/err" ;;
-            *:127.0.0.2) grep -q "its certificate has another name" "$room/err" ;;
-            *) grep -q "C: S: the broker at 127.0.0.1:$sealed: " "$room/err" ;;
+            own:127.0.0.1) line="^C: S: it hasn't come\$" ;;
+            *:127.0.0.2) line="its certificate has another name" ;;
+            *) line="C: S: the broker at 127.0.0.1:$sealed: " ;;
         esac
+        for seconds in 6 24 96; do
+            # shellcheck disable=SC2046
+            jvm -Dmungo.role=C -Dmungo.wire=S="amqps://${name#*:}:$sealed#Adder/C/S" -Dmungo.patience=$seconds $(by_tls "${name%:*}") \
+                -cp "$room/adder/class:$lib:$room/amqp:$client:$logs" CMain >"$room/out" 2>"$room/err"
+            was=$?
+            grep -q "$line" "$room/err" && break
+        done
+        is "the broker by TLS, $name" $was 7 "$room/err"
+        grep -q "$line" "$room/err"
         count "the broker by TLS, $name: why" $? "$room/err"
     done
 }

@@ -58,7 +58,7 @@ ${2%%:*}: no peer S"
 part_settings() {
     taker
     local at here=C=127.0.0.1:1 wire=$top/tools/wires/odd.wire
-    at=$(port)
+    at=$(port $each)
     wrong "bad patience" 70 "mungo: mungo.patience has soon, and not seconds from 0 to 1000000" -Dmungo.patience=soon
     wrong "bad limit" 70 "mungo: mungo.limit has 0, and not seconds from 1 to 1000000" -Dmungo.limit=0
     wrong "bad port" 70 "mungo: mungo.roles has S=127.0.0.1:70000, and not ROLE=HOST:PORT" -Dmungo.roles=S=127.0.0.1:70000

@@ -10,7 +10,7 @@ taker() {
 # status comes into `was`.
 meets() {
     local at
-    at=$(port)
+    at=$(port $each)
     start "$room/peer" "${peer[@]}" to:"$at" "$@"
     jvm -Dmungo.role=C -Dmungo.roles=C=127.0.0.1:"$at",S=127.0.0.1:1 "${long[@]}" "${options[@]}" \
         -cp "$room/taker/class:$lib" CMain >"$room/out" 2>"$room/err"
@@ -137,7 +137,7 @@ secrets() {
 # least: SECRET SECONDS_S SECONDS_C. Their statuses come into `was` and `wasS`.
 pair() {
     local at other
-    at=$(port)
+    at=$(port $each)
     jvm -Dmungo.role=S -Dmungo.roles=C=127.0.0.1:"$at" -Dmungo.secret="$1" -Dmungo.patience="$2" -cp "$room/giver/class:$lib" SMain \
         >"$room/S.out" 2>"$room/S.err" &
     other=$!
@@ -151,7 +151,7 @@ pair() {
 # Many that connect and say nothing, before the peer comes: it is heard, and they take few threads.
 strangers() {
     local at role
-    at=$(port)
+    at=$(port $each)
     start "$room/strangers" "${peer[@]}" to:"$at" strangers:120 say:there wait
     java "${short[@]}" -Dmungo.role=C -Dmungo.roles=C=127.0.0.1:"$at",S=127.0.0.1:1 "${long[@]}" -cp "$room/taker/class:$lib" CMain \
         >"$room/out" 2>"$room/err" </dev/null &
@@ -170,7 +170,7 @@ strangers() {
 # One that connects and says nothing is let go while the role still waits for its peer.
 greeting_ends() {
     local at role stranger
-    at=$(port)
+    at=$(port $each)
     start "$room/stranger" "${peer[@]}" to:"$at" wait
     stranger=$last
     jvm -Dmungo.role=C -Dmungo.roles=C=127.0.0.1:"$at",S=127.0.0.1:1 "${long[@]}" -cp "$room/taker/class:$lib" CMain \
@@ -187,7 +187,7 @@ greeting_ends() {
 # A role that a larger program plays, whose peer sends more than there is memory for: its line is closed, and the program goes on.
 dies() {
     local at
-    at=$(port)
+    at=$(port $each)
     start "$room/peer" "${peer[@]}" to:"$at" greet:S,C text:hi send:S told:16000000 pour:x
     jvm -Xmx24m "${long[@]}" -cp "$lib" Plays "$at" "$room/peer" >"$room/out" 2>"$room/err"
     is "a thread that dies in a larger program" $? 0 "$room/err"
@@ -200,7 +200,7 @@ floods() {
     local at b
     program flooded C 'role B, role C, role S' 'a() from B; hi(int) from S;' \
         'r.receive_aFromB(); System.out.println("heard " + r.receive_hiIntFromS());'
-    at=$(port)
+    at=$(port $each)
     start "$room/flood" "${peer[@]}" to:"$at" greet:S,C flood:'\0\0\0\2hiI\0\0\0\7'
     start "$room/B" "${peer[@]}" until:"$room/flood" text:a send:- close
     b=$(first_line "$room/B")
@@ -217,7 +217,7 @@ unread() {
     local at was
     program sender C 'role C, role S' 'rec X { a(String) to S; continue X; }' \
         'String t = "0123456789abcdef"; int i = 0; while (i < 12) { t = t + t; i++; } do { r.send_aStringToS(t); } while (true);'
-    at=$(port)
+    at=$(port $each)
     start "$room/peer" "${peer[@]}" to:"$at" greet:S,C wait
     jvm -Dmungo.role=C -Dmungo.roles=C=127.0.0.1:"$at",S=127.0.0.1:1 "${long[@]}" -Dmungo.limit=1 -cp "$room/sender/class:$lib" \
         CMain >"$room/out" 2>"$room/err"
@@ -231,7 +231,7 @@ unread() {
 part_play() {
     "$mungo" check "$top/tools/wires/Quotient.java" >"$room/said" 2>&1
     is "play: the class that divides is checked" $? 0 "$room/said"
-    jvm "${long[@]}" -cp "$lib" Plays >"$room/out" 2>"$room/err"
+    jvm "${long[@]}" -Dport="$(port $each)" -cp "$lib" Plays >"$room/out" 2>"$room/err"
     is "play" $? 0 "$room/err"
     says "play: what is answered" "$room/out" "both: done 25 times
 both, no threads are left

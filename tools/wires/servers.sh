@@ -69,7 +69,7 @@ part_smtp() {
     by_both smtp "$top/examples/smtp/C.scr" "$top/examples/smtp/CMain.java"
     by_both codes "$top"/examples/smtp_codes/*.*
     if python=$(python_of_mail); then
-        at=$(port)
+        at=$(port $each)
         start "$room/aiosmtpd.said" "$python" "$top/tools/wires/mail_server.py" "$at" "$room/maildir"
         listens "$at"
         count "aiosmtpd is there" $? "$room/aiosmtpd.said"
@@ -78,7 +78,7 @@ part_smtp() {
         lacking "no aiosmtpd here"
     fi
     if command -v exim4 >/dev/null && command -v setpriv >/dev/null; then
-        at=$(port)
+        at=$(port $each)
         settings exim.conf "$at" "$room/exim"
         "${as_user[@]}" mkdir "$room/exim/mail" "$room/exim/spool"
         start "$room/exim.said" "${as_user[@]}" exim4 -C "$room/exim/conf" -bdf
@@ -122,7 +122,7 @@ mails 1"
 
 # Starts the server of examples/smtp by class files of a WAY: its number comes into `server`, its port into `at`.
 serves() {
-    at=$(port)
+    at=$(port $each)
     jvm -Dmungo.role=S -Dmungo.roles=C=127.0.0.1:"$at" -Dmungo.wire=C="lines:$(roomy examples/smtp/server_wire)" "${long[@]}" \
         -cp "$room/smtp_server/$1:$lib" SMain >"$room/server" 2>"$room/err" &
     server=$!
@@ -132,7 +132,7 @@ part_redis() {
     local at way
     by_both redis "$top"/examples/redis/*.*
     command -v redis-server >/dev/null || { lacking "no Redis here"; return; }
-    at=$(port)
+    at=$(port $each)
     start "$room/redis.said" redis-server --port "$at" --bind 127.0.0.1 --save '' --dir "$room"
     listens "$at"
     count "Redis is there" $? "$room/redis.said"
@@ -165,7 +165,7 @@ part_pop3() {
         lacking "no dovecot here"
         return
     fi
-    at=$(port)
+    at=$(port $each)
     settings dovecot.conf "$at" "$room/dove"
     "${as_user[@]}" mkdir -p "$room/dove"/{run,state,mail/new,mail/cur,mail/tmp}
     start "$room/dove.said" "${as_user[@]}" dovecot -F -c "$room/dove/conf"
@@ -175,7 +175,7 @@ part_pop3() {
         for n in 1 2; do
             printf 'Subject: mail %d\n\nline of %d\n.dotted\n' $n $n | "${as_user[@]}" tee "$room/dove/mail/new/100$n.$way.host" >/dev/null
         done
-        plays "$room/pop3/$way" CMain "$at" "lines:$top/examples/pop3/wire"
+        plays "$room/pop3/$way" CMain "$at" "lines:$(roomy examples/pop3/wire)"
         is "pop3, $way" $? 0 "$room/err"
         says "pop3, $way: what is printed" "$room/out" "refused: [AUTH] Authentication failed.
 2 mails of 78 bytes
@@ -201,7 +201,7 @@ part_http() {
     : >"$room/www/empty.txt"
     for version in 1.0 1.1; do
         python3 -m http.server --help | grep -q -- --protocol || { lacking "an http.server without --protocol"; return; }
-        at=$(port)
+        at=$(port $each)
         start "$room/http.said" python3 -m http.server --protocol HTTP/$version --bind 127.0.0.1 --directory "$room/www" "$at"
         listens "$at"
         count "http.server $version is there" $? "$room/http.said"
@@ -241,7 +241,7 @@ part_packages() {
 # The program of the Maven project delivers to aiosmtpd: NAME CLASSPATH PYTHON.
 demo() {
     local at
-    at=$(port)
+    at=$(port $each)
     start "$room/aiosmtpd.said" "$3" "$top/tools/wires/mail_server.py" "$at" "$room/maildir"
     listens "$at"
     count "$1: aiosmtpd is there" $? "$room/aiosmtpd.said"

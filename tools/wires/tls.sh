@@ -37,7 +37,7 @@ by_tls() {
 # Their statuses come into `was` and `wasS`.
 sealed() {
     local at other
-    at=$(port)
+    at=$(port $each)
     # shellcheck disable=SC2046
     jvm -Dmungo.role=C -Dmungo.roles=C=localhost:"$at",S=localhost:1 $(by_tls "$1") -Dmungo.patience=$(($3 + 3)) \
         -cp "$room/taker/class:$lib" CMain >"$room/out" 2>"$room/err" &

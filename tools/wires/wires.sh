@@ -123,7 +123,7 @@ C: S says 7"
     says "mixed, one process: what S heard" <(tail -1 "$room/peer") "b'HI by way of C\\r\\n'"
     start "$room/peer" "${peer[@]}" read 'send:NO 7\r\n' close
     at=$(first_line "$room/peer")
-    b=$(port)
+    b=$(port $each)
     jvm -Dmungo.role=B -Dmungo.roles=B=127.0.0.1:"$b",C=127.0.0.1:1 "${long[@]}" -cp "$room/edge/class:$lib" BMain \
         >"$room/B.out" 2>&1 &
     role=$!
