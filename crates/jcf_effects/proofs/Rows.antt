@@ -3,6 +3,8 @@ use Rattle.std.proofs.Common.{◌≡◌, ℕ, zero, suc, ◌+◌, ◌<◌, ◌�
 use Rattle.std.proofs.Common.{nat_eq, refl, sym, ◌∙◌, arith}
 use Rattle.std.proofs.lemmas.Bool.Decides.{nat_tests}
 use Rattle.jcf_effects.specs.declared.Row.{Row}
+use Rattle.jcf_effects.specs.declared.effect.Effect.{Effect}
+use Rattle.jcf_effects.specs.declared.operands.Operands.{Operands}
 use Rattle.jcf_effects.specs.declared.table.TheConstants.{TABLE}
 use Rattle.jcf_effects.specs.Table.{Opcode, opcodes, row_among, row_of}
 
@@ -20,8 +22,15 @@ here o os n e = let t : nat_eq o.number n ≡ true = grind (arith, nat_tests) in
 later : (o : Opcode) (os : List Opcode) (n : ℕ) → o.number < n → row_among (o ∷ os) n ≡ row_among os n
 later o os n e = let t : nat_eq o.number n ≡ false = grind (arith, nat_tests) in rw t refl
 
-found : (os : List Opcode) (k n i : ℕ) (d : Row) → numbered k os ≡ true → n ≡ k + i → i < length os → row_among os n ≡ Some
-    (get_or (map (λ (o : Opcode). o.row) os) i d)
+-- a row as the program's table has it, and back
+abbrev parted : Opcode → Operands × Effect
+parted o = (o.row.operands, o.row.effect)
+
+abbrev pub joined : Operands × Effect → Row
+joined p = record { operands = p.0; effect = p.1 }
+
+found : (os : List Opcode) (k n i : ℕ) (d : Operands × Effect) → numbered k os ≡ true → n ≡ k + i → i < length os
+    → row_among os n ≡ Some (joined (get_or (map parted os) i d))
 unfolding numbered
 found [] k n i d e same lt = absurd (omega arith)
 found (o ∷ os) k n zero d e same lt =
@@ -41,7 +50,7 @@ none (o ∷ os) k n e lt =
     let is : o.number < n = grind (arith, nat_tests) in
     later o os n is ∙ none os (suc k) n t.1 (omega arith)
 
-pub row_at : (n : ℕ) (d : Row) → n < 202 → Some (get_or TABLE n d) ≡ row_of n
+pub row_at : (n : ℕ) (d : Operands × Effect) → n < 202 → Some (joined (get_or TABLE n d)) ≡ row_of n
 unfolding numbered row_of
 row_at n d lt = sym (found opcodes 0 n n d refl (omega arith) lt)
 

@@ -27,7 +27,8 @@ pub fn row_of(opcode: u8) -> Option<Row>
 {
     let number = opcode as usize;
     if number < TABLE.len() {
-        Some(TABLE[number])
+        let (operands, effect) = TABLE[number];
+        Some(Row { operands, effect })
     } else {
         None
     }

@@ -1,1020 +1,437 @@
 //! The rows of the table, in the order of the opcodes' numbers.
 
-use crate::Row;
 use crate::effect::{Calling, Comparison, Effect, Local, Move};
 use crate::operands::Operands;
 use jcf_tree::Kind;
 
-/// A row for each opcode, from `nop`, whose number is 0.
-pub(crate) static TABLE: [Row; 202] = [
+/// For each opcode, from `nop`, whose number is 0, what stands behind it and what it does.
+pub(crate) static TABLE: [(Operands, Effect); 202] = [
     // nop
-    Row {
-        operands: Operands::Nothing,
-        effect: Effect::Plain { takes: 0, gives: 0 },
-    },
+    (Operands::Nothing, Effect::Plain { takes: 0, gives: 0 }),
     // aconst_null
-    Row {
-        operands: Operands::Nothing,
-        effect: Effect::Null,
-    },
+    (Operands::Nothing, Effect::Null),
     // iconst_m1
-    Row {
-        operands: Operands::Nothing,
-        effect: Effect::Plain { takes: 0, gives: 1 },
-    },
+    (Operands::Nothing, Effect::Plain { takes: 0, gives: 1 }),
     // iconst_0
-    Row {
-        operands: Operands::Nothing,
-        effect: Effect::Zero,
-    },
+    (Operands::Nothing, Effect::Zero),
     // iconst_1
-    Row {
-        operands: Operands::Nothing,
-        effect: Effect::One,
-    },
+    (Operands::Nothing, Effect::One),
     // iconst_2
-    Row {
-        operands: Operands::Nothing,
-        effect: Effect::Plain { takes: 0, gives: 1 },
-    },
+    (Operands::Nothing, Effect::Plain { takes: 0, gives: 1 }),
     // iconst_3
-    Row {
-        operands: Operands::Nothing,
-        effect: Effect::Plain { takes: 0, gives: 1 },
-    },
+    (Operands::Nothing, Effect::Plain { takes: 0, gives: 1 }),
     // iconst_4
-    Row {
-        operands: Operands::Nothing,
-        effect: Effect::Plain { takes: 0, gives: 1 },
-    },
+    (Operands::Nothing, Effect::Plain { takes: 0, gives: 1 }),
     // iconst_5
-    Row {
-        operands: Operands::Nothing,
-        effect: Effect::Plain { takes: 0, gives: 1 },
-    },
+    (Operands::Nothing, Effect::Plain { takes: 0, gives: 1 }),
     // lconst_0
-    Row {
-        operands: Operands::Nothing,
-        effect: Effect::Plain { takes: 0, gives: 2 },
-    },
+    (Operands::Nothing, Effect::Plain { takes: 0, gives: 2 }),
     // lconst_1
-    Row {
-        operands: Operands::Nothing,
-        effect: Effect::Plain { takes: 0, gives: 2 },
-    },
+    (Operands::Nothing, Effect::Plain { takes: 0, gives: 2 }),
     // fconst_0
-    Row {
-        operands: Operands::Nothing,
-        effect: Effect::Plain { takes: 0, gives: 1 },
-    },
+    (Operands::Nothing, Effect::Plain { takes: 0, gives: 1 }),
     // fconst_1
-    Row {
-        operands: Operands::Nothing,
-        effect: Effect::Plain { takes: 0, gives: 1 },
-    },
+    (Operands::Nothing, Effect::Plain { takes: 0, gives: 1 }),
     // fconst_2
-    Row {
-        operands: Operands::Nothing,
-        effect: Effect::Plain { takes: 0, gives: 1 },
-    },
+    (Operands::Nothing, Effect::Plain { takes: 0, gives: 1 }),
     // dconst_0
-    Row {
-        operands: Operands::Nothing,
-        effect: Effect::Plain { takes: 0, gives: 2 },
-    },
+    (Operands::Nothing, Effect::Plain { takes: 0, gives: 2 }),
     // dconst_1
-    Row {
-        operands: Operands::Nothing,
-        effect: Effect::Plain { takes: 0, gives: 2 },
-    },
+    (Operands::Nothing, Effect::Plain { takes: 0, gives: 2 }),
     // bipush
-    Row {
-        operands: Operands::Byte,
-        effect: Effect::Plain { takes: 0, gives: 1 },
-    },
+    (Operands::Byte, Effect::Plain { takes: 0, gives: 1 }),
     // sipush
-    Row {
-        operands: Operands::Short,
-        effect: Effect::Plain { takes: 0, gives: 1 },
-    },
+    (Operands::Short, Effect::Plain { takes: 0, gives: 1 }),
     // ldc
-    Row {
-        operands: Operands::NearConstant(Kind::Loadable),
-        effect: Effect::Other { takes: 0, gives: 1 },
-    },
+    (
+        Operands::NearConstant(Kind::Loadable),
+        Effect::Other { takes: 0, gives: 1 },
+    ),
     // ldc_w
-    Row {
-        operands: Operands::Constant(Kind::Loadable),
-        effect: Effect::Other { takes: 0, gives: 1 },
-    },
+    (
+        Operands::Constant(Kind::Loadable),
+        Effect::Other { takes: 0, gives: 1 },
+    ),
     // ldc2_w
-    Row {
-        operands: Operands::Constant(Kind::WideLoadable),
-        effect: Effect::Other { takes: 0, gives: 2 },
-    },
+    (
+        Operands::Constant(Kind::WideLoadable),
+        Effect::Other { takes: 0, gives: 2 },
+    ),
     // iload
-    Row {
-        operands: Operands::Local,
-        effect: Effect::Load(1, Local::Behind),
-    },
+    (Operands::Local, Effect::Load(1, Local::Behind)),
     // lload
-    Row {
-        operands: Operands::Local,
-        effect: Effect::Load(2, Local::Behind),
-    },
+    (Operands::Local, Effect::Load(2, Local::Behind)),
     // fload
-    Row {
-        operands: Operands::Local,
-        effect: Effect::Load(1, Local::Behind),
-    },
+    (Operands::Local, Effect::Load(1, Local::Behind)),
     // dload
-    Row {
-        operands: Operands::Local,
-        effect: Effect::Load(2, Local::Behind),
-    },
+    (Operands::Local, Effect::Load(2, Local::Behind)),
     // aload
-    Row {
-        operands: Operands::Local,
-        effect: Effect::Load(1, Local::Behind),
-    },
+    (Operands::Local, Effect::Load(1, Local::Behind)),
     // iload_0
-    Row {
-        operands: Operands::Nothing,
-        effect: Effect::Load(1, Local::At(0)),
-    },
+    (Operands::Nothing, Effect::Load(1, Local::At(0))),
     // iload_1
-    Row {
-        operands: Operands::Nothing,
-        effect: Effect::Load(1, Local::At(1)),
-    },
+    (Operands::Nothing, Effect::Load(1, Local::At(1))),
     // iload_2
-    Row {
-        operands: Operands::Nothing,
-        effect: Effect::Load(1, Local::At(2)),
-    },
+    (Operands::Nothing, Effect::Load(1, Local::At(2))),
     // iload_3
-    Row {
-        operands: Operands::Nothing,
-        effect: Effect::Load(1, Local::At(3)),
-    },
+    (Operands::Nothing, Effect::Load(1, Local::At(3))),
     // lload_0
-    Row {
-        operands: Operands::Nothing,
-        effect: Effect::Load(2, Local::At(0)),
-    },
+    (Operands::Nothing, Effect::Load(2, Local::At(0))),
     // lload_1
-    Row {
-        operands: Operands::Nothing,
-        effect: Effect::Load(2, Local::At(1)),
-    },
+    (Operands::Nothing, Effect::Load(2, Local::At(1))),
     // lload_2
-    Row {
-        operands: Operands::Nothing,
-        effect: Effect::Load(2, Local::At(2)),
-    },
+    (Operands::Nothing, Effect::Load(2, Local::At(2))),
     // lload_3
-    Row {
-        operands: Operands::Nothing,
-        effect: Effect::Load(2, Local::At(3)),
-    },
+    (Operands::Nothing, Effect::Load(2, Local::At(3))),
     // fload_0
-    Row {
-        operands: Operands::Nothing,
-        effect: Effect::Load(1, Local::At(0)),
-    },
+    (Operands::Nothing, Effect::Load(1, Local::At(0))),
     // fload_1
-    Row {
-        operands: Operands::Nothing,
-        effect: Effect::Load(1, Local::At(1)),
-    },
+    (Operands::Nothing, Effect::Load(1, Local::At(1))),
     // fload_2
-    Row {
-        operands: Operands::Nothing,
-        effect: Effect::Load(1, Local::At(2)),
-    },
+    (Operands::Nothing, Effect::Load(1, Local::At(2))),
     // fload_3
-    Row {
-        operands: Operands::Nothing,
-        effect: Effect::Load(1, Local::At(3)),
-    },
+    (Operands::Nothing, Effect::Load(1, Local::At(3))),
     // dload_0
-    Row {
-        operands: Operands::Nothing,
-        effect: Effect::Load(2, Local::At(0)),
-    },
+    (Operands::Nothing, Effect::Load(2, Local::At(0))),
     // dload_1
-    Row {
-        operands: Operands::Nothing,
-        effect: Effect::Load(2, Local::At(1)),
-    },
+    (Operands::Nothing, Effect::Load(2, Local::At(1))),
     // dload_2
-    Row {
-        operands: Operands::Nothing,
-        effect: Effect::Load(2, Local::At(2)),
-    },
+    (Operands::Nothing, Effect::Load(2, Local::At(2))),
     // dload_3
-    Row {
-        operands: Operands::Nothing,
-        effect: Effect::Load(2, Local::At(3)),
-    },
+    (Operands::Nothing, Effect::Load(2, Local::At(3))),
     // aload_0
-    Row {
-        operands: Operands::Nothing,
-        effect: Effect::Load(1, Local::At(0)),
-    },
+    (Operands::Nothing, Effect::Load(1, Local::At(0))),
     // aload_1
-    Row {
-        operands: Operands::Nothing,
-        effect: Effect::Load(1, Local::At(1)),
-    },
+    (Operands::Nothing, Effect::Load(1, Local::At(1))),
     // aload_2
-    Row {
-        operands: Operands::Nothing,
-        effect: Effect::Load(1, Local::At(2)),
-    },
+    (Operands::Nothing, Effect::Load(1, Local::At(2))),
     // aload_3
-    Row {
-        operands: Operands::Nothing,
-        effect: Effect::Load(1, Local::At(3)),
-    },
+    (Operands::Nothing, Effect::Load(1, Local::At(3))),
     // iaload
-    Row {
-        operands: Operands::Nothing,
-        effect: Effect::IntLoad,
-    },
+    (Operands::Nothing, Effect::IntLoad),
     // laload
-    Row {
-        operands: Operands::Nothing,
-        effect: Effect::Other { takes: 2, gives: 2 },
-    },
+    (Operands::Nothing, Effect::Other { takes: 2, gives: 2 }),
     // faload
-    Row {
-        operands: Operands::Nothing,
-        effect: Effect::Other { takes: 2, gives: 1 },
-    },
+    (Operands::Nothing, Effect::Other { takes: 2, gives: 1 }),
     // daload
-    Row {
-        operands: Operands::Nothing,
-        effect: Effect::Other { takes: 2, gives: 2 },
-    },
+    (Operands::Nothing, Effect::Other { takes: 2, gives: 2 }),
     // aaload
-    Row {
-        operands: Operands::Nothing,
-        effect: Effect::Other { takes: 2, gives: 1 },
-    },
+    (Operands::Nothing, Effect::Other { takes: 2, gives: 1 }),
     // baload
-    Row {
-        operands: Operands::Nothing,
-        effect: Effect::Other { takes: 2, gives: 1 },
-    },
+    (Operands::Nothing, Effect::Other { takes: 2, gives: 1 }),
     // caload
-    Row {
-        operands: Operands::Nothing,
-        effect: Effect::Other { takes: 2, gives: 1 },
-    },
+    (Operands::Nothing, Effect::Other { takes: 2, gives: 1 }),
     // saload
-    Row {
-        operands: Operands::Nothing,
-        effect: Effect::Other { takes: 2, gives: 1 },
-    },
+    (Operands::Nothing, Effect::Other { takes: 2, gives: 1 }),
     // istore
-    Row {
-        operands: Operands::Local,
-        effect: Effect::Store(1, Local::Behind),
-    },
+    (Operands::Local, Effect::Store(1, Local::Behind)),
     // lstore
-    Row {
-        operands: Operands::Local,
-        effect: Effect::Store(2, Local::Behind),
-    },
+    (Operands::Local, Effect::Store(2, Local::Behind)),
     // fstore
-    Row {
-        operands: Operands::Local,
-        effect: Effect::Store(1, Local::Behind),
-    },
+    (Operands::Local, Effect::Store(1, Local::Behind)),
     // dstore
-    Row {
-        operands: Operands::Local,
-        effect: Effect::Store(2, Local::Behind),
-    },
+    (Operands::Local, Effect::Store(2, Local::Behind)),
     // astore
-    Row {
-        operands: Operands::Local,
-        effect: Effect::Store(1, Local::Behind),
-    },
+    (Operands::Local, Effect::Store(1, Local::Behind)),
     // istore_0
-    Row {
-        operands: Operands::Nothing,
-        effect: Effect::Store(1, Local::At(0)),
-    },
+    (Operands::Nothing, Effect::Store(1, Local::At(0))),
     // istore_1
-    Row {
-        operands: Operands::Nothing,
-        effect: Effect::Store(1, Local::At(1)),
-    },
+    (Operands::Nothing, Effect::Store(1, Local::At(1))),
     // istore_2
-    Row {
-        operands: Operands::Nothing,
-        effect: Effect::Store(1, Local::At(2)),
-    },
+    (Operands::Nothing, Effect::Store(1, Local::At(2))),
     // istore_3
-    Row {
-        operands: Operands::Nothing,
-        effect: Effect::Store(1, Local::At(3)),
-    },
+    (Operands::Nothing, Effect::Store(1, Local::At(3))),
     // lstore_0
-    Row {
-        operands: Operands::Nothing,
-        effect: Effect::Store(2, Local::At(0)),
-    },
+    (Operands::Nothing, Effect::Store(2, Local::At(0))),
     // lstore_1
-    Row {
-        operands: Operands::Nothing,
-        effect: Effect::Store(2, Local::At(1)),
-    },
+    (Operands::Nothing, Effect::Store(2, Local::At(1))),
     // lstore_2
-    Row {
-        operands: Operands::Nothing,
-        effect: Effect::Store(2, Local::At(2)),
-    },
+    (Operands::Nothing, Effect::Store(2, Local::At(2))),
     // lstore_3
-    Row {
-        operands: Operands::Nothing,
-        effect: Effect::Store(2, Local::At(3)),
-    },
+    (Operands::Nothing, Effect::Store(2, Local::At(3))),
     // fstore_0
-    Row {
-        operands: Operands::Nothing,
-        effect: Effect::Store(1, Local::At(0)),
-    },
+    (Operands::Nothing, Effect::Store(1, Local::At(0))),
     // fstore_1
-    Row {
-        operands: Operands::Nothing,
-        effect: Effect::Store(1, Local::At(1)),
-    },
+    (Operands::Nothing, Effect::Store(1, Local::At(1))),
     // fstore_2
-    Row {
-        operands: Operands::Nothing,
-        effect: Effect::Store(1, Local::At(2)),
-    },
+    (Operands::Nothing, Effect::Store(1, Local::At(2))),
     // fstore_3
-    Row {
-        operands: Operands::Nothing,
-        effect: Effect::Store(1, Local::At(3)),
-    },
+    (Operands::Nothing, Effect::Store(1, Local::At(3))),
     // dstore_0
-    Row {
-        operands: Operands::Nothing,
-        effect: Effect::Store(2, Local::At(0)),
-    },
+    (Operands::Nothing, Effect::Store(2, Local::At(0))),
     // dstore_1
-    Row {
-        operands: Operands::Nothing,
-        effect: Effect::Store(2, Local::At(1)),
-    },
+    (Operands::Nothing, Effect::Store(2, Local::At(1))),
     // dstore_2
-    Row {
-        operands: Operands::Nothing,
-        effect: Effect::Store(2, Local::At(2)),
-    },
+    (Operands::Nothing, Effect::Store(2, Local::At(2))),
     // dstore_3
-    Row {
-        operands: Operands::Nothing,
-        effect: Effect::Store(2, Local::At(3)),
-    },
+    (Operands::Nothing, Effect::Store(2, Local::At(3))),
     // astore_0
-    Row {
-        operands: Operands::Nothing,
-        effect: Effect::Store(1, Local::At(0)),
-    },
+    (Operands::Nothing, Effect::Store(1, Local::At(0))),
     // astore_1
-    Row {
-        operands: Operands::Nothing,
-        effect: Effect::Store(1, Local::At(1)),
-    },
+    (Operands::Nothing, Effect::Store(1, Local::At(1))),
     // astore_2
-    Row {
-        operands: Operands::Nothing,
-        effect: Effect::Store(1, Local::At(2)),
-    },
+    (Operands::Nothing, Effect::Store(1, Local::At(2))),
     // astore_3
-    Row {
-        operands: Operands::Nothing,
-        effect: Effect::Store(1, Local::At(3)),
-    },
+    (Operands::Nothing, Effect::Store(1, Local::At(3))),
     // iastore
-    Row {
-        operands: Operands::Nothing,
-        effect: Effect::Other { takes: 3, gives: 0 },
-    },
+    (Operands::Nothing, Effect::Other { takes: 3, gives: 0 }),
     // lastore
-    Row {
-        operands: Operands::Nothing,
-        effect: Effect::Other { takes: 4, gives: 0 },
-    },
+    (Operands::Nothing, Effect::Other { takes: 4, gives: 0 }),
     // fastore
-    Row {
-        operands: Operands::Nothing,
-        effect: Effect::Other { takes: 3, gives: 0 },
-    },
+    (Operands::Nothing, Effect::Other { takes: 3, gives: 0 }),
     // dastore
-    Row {
-        operands: Operands::Nothing,
-        effect: Effect::Other { takes: 4, gives: 0 },
-    },
+    (Operands::Nothing, Effect::Other { takes: 4, gives: 0 }),
     // aastore
-    Row {
-        operands: Operands::Nothing,
-        effect: Effect::ReferenceStore,
-    },
+    (Operands::Nothing, Effect::ReferenceStore),
     // bastore
-    Row {
-        operands: Operands::Nothing,
-        effect: Effect::Other { takes: 3, gives: 0 },
-    },
+    (Operands::Nothing, Effect::Other { takes: 3, gives: 0 }),
     // castore
-    Row {
-        operands: Operands::Nothing,
-        effect: Effect::Other { takes: 3, gives: 0 },
-    },
+    (Operands::Nothing, Effect::Other { takes: 3, gives: 0 }),
     // sastore
-    Row {
-        operands: Operands::Nothing,
-        effect: Effect::Other { takes: 3, gives: 0 },
-    },
+    (Operands::Nothing, Effect::Other { takes: 3, gives: 0 }),
     // pop
-    Row {
-        operands: Operands::Nothing,
-        effect: Effect::Move(Move::Pop),
-    },
+    (Operands::Nothing, Effect::Move(Move::Pop)),
     // pop2
-    Row {
-        operands: Operands::Nothing,
-        effect: Effect::Move(Move::PopTwo),
-    },
+    (Operands::Nothing, Effect::Move(Move::PopTwo)),
     // dup
-    Row {
-        operands: Operands::Nothing,
-        effect: Effect::Move(Move::Double),
-    },
+    (Operands::Nothing, Effect::Move(Move::Double)),
     // dup_x1
-    Row {
-        operands: Operands::Nothing,
-        effect: Effect::Move(Move::DoubleBelowOne),
-    },
+    (Operands::Nothing, Effect::Move(Move::DoubleBelowOne)),
     // dup_x2
-    Row {
-        operands: Operands::Nothing,
-        effect: Effect::Move(Move::DoubleBelowTwo),
-    },
+    (Operands::Nothing, Effect::Move(Move::DoubleBelowTwo)),
     // dup2
-    Row {
-        operands: Operands::Nothing,
-        effect: Effect::Move(Move::DoubleTwo),
-    },
+    (Operands::Nothing, Effect::Move(Move::DoubleTwo)),
     // dup2_x1
-    Row {
-        operands: Operands::Nothing,
-        effect: Effect::Move(Move::DoubleTwoBelowOne),
-    },
+    (Operands::Nothing, Effect::Move(Move::DoubleTwoBelowOne)),
     // dup2_x2
-    Row {
-        operands: Operands::Nothing,
-        effect: Effect::Move(Move::DoubleTwoBelowTwo),
-    },
+    (Operands::Nothing, Effect::Move(Move::DoubleTwoBelowTwo)),
     // swap
-    Row {
-        operands: Operands::Nothing,
-        effect: Effect::Move(Move::Swap),
-    },
+    (Operands::Nothing, Effect::Move(Move::Swap)),
     // iadd
-    Row {
-        operands: Operands::Nothing,
-        effect: Effect::Plain { takes: 2, gives: 1 },
-    },
+    (Operands::Nothing, Effect::Plain { takes: 2, gives: 1 }),
     // ladd
-    Row {
-        operands: Operands::Nothing,
-        effect: Effect::Plain { takes: 4, gives: 2 },
-    },
+    (Operands::Nothing, Effect::Plain { takes: 4, gives: 2 }),
     // fadd
-    Row {
-        operands: Operands::Nothing,
-        effect: Effect::Plain { takes: 2, gives: 1 },
-    },
+    (Operands::Nothing, Effect::Plain { takes: 2, gives: 1 }),
     // dadd
-    Row {
-        operands: Operands::Nothing,
-        effect: Effect::Plain { takes: 4, gives: 2 },
-    },
+    (Operands::Nothing, Effect::Plain { takes: 4, gives: 2 }),
     // isub
-    Row {
-        operands: Operands::Nothing,
-        effect: Effect::Plain { takes: 2, gives: 1 },
-    },
+    (Operands::Nothing, Effect::Plain { takes: 2, gives: 1 }),
     // lsub
-    Row {
-        operands: Operands::Nothing,
-        effect: Effect::Plain { takes: 4, gives: 2 },
-    },
+    (Operands::Nothing, Effect::Plain { takes: 4, gives: 2 }),
     // fsub
-    Row {
-        operands: Operands::Nothing,
-        effect: Effect::Plain { takes: 2, gives: 1 },
-    },
+    (Operands::Nothing, Effect::Plain { takes: 2, gives: 1 }),
     // dsub
-    Row {
-        operands: Operands::Nothing,
-        effect: Effect::Plain { takes: 4, gives: 2 },
-    },
+    (Operands::Nothing, Effect::Plain { takes: 4, gives: 2 }),
     // imul
-    Row {
-        operands: Operands::Nothing,
-        effect: Effect::Plain { takes: 2, gives: 1 },
-    },
+    (Operands::Nothing, Effect::Plain { takes: 2, gives: 1 }),
     // lmul
-    Row {
-        operands: Operands::Nothing,
-        effect: Effect::Plain { takes: 4, gives: 2 },
-    },
+    (Operands::Nothing, Effect::Plain { takes: 4, gives: 2 }),
     // fmul
-    Row {
-        operands: Operands::Nothing,
-        effect: Effect::Plain { takes: 2, gives: 1 },
-    },
+    (Operands::Nothing, Effect::Plain { takes: 2, gives: 1 }),
     // dmul
-    Row {
-        operands: Operands::Nothing,
-        effect: Effect::Plain { takes: 4, gives: 2 },
-    },
+    (Operands::Nothing, Effect::Plain { takes: 4, gives: 2 }),
     // idiv
-    Row {
-        operands: Operands::Nothing,
-        effect: Effect::Other { takes: 2, gives: 1 },
-    },
+    (Operands::Nothing, Effect::Other { takes: 2, gives: 1 }),
     // ldiv
-    Row {
-        operands: Operands::Nothing,
-        effect: Effect::Other { takes: 4, gives: 2 },
-    },
+    (Operands::Nothing, Effect::Other { takes: 4, gives: 2 }),
     // fdiv
-    Row {
-        operands: Operands::Nothing,
-        effect: Effect::Plain { takes: 2, gives: 1 },
-    },
+    (Operands::Nothing, Effect::Plain { takes: 2, gives: 1 }),
     // ddiv
-    Row {
-        operands: Operands::Nothing,
-        effect: Effect::Plain { takes: 4, gives: 2 },
-    },
+    (Operands::Nothing, Effect::Plain { takes: 4, gives: 2 }),
     // irem
-    Row {
-        operands: Operands::Nothing,
-        effect: Effect::Other { takes: 2, gives: 1 },
-    },
+    (Operands::Nothing, Effect::Other { takes: 2, gives: 1 }),
     // lrem
-    Row {
-        operands: Operands::Nothing,
-        effect: Effect::Other { takes: 4, gives: 2 },
-    },
+    (Operands::Nothing, Effect::Other { takes: 4, gives: 2 }),
     // frem
-    Row {
-        operands: Operands::Nothing,
-        effect: Effect::Plain { takes: 2, gives: 1 },
-    },
+    (Operands::Nothing, Effect::Plain { takes: 2, gives: 1 }),
     // drem
-    Row {
-        operands: Operands::Nothing,
-        effect: Effect::Plain { takes: 4, gives: 2 },
-    },
+    (Operands::Nothing, Effect::Plain { takes: 4, gives: 2 }),
     // ineg
-    Row {
-        operands: Operands::Nothing,
-        effect: Effect::Plain { takes: 1, gives: 1 },
-    },
+    (Operands::Nothing, Effect::Plain { takes: 1, gives: 1 }),
     // lneg
-    Row {
-        operands: Operands::Nothing,
-        effect: Effect::Plain { takes: 2, gives: 2 },
-    },
+    (Operands::Nothing, Effect::Plain { takes: 2, gives: 2 }),
     // fneg
-    Row {
-        operands: Operands::Nothing,
-        effect: Effect::Plain { takes: 1, gives: 1 },
-    },
+    (Operands::Nothing, Effect::Plain { takes: 1, gives: 1 }),
     // dneg
-    Row {
-        operands: Operands::Nothing,
-        effect: Effect::Plain { takes: 2, gives: 2 },
-    },
+    (Operands::Nothing, Effect::Plain { takes: 2, gives: 2 }),
     // ishl
-    Row {
-        operands: Operands::Nothing,
-        effect: Effect::Plain { takes: 2, gives: 1 },
-    },
+    (Operands::Nothing, Effect::Plain { takes: 2, gives: 1 }),
     // lshl
-    Row {
-        operands: Operands::Nothing,
-        effect: Effect::Plain { takes: 3, gives: 2 },
-    },
+    (Operands::Nothing, Effect::Plain { takes: 3, gives: 2 }),
     // ishr
-    Row {
-        operands: Operands::Nothing,
-        effect: Effect::Plain { takes: 2, gives: 1 },
-    },
+    (Operands::Nothing, Effect::Plain { takes: 2, gives: 1 }),
     // lshr
-    Row {
-        operands: Operands::Nothing,
-        effect: Effect::Plain { takes: 3, gives: 2 },
-    },
+    (Operands::Nothing, Effect::Plain { takes: 3, gives: 2 }),
     // iushr
-    Row {
-        operands: Operands::Nothing,
-        effect: Effect::Plain { takes: 2, gives: 1 },
-    },
+    (Operands::Nothing, Effect::Plain { takes: 2, gives: 1 }),
     // lushr
-    Row {
-        operands: Operands::Nothing,
-        effect: Effect::Plain { takes: 3, gives: 2 },
-    },
+    (Operands::Nothing, Effect::Plain { takes: 3, gives: 2 }),
     // iand
-    Row {
-        operands: Operands::Nothing,
-        effect: Effect::Plain { takes: 2, gives: 1 },
-    },
+    (Operands::Nothing, Effect::Plain { takes: 2, gives: 1 }),
     // land
-    Row {
-        operands: Operands::Nothing,
-        effect: Effect::Plain { takes: 4, gives: 2 },
-    },
+    (Operands::Nothing, Effect::Plain { takes: 4, gives: 2 }),
     // ior
-    Row {
-        operands: Operands::Nothing,
-        effect: Effect::Plain { takes: 2, gives: 1 },
-    },
+    (Operands::Nothing, Effect::Plain { takes: 2, gives: 1 }),
     // lor
-    Row {
-        operands: Operands::Nothing,
-        effect: Effect::Plain { takes: 4, gives: 2 },
-    },
+    (Operands::Nothing, Effect::Plain { takes: 4, gives: 2 }),
     // ixor
-    Row {
-        operands: Operands::Nothing,
-        effect: Effect::Plain { takes: 2, gives: 1 },
-    },
+    (Operands::Nothing, Effect::Plain { takes: 2, gives: 1 }),
     // lxor
-    Row {
-        operands: Operands::Nothing,
-        effect: Effect::Plain { takes: 4, gives: 2 },
-    },
+    (Operands::Nothing, Effect::Plain { takes: 4, gives: 2 }),
     // iinc
-    Row {
-        operands: Operands::Increment,
-        effect: Effect::Increment,
-    },
+    (Operands::Increment, Effect::Increment),
     // i2l
-    Row {
-        operands: Operands::Nothing,
-        effect: Effect::Plain { takes: 1, gives: 2 },
-    },
+    (Operands::Nothing, Effect::Plain { takes: 1, gives: 2 }),
     // i2f
-    Row {
-        operands: Operands::Nothing,
-        effect: Effect::Plain { takes: 1, gives: 1 },
-    },
+    (Operands::Nothing, Effect::Plain { takes: 1, gives: 1 }),
     // i2d
-    Row {
-        operands: Operands::Nothing,
-        effect: Effect::Plain { takes: 1, gives: 2 },
-    },
+    (Operands::Nothing, Effect::Plain { takes: 1, gives: 2 }),
     // l2i
-    Row {
-        operands: Operands::Nothing,
-        effect: Effect::Plain { takes: 2, gives: 1 },
-    },
+    (Operands::Nothing, Effect::Plain { takes: 2, gives: 1 }),
     // l2f
-    Row {
-        operands: Operands::Nothing,
-        effect: Effect::Plain { takes: 2, gives: 1 },
-    },
+    (Operands::Nothing, Effect::Plain { takes: 2, gives: 1 }),
     // l2d
-    Row {
-        operands: Operands::Nothing,
-        effect: Effect::Plain { takes: 2, gives: 2 },
-    },
+    (Operands::Nothing, Effect::Plain { takes: 2, gives: 2 }),
     // f2i
-    Row {
-        operands: Operands::Nothing,
-        effect: Effect::Plain { takes: 1, gives: 1 },
-    },
+    (Operands::Nothing, Effect::Plain { takes: 1, gives: 1 }),
     // f2l
-    Row {
-        operands: Operands::Nothing,
-        effect: Effect::Plain { takes: 1, gives: 2 },
-    },
+    (Operands::Nothing, Effect::Plain { takes: 1, gives: 2 }),
     // f2d
-    Row {
-        operands: Operands::Nothing,
-        effect: Effect::Plain { takes: 1, gives: 2 },
-    },
+    (Operands::Nothing, Effect::Plain { takes: 1, gives: 2 }),
     // d2i
-    Row {
-        operands: Operands::Nothing,
-        effect: Effect::Plain { takes: 2, gives: 1 },
-    },
+    (Operands::Nothing, Effect::Plain { takes: 2, gives: 1 }),
     // d2l
-    Row {
-        operands: Operands::Nothing,
-        effect: Effect::Plain { takes: 2, gives: 2 },
-    },
+    (Operands::Nothing, Effect::Plain { takes: 2, gives: 2 }),
     // d2f
-    Row {
-        operands: Operands::Nothing,
-        effect: Effect::Plain { takes: 2, gives: 1 },
-    },
+    (Operands::Nothing, Effect::Plain { takes: 2, gives: 1 }),
     // i2b
-    Row {
-        operands: Operands::Nothing,
-        effect: Effect::Plain { takes: 1, gives: 1 },
-    },
+    (Operands::Nothing, Effect::Plain { takes: 1, gives: 1 }),
     // i2c
-    Row {
-        operands: Operands::Nothing,
-        effect: Effect::Plain { takes: 1, gives: 1 },
-    },
+    (Operands::Nothing, Effect::Plain { takes: 1, gives: 1 }),
     // i2s
-    Row {
-        operands: Operands::Nothing,
-        effect: Effect::Plain { takes: 1, gives: 1 },
-    },
+    (Operands::Nothing, Effect::Plain { takes: 1, gives: 1 }),
     // lcmp
-    Row {
-        operands: Operands::Nothing,
-        effect: Effect::Plain { takes: 4, gives: 1 },
-    },
+    (Operands::Nothing, Effect::Plain { takes: 4, gives: 1 }),
     // fcmpl
-    Row {
-        operands: Operands::Nothing,
-        effect: Effect::Plain { takes: 2, gives: 1 },
-    },
+    (Operands::Nothing, Effect::Plain { takes: 2, gives: 1 }),
     // fcmpg
-    Row {
-        operands: Operands::Nothing,
-        effect: Effect::Plain { takes: 2, gives: 1 },
-    },
+    (Operands::Nothing, Effect::Plain { takes: 2, gives: 1 }),
     // dcmpl
-    Row {
-        operands: Operands::Nothing,
-        effect: Effect::Plain { takes: 4, gives: 1 },
-    },
+    (Operands::Nothing, Effect::Plain { takes: 4, gives: 1 }),
     // dcmpg
-    Row {
-        operands: Operands::Nothing,
-        effect: Effect::Plain { takes: 4, gives: 1 },
-    },
+    (Operands::Nothing, Effect::Plain { takes: 4, gives: 1 }),
     // ifeq
-    Row {
-        operands: Operands::Jump,
-        effect: Effect::IfZero(Comparison::Equal),
-    },
+    (Operands::Jump, Effect::IfZero(Comparison::Equal)),
     // ifne
-    Row {
-        operands: Operands::Jump,
-        effect: Effect::IfZero(Comparison::Unequal),
-    },
+    (Operands::Jump, Effect::IfZero(Comparison::Unequal)),
     // iflt
-    Row {
-        operands: Operands::Jump,
-        effect: Effect::IfZero(Comparison::Less),
-    },
+    (Operands::Jump, Effect::IfZero(Comparison::Less)),
     // ifge
-    Row {
-        operands: Operands::Jump,
-        effect: Effect::IfZero(Comparison::AtLeast),
-    },
+    (Operands::Jump, Effect::IfZero(Comparison::AtLeast)),
     // ifgt
-    Row {
-        operands: Operands::Jump,
-        effect: Effect::IfZero(Comparison::Greater),
-    },
+    (Operands::Jump, Effect::IfZero(Comparison::Greater)),
     // ifle
-    Row {
-        operands: Operands::Jump,
-        effect: Effect::IfZero(Comparison::AtMost),
-    },
+    (Operands::Jump, Effect::IfZero(Comparison::AtMost)),
     // if_icmpeq
-    Row {
-        operands: Operands::Jump,
-        effect: Effect::IfBoth(Comparison::Equal),
-    },
+    (Operands::Jump, Effect::IfBoth(Comparison::Equal)),
     // if_icmpne
-    Row {
-        operands: Operands::Jump,
-        effect: Effect::IfBoth(Comparison::Unequal),
-    },
+    (Operands::Jump, Effect::IfBoth(Comparison::Unequal)),
     // if_icmplt
-    Row {
-        operands: Operands::Jump,
-        effect: Effect::IfBoth(Comparison::Less),
-    },
+    (Operands::Jump, Effect::IfBoth(Comparison::Less)),
     // if_icmpge
-    Row {
-        operands: Operands::Jump,
-        effect: Effect::IfBoth(Comparison::AtLeast),
-    },
+    (Operands::Jump, Effect::IfBoth(Comparison::AtLeast)),
     // if_icmpgt
-    Row {
-        operands: Operands::Jump,
-        effect: Effect::IfBoth(Comparison::Greater),
-    },
+    (Operands::Jump, Effect::IfBoth(Comparison::Greater)),
     // if_icmple
-    Row {
-        operands: Operands::Jump,
-        effect: Effect::IfBoth(Comparison::AtMost),
-    },
+    (Operands::Jump, Effect::IfBoth(Comparison::AtMost)),
     // if_acmpeq
-    Row {
-        operands: Operands::Jump,
-        effect: Effect::IfSame(true),
-    },
+    (Operands::Jump, Effect::IfSame(true)),
     // if_acmpne
-    Row {
-        operands: Operands::Jump,
-        effect: Effect::IfSame(false),
-    },
+    (Operands::Jump, Effect::IfSame(false)),
     // goto
-    Row {
-        operands: Operands::Jump,
-        effect: Effect::Go,
-    },
+    (Operands::Jump, Effect::Go),
     // jsr
-    Row {
-        operands: Operands::Jump,
-        effect: Effect::Unsupported,
-    },
+    (Operands::Jump, Effect::Unsupported),
     // ret
-    Row {
-        operands: Operands::Local,
-        effect: Effect::Unsupported,
-    },
+    (Operands::Local, Effect::Unsupported),
     // tableswitch
-    Row {
-        operands: Operands::TableSwitch,
-        effect: Effect::Switch,
-    },
+    (Operands::TableSwitch, Effect::Switch),
     // lookupswitch
-    Row {
-        operands: Operands::LookupSwitch,
-        effect: Effect::Switch,
-    },
+    (Operands::LookupSwitch, Effect::Switch),
     // ireturn
-    Row {
-        operands: Operands::Nothing,
-        effect: Effect::Return(1),
-    },
+    (Operands::Nothing, Effect::Return(1)),
     // lreturn
-    Row {
-        operands: Operands::Nothing,
-        effect: Effect::Return(2),
-    },
+    (Operands::Nothing, Effect::Return(2)),
     // freturn
-    Row {
-        operands: Operands::Nothing,
-        effect: Effect::Return(1),
-    },
+    (Operands::Nothing, Effect::Return(1)),
     // dreturn
-    Row {
-        operands: Operands::Nothing,
-        effect: Effect::Return(2),
-    },
+    (Operands::Nothing, Effect::Return(2)),
     // areturn
-    Row {
-        operands: Operands::Nothing,
-        effect: Effect::Return(1),
-    },
+    (Operands::Nothing, Effect::Return(1)),
     // return
-    Row {
-        operands: Operands::Nothing,
-        effect: Effect::Return(0),
-    },
+    (Operands::Nothing, Effect::Return(0)),
     // getstatic
-    Row {
-        operands: Operands::Constant(Kind::Field),
-        effect: Effect::GetStatic,
-    },
+    (Operands::Constant(Kind::Field), Effect::GetStatic),
     // putstatic
-    Row {
-        operands: Operands::Constant(Kind::Field),
-        effect: Effect::PutStatic,
-    },
+    (Operands::Constant(Kind::Field), Effect::PutStatic),
     // getfield
-    Row {
-        operands: Operands::Constant(Kind::Field),
-        effect: Effect::GetField,
-    },
+    (Operands::Constant(Kind::Field), Effect::GetField),
     // putfield
-    Row {
-        operands: Operands::Constant(Kind::Field),
-        effect: Effect::PutField,
-    },
+    (Operands::Constant(Kind::Field), Effect::PutField),
     // invokevirtual
-    Row {
-        operands: Operands::Constant(Kind::Method),
-        effect: Effect::Call(Calling::Virtual),
-    },
+    (
+        Operands::Constant(Kind::Method),
+        Effect::Call(Calling::Virtual),
+    ),
     // invokespecial
-    Row {
-        operands: Operands::Constant(Kind::AnyMethod),
-        effect: Effect::Call(Calling::Special),
-    },
+    (
+        Operands::Constant(Kind::AnyMethod),
+        Effect::Call(Calling::Special),
+    ),
     // invokestatic
-    Row {
-        operands: Operands::Constant(Kind::AnyMethod),
-        effect: Effect::Call(Calling::Static),
-    },
+    (
+        Operands::Constant(Kind::AnyMethod),
+        Effect::Call(Calling::Static),
+    ),
     // invokeinterface
-    Row {
-        operands: Operands::Interface,
-        effect: Effect::Call(Calling::Interface),
-    },
+    (Operands::Interface, Effect::Call(Calling::Interface)),
     // invokedynamic
-    Row {
-        operands: Operands::Dynamic,
-        effect: Effect::Call(Calling::Dynamic),
-    },
+    (Operands::Dynamic, Effect::Call(Calling::Dynamic)),
     // new
-    Row {
-        operands: Operands::Constant(Kind::Class),
-        effect: Effect::New,
-    },
+    (Operands::Constant(Kind::Class), Effect::New),
     // newarray
-    Row {
-        operands: Operands::Byte,
-        effect: Effect::Other { takes: 1, gives: 1 },
-    },
+    (Operands::Byte, Effect::Other { takes: 1, gives: 1 }),
     // anewarray
-    Row {
-        operands: Operands::Constant(Kind::Class),
-        effect: Effect::Other { takes: 1, gives: 1 },
-    },
+    (
+        Operands::Constant(Kind::Class),
+        Effect::Other { takes: 1, gives: 1 },
+    ),
     // arraylength
-    Row {
-        operands: Operands::Nothing,
-        effect: Effect::Other { takes: 1, gives: 1 },
-    },
+    (Operands::Nothing, Effect::Other { takes: 1, gives: 1 }),
     // athrow
-    Row {
-        operands: Operands::Nothing,
-        effect: Effect::Throw,
-    },
+    (Operands::Nothing, Effect::Throw),
     // checkcast
-    Row {
-        operands: Operands::Constant(Kind::Class),
-        effect: Effect::CheckCast,
-    },
+    (Operands::Constant(Kind::Class), Effect::CheckCast),
     // instanceof
-    Row {
-        operands: Operands::Constant(Kind::Class),
-        effect: Effect::Other { takes: 1, gives: 1 },
-    },
+    (
+        Operands::Constant(Kind::Class),
+        Effect::Other { takes: 1, gives: 1 },
+    ),
     // monitorenter
-    Row {
-        operands: Operands::Nothing,
-        effect: Effect::Other { takes: 1, gives: 0 },
-    },
+    (Operands::Nothing, Effect::Other { takes: 1, gives: 0 }),
     // monitorexit
-    Row {
-        operands: Operands::Nothing,
-        effect: Effect::Other { takes: 1, gives: 0 },
-    },
+    (Operands::Nothing, Effect::Other { takes: 1, gives: 0 }),
     // wide
-    Row {
-        operands: Operands::Wide,
-        effect: Effect::Wide,
-    },
+    (Operands::Wide, Effect::Wide),
     // multianewarray
-    Row {
-        operands: Operands::Dimensions,
-        effect: Effect::NewArrays,
-    },
+    (Operands::Dimensions, Effect::NewArrays),
     // ifnull
-    Row {
-        operands: Operands::Jump,
-        effect: Effect::IfNull(true),
-    },
+    (Operands::Jump, Effect::IfNull(true)),
     // ifnonnull
-    Row {
-        operands: Operands::Jump,
-        effect: Effect::IfNull(false),
-    },
+    (Operands::Jump, Effect::IfNull(false)),
     // goto_w
-    Row {
-        operands: Operands::FarJump,
-        effect: Effect::Go,
-    },
+    (Operands::FarJump, Effect::Go),
     // jsr_w
-    Row {
-        operands: Operands::FarJump,
-        effect: Effect::Unsupported,
-    },
+    (Operands::FarJump, Effect::Unsupported),
 ];
