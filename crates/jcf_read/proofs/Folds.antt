@@ -4,7 +4,7 @@ use Rattle.std.specs.Prelude.{Result, Ok, Err}
 use Rattle.jcf_read.specs.declared.fault.Fault.{Fault}
 use Rattle.jcf_read.specs.declared.fault.ReadError.{ReadError}
 use Rattle.jcf_read.specs.declared.fault.ReadError.TheVariants as errors
-use Rattle.jcf_read.specs.Answer.{folded, Fails}
+use Rattle.jcf_read.specs.Answer.{◌>>=◌, folded, Fails}
 
 pub begins : {S : Type 0} (turn : S → Result S Fault) (count : ℕ) (s : S) → folded turn (count - 0) s ≡ folded turn count s
 begins turn count s = let k : count - 0 ≡ count = omega arith in rw k refl
@@ -33,3 +33,11 @@ is_done turn {count = count} {i = i} {s = s} le so_far =
     let k : count - i ≡ 0 = omega arith in
     let one : folded turn (count - i) s ≡ Ok s = rw k refl in
     sym so_far ∙ one
+
+-- what is read and then passed over
+pub passed : {A : Type 0} (read : Result (A × ℕ) Fault) (x : A × ℕ) → read ≡ Ok x → (read >>= λ y. Ok y.1) ≡ Ok x.1
+passed read x e = rw e refl
+
+pub not_passed : {A : Type 0} (read : Result (A × ℕ) Fault) (e : ReadError) → Fails e read → Fails e (read >>= λ y. Ok y.1)
+not_passed read errors.Memory h = tt
+not_passed read (errors.Wrong fault) h = rw h refl

@@ -1,22 +1,11 @@
--- Loops over the bytes of a text, of the pool and of a code: what was read, with what is left to read, is the whole.
-use Rattle.std.proofs.Common.{◌≡◌, ℕ, zero, suc, ◌+◌, ◌-◌, ◌<◌, ◌≤◌, List, [], ◌∷◌, ◌++◌, length, get_or, drop, take, replicate, refl, sym, ap}
-use Rattle.std.proofs.Common.{◌∙◌, append_assoc, append-nil, arith, Bool, true, false, Option, Some, None}
+-- Loops over the bytes of the pool and of a code: what was read, with what is left to read, is the whole.
+use Rattle.std.proofs.Common.{◌≡◌, ℕ, zero, suc, ◌+◌, ◌-◌, ◌<◌, ◌≤◌, List, [], ◌∷◌, ◌++◌, length, get_or, drop, take, refl}
+use Rattle.std.proofs.Common.{sym, ap, ◌∙◌, append_assoc, append-nil, arith, Bool, true, false, Option, Some, None}
 use Rattle.std.specs.Prelude.{Ok, Err}
-use Rattle.std.proofs.lemmas.List.{drop_more}
-use Rattle.jcf_effects.specs.declared.Row.{Row}
-use Rattle.jcf_read.specs.declared.fault.FaultKind.{FaultKind}
 use Rattle.jcf_read.specs.declared.fault.Fault.{Fault}
-use Rattle.jcf_read.specs.declared.letters.Unit.{Unit as Mark}
-use Rattle.jcf_read.specs.Letters.{after, walk}
 use Rattle.jcf_read.specs.Pool.{Pool, is_tag, is_wide, holds, tags_from}
-use Rattle.jcf_read.specs.Instructions.{number, laid, marks_from}
+use Rattle.jcf_code.specs.Bytes.{number}
 use Rattle.jcf_read.specs.Jumps.{strays, are_straying, judged, first_fault}
-
--- ---- texts
-pub walk_more : (unit : Mark) (bytes : List ℕ) (i : ℕ) (total : Mark) → i < length bytes → walk unit (drop i bytes) ≡ total
-    → walk (after unit (get_or bytes i 0)) (drop (i + 1) bytes) ≡ total
-unfolding walk
-walk_more unit bytes i total lt so_far = sym (ap (walk unit) (drop_more bytes i 0 lt)) ∙ so_far
 
 -- ---- turns
 one_less : (n i : ℕ) → i < n → n - i ≡ suc (n - (i + 1))
@@ -70,8 +59,8 @@ content_is (x ∷ xs) = all_taken (length (x ∷ xs) - 1) xs (omega arith)
 -- the tag at the front of what is left, and what stands behind it
 pub tags_next : (front : List ℕ) (n i : ℕ) (rest content total : List ℕ) → i < n → 0 < length rest → is_tag (get_or rest 0 0) ≡ true →
     content ≡ drop 1 rest → front ++ tags_from (n - i) false rest ≡ total
-    → (front ++ get_or rest 0 0 ∷ []) ++ tags_from (n - (i + 1)) (is_wide (get_or rest 0 0)) (drop (holds (get_or rest 0 0) content) content)
-    ≡ total
+    → (front ++ get_or rest 0 0 ∷ [])
+    ++ tags_from (n - (i + 1)) (is_wide (get_or rest 0 0)) (drop (holds (get_or rest 0 0) content) content) ≡ total
 tags_next front n i [] content total lt some t e so_far = absurd (omega arith)
 tags_next front n i (tag ∷ rest) content total lt some t e so_far = rw e (tags_more front n i tag rest total lt t so_far)
 
@@ -80,41 +69,6 @@ pub tags_done : (front : List ℕ) (n i : ℕ) (second : Bool) (bytes total : Li
 unfolding tags_from
 tags_done front n i second bytes total le so_far =
     let one : front ++ tags_from (n - i) second bytes ≡ front = rw (none_left n i le) (append-nil front) in
-    sym one ∙ so_far
-
--- ---- marks
-pub marks_more : (front : List Bool) (n i : ℕ) (code rest : List ℕ) (x : Row × ℕ) (total : List Bool) → i < n → 0 < length rest →
-    laid (length code - length rest) rest ≡ Ok x → front ++ marks_from (n - i) code rest ≡ total
-    → (front ++ true ∷ replicate (x.1 - 1) false) ++ marks_from (n - (i + 1)) code (drop x.1 rest) ≡ total
-unfolding marks_from
-marks_more front n i code [] x total lt some h so_far = absurd (omega arith)
-marks_more front n i code (op ∷ rest) x total lt some h so_far =
-    let more = marks_from (n - (i + 1)) code (drop x.1 (op ∷ rest)) in
-    let one : front ++ marks_from (n - i) code (op ∷ rest) ≡ (front ++ true ∷ replicate (x.1 - 1) false) ++ more =
-    rw (one_less n i lt, h) (sym (append_assoc front (true ∷ replicate (x.1 - 1) false) more)) in
-    sym one ∙ so_far
-
-pub marks_last : (front : List Bool) (n i : ℕ) (code rest : List ℕ) (kind : FaultKind) (total : List Bool) → i < n → 0 < length rest →
-    laid (length code - length rest) rest ≡ Err kind → front ++ marks_from (n - i) code rest ≡ total → front ≡ total
-unfolding marks_from
-marks_last front n i code [] kind total lt some h so_far = absurd (omega arith)
-marks_last front n i code (op ∷ rest) kind total lt some h so_far =
-    let one : front ++ marks_from (n - i) code (op ∷ rest) ≡ front = rw (one_less n i lt, h) (append-nil front) in
-    sym one ∙ so_far
-
-pub marks_over : (front : List Bool) (n i : ℕ) (code rest : List ℕ) (total : List Bool) → i < n → length rest ≡ 0 →
-    front ++ marks_from (n - i) code rest ≡ total → front ≡ total
-unfolding marks_from
-marks_over front n i code [] total lt none so_far =
-    let one : front ++ marks_from (n - i) code [] ≡ front = rw (one_less n i lt) (append-nil front) in
-    sym one ∙ so_far
-marks_over front n i code (op ∷ rest) total lt none so_far = absurd (omega arith)
-
-pub marks_done : (front : List Bool) (n i : ℕ) (code rest : List ℕ) (total : List Bool) → n ≤ i → front ++ marks_from (n - i) code rest ≡ total
-    → front ≡ total
-unfolding marks_from
-marks_done front n i code rest total le so_far =
-    let one : front ++ marks_from (n - i) code rest ≡ front = rw (none_left n i le) (append-nil front) in
     sym one ∙ so_far
 
 -- ---- jumps of a switch
@@ -147,7 +101,8 @@ module _ (pool : Pool) (marks : List Bool) (code : List ℕ) (end n i : ℕ) (to
   unfolding first_fault
   fault_later [] size lt some h so_far = absurd (omega arith)
   fault_later (op ∷ rest) size lt some h so_far =
-      let one : first_fault pool marks code end (n - i) (op ∷ rest) ≡ first_fault pool marks code end (n - (i + 1)) (drop size (op ∷ rest)) =
+      let one : first_fault pool marks code end (n - i) (op ∷ rest)
+      ≡ first_fault pool marks code end (n - (i + 1)) (drop size (op ∷ rest)) =
       rw (one_less n i lt, h) refl in
       sym one ∙ so_far
 

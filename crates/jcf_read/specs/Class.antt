@@ -1,16 +1,17 @@
 -- A class file (JVMS 4.1) from left to right: the class that all of its bytes spell, or the first thing that is wrong.
-use Rattle.std.specs.Prelude.{ℕ, ◌-◌, List, [], ◌∷◌, ◌++◌, drop, length, Option, Some, None, Result, Ok, true, false, nat_lt, ◌==◌}
+use Rattle.std.specs.Prelude.{ℕ, List, [], ◌∷◌, ◌++◌, drop, length, Option, Some, None, Result, Ok, true, false, nat_lt, ◌==◌}
 use Rattle.std.specs.Prelude.{◌||◌, ◌&&◌, not, if◌then◌else◌, codes}
 use Rattle.jcf_tree.specs.declared.class.Const.{Const}
 use Rattle.jcf_tree.specs.declared.kind.Kind.TheVariants as needs
-use Rattle.jcf_tree.specs.Tree.{Member, Class}
+use Rattle.jcf_tree.specs.Tree.{Annotation, Member, Class}
 use Rattle.jcf_read.specs.declared.fault.FaultKind.TheVariants as kinds
 use Rattle.jcf_read.specs.declared.fault.Fault.{Fault}
 use Rattle.jcf_read.specs.Answer.{◌>>=◌, wrong, folded}
-use Rattle.jcf_read.specs.Front.{Front, file, content, Reader, number_at, run_at}
+use Rattle.jcf_read.specs.Front.{Front, file, content, Reader, number_at}
 use Rattle.jcf_read.specs.Pool.{Pool, pool_at, named_at, named_or_none_at}
 use Rattle.jcf_read.specs.Constants.{constants_at}
 use Rattle.jcf_read.specs.Attributes.{attribute_at, ends_at, is_named}
+use Rattle.jcf_read.specs.Annotations.{annotations_at}
 use Rattle.jcf_read.specs.Members.{members_at}
 
 -- versions are 45.0 to 69.0: the minor number is wrong behind 69, or else the major one is below 45 or above 69
@@ -49,11 +50,11 @@ interfaces_at pool front at = do
   n ← number_at 2 front at
   folded (interface_turn pool front) n.0 ([], n.1)
 
--- the source file's name, what annotations there were, and the place behind them
+-- the source file's name, the annotations, and the place behind what was read
 abbrev pub About : Type 0
-About = ℕ × List (List ℕ) × ℕ
+About = ℕ × List Annotation × ℕ
 
--- one attribute of a class more: the name of its source file and annotations are kept, others aren't
+-- one attribute of a class more: the name of its source file and annotations are read, others aren't
 unfoldable pub about_turn : Pool → List Const → Front → About → Result About Fault
 about_turn pool constants front s =
     attribute_at pool front s.2 >>= λ a.
@@ -61,7 +62,7 @@ about_turn pool constants front s =
     (named_at pool needs.Text (content a.to front) a.from >>= λ name. ends_at name.1 a.to >>= λ to. Ok (name.0, s.1, to))
     else if is_named constants a.name (codes "RuntimeVisibleAnnotations")
     || is_named constants a.name (codes "RuntimeInvisibleAnnotations") then
-    (run_at (a.to - a.from) (content a.to front) a.from >>= λ run. Ok (s.0, s.1 ++ run.0 ∷ [], run.1))
+    (annotations_at pool (content a.to front) (s.1, a.from) >>= λ all. ends_at all.1 a.to >>= λ to. Ok (s.0, all.0, to))
     else Ok (s.0, s.1, a.to)
 
 unfoldable pub about_at : Pool → List Const → Front → ℕ → Result About Fault

@@ -6,12 +6,17 @@ use Rattle.jcf_tree.specs.declared.kind.Kind.TheVariants as needs
 use Rattle.jcf_effects.specs.declared.operands.Operands.{Operands}
 use Rattle.jcf_effects.specs.declared.operands.Operands.TheVariants as forms
 use Rattle.jcf_effects.specs.declared.Row.{Row}
+use Rattle.jcf_code.specs.declared.fault.CodeFault.{CodeFault}
+use Rattle.jcf_code.specs.declared.fault.CodeFault.TheVariants as faults
+use Rattle.jcf_code.specs.Bytes.{number}
+use Rattle.jcf_code.specs.Layout.{pad, table_length, laid}
+use Rattle.jcf_code.specs.Marks.{marks_from}
+use Rattle.jcf_code.specs.Instructions.{count_or_none}
 use Rattle.jcf_read.specs.declared.fault.FaultKind.{FaultKind}
 use Rattle.jcf_read.specs.declared.fault.FaultKind.TheVariants as kinds
 use Rattle.jcf_read.specs.declared.fault.Fault.{Fault}
 use Rattle.jcf_read.specs.Answer.{wrong}
 use Rattle.jcf_read.specs.Pool.{Pool, is_wrong}
-use Rattle.jcf_read.specs.Instructions.{number, pad, table_length, laid, marks_from}
 
 -- whether a place is known to be neither the beginning of an instruction nor the code's end
 unfoldable pub misses : List Bool → ℕ → ℕ → Bool
@@ -30,14 +35,11 @@ are_straying marks len place step zero bytes = false
 are_straying marks len place step (suc n) bytes =
     strays marks len place (number 4 bytes) 2147483648 || are_straying marks len place step n (drop step bytes)
 
-abbrev pub count_or_none : Option ℕ → ℕ
-count_or_none None = 0
-count_or_none (Some count) = count
-
 unfoldable pub table_strays : List Bool → ℕ → ℕ → List ℕ → Bool
 table_strays marks len place rest =
     strays marks len place (number 4 (drop (1 + pad place) rest)) 2147483648
-    || are_straying marks len place 4 (count_or_none (table_length (drop 4 (drop (1 + pad place) rest)))) (drop 12 (drop (1 + pad place) rest))
+    || are_straying marks len place 4 (count_or_none (table_length (drop 4 (drop (1 + pad place) rest))))
+    (drop 12 (drop (1 + pad place) rest))
 
 unfoldable pub lookup_strays : List Bool → ℕ → ℕ → List ℕ → Bool
 lookup_strays marks len place rest =
@@ -69,9 +71,14 @@ is_wrong_name pool (Some x) = is_wrong pool x.0 x.1
 unfoldable pub is_misnaming : Pool → Operands → List ℕ → Bool
 is_misnaming pool operands rest = is_wrong_name pool (named_in operands rest)
 
+abbrev pub kind_of : CodeFault → FaultKind
+kind_of faults.Unsupported = kinds.Unsupported
+kind_of faults.UnknownOpcode = kinds.UnknownOpcode
+kind_of faults.BadOperand = kinds.BadOperand
+
 -- at a place of the code, with these bytes from there on; the code ends at the place end of the file
-abbrev pub judged_as : Pool → List Bool → List ℕ → ℕ → List ℕ → Result (Row × ℕ) FaultKind → Result ℕ Fault
-judged_as pool marks code end rest (Err kind) = wrong kind (end - length rest)
+abbrev pub judged_as : Pool → List Bool → List ℕ → ℕ → List ℕ → Result (Row × ℕ) CodeFault → Result ℕ Fault
+judged_as pool marks code end rest (Err fault) = wrong (kind_of fault) (end - length rest)
 judged_as pool marks code end rest (Ok x) =
     if is_misnaming pool x.0.operands rest then wrong kinds.BadIndex (end - length (drop 1 rest))
     else if is_straying marks (length code) x.0.operands (length code - length rest) rest then wrong kinds.BadJump (end - length rest)

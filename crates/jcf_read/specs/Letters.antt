@@ -1,43 +1,29 @@
--- Modified UTF-8 (JVMS 4.4.7): units of one to three bytes, none longer than it must be, and no byte 0. Surrogates may stand alone.
-use Rattle.std.specs.Prelude.{ℕ, List, [], ◌∷◌, Bool, true, false, nat_le, ◌==◌, ◌&&◌, if◌then◌else◌}
-use Rattle.jcf_read.specs.declared.letters.Unit.{Unit as Mark}
-use Rattle.jcf_read.specs.declared.letters.Unit.TheVariants as units
+-- Modified UTF-8 (JVMS 4.4.7): a row of units, each of one to three bytes, and none longer than it must be.
+-- A unit is one of UTF-16, so surrogates may stand alone.
+use Rattle.std.specs.Prelude.{ℕ, List, [], ◌∷◌, Bool, true, false, nat_le, ◌==◌, ◌&&◌, ◌||◌, if◌then◌else◌}
 
 abbrev pub is_between : ℕ → ℕ → ℕ → Bool
 is_between low high byte = nat_le low byte && nat_le byte high
 
--- what was read of a unit that begins with this byte: one of 1 to 127 is whole, 192 begins the unit 0, 194 to 223 one of two bytes,
--- 224 to 239 one of three
-abbrev pub begun : ℕ → Mark
-begun byte =
-    if is_between 1 127 byte then units.Whole
-    else if byte == 192 then units.Zero
-    else if is_between 194 223 byte then units.One
-    else if byte == 224 then units.High
-    else if is_between 225 239 byte then units.Two
-    else units.Never
+-- the units 1 to 127
+abbrev pub is_one : ℕ → Bool
+is_one a = is_between 1 127 a
 
--- the bytes behind the first are 128 to 191; behind 224 the next is 160 or more, since two bytes would do for what lies below
-abbrev pub after : Mark → ℕ → Mark
-after units.Whole byte = begun byte
-after units.Zero byte = if byte == 128 then units.Whole else units.Never
-after units.One byte = if is_between 128 191 byte then units.Whole else units.Never
-after units.High byte = if is_between 160 191 byte then units.One else units.Never
-after units.Two byte = if is_between 128 191 byte then units.One else units.Never
-after units.Never byte = units.Never
+-- the unit 0, and those from 128 to 2047
+abbrev pub are_two : ℕ → ℕ → Bool
+are_two a b = (a == 192 && b == 128) || (is_between 194 223 a && is_between 128 191 b)
 
-unfoldable pub walk : Mark → List ℕ → Mark
-walk unit [] = unit
-walk unit (byte ∷ bytes) = walk (after unit byte) bytes
+-- the units from 2048 to 65535: behind 224 the next byte is 160 or more, since two bytes would do for what lies below
+abbrev pub are_three : ℕ → ℕ → ℕ → Bool
+are_three a b c = ((a == 224 && is_between 160 191 b) || (is_between 225 239 a && is_between 128 191 b)) && is_between 128 191 c
 
-abbrev pub is_whole : Mark → Bool
-is_whole units.Whole = true
-is_whole units.Zero = false
-is_whole units.One = false
-is_whole units.High = false
-is_whole units.Two = false
-is_whole units.Never = false
-
--- whether bytes are a text: each unit is whole
+-- whether bytes are units, one behind the other
 unfoldable pub is_modified : List ℕ → Bool
-is_modified bytes = is_whole (walk units.Whole bytes)
+is_modified [] = true
+is_modified (a ∷ []) = is_one a
+is_modified (a ∷ b ∷ []) = if is_one a then is_modified (b ∷ []) else are_two a b
+is_modified (a ∷ b ∷ c ∷ rest) =
+    if is_one a then is_modified (b ∷ c ∷ rest)
+    else if are_two a b then is_modified (c ∷ rest)
+    else if are_three a b c then is_modified rest
+    else false

@@ -3,9 +3,10 @@ pub mod Front
 pub mod Letters
 pub mod Pool
 pub mod Constants
-pub mod Instructions
 pub mod Jumps
 pub mod Attributes
+pub mod Annotations
 pub mod Codes
 pub mod Members
 pub mod Class
+pub mod inner

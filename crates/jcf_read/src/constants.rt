@@ -4,8 +4,8 @@ ghost use Rattle.std.specs.Prelude.{◌≡◌, [], false};
 ghost use Rattle.jcf_read.specs.Answer.{Gives, folded};
 ghost use Rattle.jcf_read.specs.Front.{front_of};
 ghost use Rattle.jcf_read.specs.Pool.{pool_of};
-ghost use Rattle.jcf_read.specs.Constants.{text_at, halves_at, both_at, used_as, handle_at, linked_at, tagged_at, const_at, is_two, const_turn};
-ghost use Rattle.jcf_read.specs.Constants.{later_tagged_at, constants_at};
+ghost use Rattle.jcf_read.specs.Constants.{text_at, halves_at, both_at, used_as, handle_at, linked_at, tagged_at, later_tagged_at};
+ghost use Rattle.jcf_read.specs.Constants.{const_at, is_two, const_turn, constants_at};
 
 use crate::fault::{FaultKind, ReadError};
 use crate::front::{Front, run_of, u1_at, u2_at, u4_at, wrong};
@@ -41,7 +41,7 @@ fn halves_at(front: Front, at: usize) -> Result<((u32, u32), usize), ReadError>
 
 /// The numbers of two constants of these kinds.
 #[tactic(auto, unfolding(crate::specs::Constants::both_at))]
-fn both_at(
+pub(crate) fn both_at(
     front: Front,
     pool: &Pool,
     first: Kind,

@@ -19,7 +19,8 @@ pub enum FaultKind {
     BadIndex,
     /// The bytes of a text aren't modified UTF-8.
     BadText,
-    /// The content of an attribute ends in the field that begins there, or before the attribute does; or a method has a second code.
+    /// The content of an attribute ends in the field that begins there, or before the attribute does; a method has a second code; or a value
+    /// of an annotation has a tag that is none, or stands in others too deep.
     BadAttribute,
     /// An instruction of subroutines: `jsr`, `jsr_w` or `ret`.
     Unsupported,

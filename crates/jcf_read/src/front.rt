@@ -7,6 +7,7 @@ ghost use Rattle.jcf_read.specs.Front.{front_of, number_at, run_at};
 
 use crate::fault::{Fault, FaultKind, ReadError};
 use byteorder::{BigEndian, ByteOrder};
+use jcf_code::tail;
 
 /// The bytes of a file, or those up to the end of an attribute, and what a field is in which they end.
 #[derive(Clone, Copy)]
@@ -20,13 +21,6 @@ pub(crate) fn wrong(kind: FaultKind, offset: usize) -> ReadError
     ensures { result ≡ ReadError.Wrong (record { kind = kind; offset = offset }) }
 {
     ReadError::Wrong(Fault { kind, offset })
-}
-
-/// The bytes from a place on.
-pub(crate) fn tail(bytes: &[u8], at: usize) -> &[u8]
-    ensures { result.now ≡ drop at bytes.now }
-{
-    if at <= bytes.len() { &bytes[at..] } else { &[] }
 }
 
 /// A number of one byte.

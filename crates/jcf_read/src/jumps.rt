@@ -4,12 +4,11 @@ ghost use Rattle.std.specs.Prelude.{◌≡◌, ◌<◌, ◌≤◌, ◌^◌, leng
 ghost use Rattle.jcf_read.specs.Answer.{Gives};
 ghost use Rattle.jcf_read.specs.Pool.{pool_of};
 ghost use Rattle.jcf_read.specs.Jumps.{misses, strays, are_straying, named_in, is_misnaming, table_strays};
-ghost use Rattle.jcf_read.specs.Jumps.{lookup_strays, is_straying, judged, first_fault, checked};
+ghost use Rattle.jcf_read.specs.Jumps.{lookup_strays, is_straying, kind_of, judged, first_fault, checked};
 
 use crate::fault::{Fault, FaultKind, ReadError};
-use crate::front::tail;
-use crate::instructions::{marks_of, pad, size_of, table_length, u2_in, u4_in};
-use crate::pool::{Pool, byte_of, is_wrong};
+use crate::pool::{Pool, is_wrong};
+use jcf_code::{CodeFault, byte_of, laid_out, marks_of, pad, table_length, tail, u2_in, u4_in};
 use jcf_effects::Operands;
 use jcf_tree::Kind;
 use std::alloc::Global;
@@ -130,6 +129,17 @@ fn is_misnaming(pool: &Pool, operands: Operands, rest: &[u8]) -> bool
     }
 }
 
+/// What is wrong with a class file in whose code no instruction stands.
+fn kind_of(fault: CodeFault) -> FaultKind
+    ensures { result ≡ kind_of fault }
+{
+    match fault {
+        CodeFault::Unsupported => FaultKind::Unsupported,
+        CodeFault::UnknownOpcode => FaultKind::UnknownOpcode,
+        CodeFault::BadOperand => FaultKind::BadOperand,
+    }
+}
+
 /// How many bytes the instruction at the front of this rest of a code takes, or what is wrong with it.
 /// The code ends at the place `end` of the file.
 #[tactic(auto, unfolding(crate::specs::Jumps::judged))]
@@ -138,9 +148,14 @@ fn judged(pool: &Pool, marks: &[bool], code: &[u8], end: usize, rest: &[u8]) -> 
 {
     let place = code.len().saturating_sub(rest.len());
     let offset = end.saturating_sub(rest.len());
-    let (row, size) = match size_of(place, rest) {
+    let (row, size) = match laid_out(place, rest) {
         Ok(found) => found,
-        Err(kind) => return Err(Fault { kind, offset }),
+        Err(fault) => {
+            return Err(Fault {
+                kind: kind_of(fault),
+                offset,
+            });
+        }
     };
     if is_misnaming(pool, row.operands, rest) {
         return Err(Fault {

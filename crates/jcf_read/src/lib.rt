@@ -7,12 +7,12 @@ ghost use Rattle.jcf_tree.specs.Tree.{class_of};
 ghost use Rattle.jcf_read.specs.Answer.{Gives};
 ghost use Rattle.jcf_read.specs.Class.{class_in};
 
+mod annotations;
 mod attributes;
 mod codes;
 mod constants;
 mod fault;
 mod front;
-mod instructions;
 mod jumps;
 mod letters;
 mod members;

@@ -7,7 +7,8 @@ ghost use Rattle.jcf_read.specs.Front.{front_of};
 ghost use Rattle.jcf_read.specs.Pool.{pool_of, is_tag, is_wide, holds, tags_from, pool_at, is_wrong, named_at, named_or_none_at};
 
 use crate::fault::{FaultKind, ReadError};
-use crate::front::{Front, tail, u2_at, wrong};
+use crate::front::{Front, u2_at, wrong};
+use jcf_code::{byte_of, tail};
 use jcf_tree::{Kind, is_of};
 use mg_text::{List, Memory};
 use std::alloc::Global;
@@ -45,13 +46,6 @@ fn holds(tag: u8, content: &[u8]) -> usize
         15 => 3,
         _ => 4,
     }
-}
-
-/// A byte, or 0 where there is none.
-pub(crate) fn byte_of(bytes: &[u8], index: usize) -> u8
-    ensures { result ≡ get_or bytes.now index 0 }
-{
-    if index < bytes.len() { bytes[index] } else { 0 }
 }
 
 /// The tags of so many numbers, from these bytes on.

@@ -1,21 +1,22 @@
 //! The class file as a whole (JVMS 4.1).
 
 ghost use Rattle.std.specs.Prelude.{◌≡◌, [], map};
-ghost use Rattle.jcf_tree.specs.Tree.{member_of, class_of};
+ghost use Rattle.jcf_tree.specs.Tree.{annotation_of, member_of, class_of};
 ghost use Rattle.jcf_read.specs.Answer.{Gives, folded};
 ghost use Rattle.jcf_read.specs.Front.{front_of, file};
 ghost use Rattle.jcf_read.specs.Pool.{pool_of};
-ghost use Rattle.jcf_read.specs.Class.{version_fault, head_at, names_at, interface_turn, interfaces_at, about_turn, about_at, both_members_at};
-ghost use Rattle.jcf_read.specs.Class.{contents_at, class_in};
+ghost use Rattle.jcf_read.specs.Class.{version_fault, head_at, names_at, interface_turn, interfaces_at, about_turn, about_at};
+ghost use Rattle.jcf_read.specs.Class.{both_members_at, contents_at, class_in};
 
+use crate::annotations::add_annotations;
 use crate::attributes::{attribute_at, content_of, ends_at, is_named};
 use crate::constants::constants_at;
 use crate::fault::{FaultKind, ReadError};
-use crate::front::{Front, run_of, u2_at, u4_at, wrong};
+use crate::front::{Front, u2_at, u4_at, wrong};
 use crate::members::members_at;
 use crate::pool::{Pool, named_at, named_or_none_at, pool_at};
-use jcf_tree::{Class, Const, Kind, Member};
-use mg_text::{Bytes, List};
+use jcf_tree::{Annotation, Class, Const, Kind, Member};
+use mg_text::List;
 use std::alloc::Global;
 
 /// Where a version is wrong: at its minor number, or at its major one.
@@ -111,7 +112,7 @@ fn interfaces_at(
     Ok((interfaces, after))
 }
 
-/// One attribute of a class more: the name of its source file and annotations are kept, others aren't.
+/// One attribute of a class more: the name of its source file and annotations are read, others aren't.
 #[tactic(auto, unfolding(crate::specs::Class::about_turn))]
 fn add_about(
     alloc: Global,
@@ -119,11 +120,11 @@ fn add_about(
     pool: &Pool,
     constants: &[Const],
     source_file: u16,
-    annotations: &mut List<Bytes>,
+    annotations: &mut List<Annotation>,
     at: usize,
 ) -> Result<(u16, usize), ReadError>
-    ensures { Gives (λ x. (x.0, annotations.new.items, x.1)) result
-        (about_turn (pool_of pool.now) constants.now (front_of front.entry) (source_file, annotations.old.items, at)) }
+    ensures { Gives (λ x. (x.0, map annotation_of annotations.new.items, x.1)) result
+        (about_turn (pool_of pool.now) constants.now (front_of front.entry) (source_file, map annotation_of annotations.old.items, at)) }
 {
     let attribute = attribute_at(front, pool, at)?;
     let content = content_of(front, attribute.to);
@@ -135,9 +136,8 @@ fn add_about(
     if is_named(constants, attribute.name, b"RuntimeVisibleAnnotations")
         || is_named(constants, attribute.name, b"RuntimeInvisibleAnnotations")
     {
-        let length = attribute.to.saturating_sub(attribute.from);
-        let (bytes, after) = run_of(content, attribute.from, length)?;
-        annotations.push(Bytes::of(alloc, bytes)?)?;
+        let end = add_annotations(alloc, content, pool, annotations, attribute.from)?;
+        let after = ends_at(end, attribute.to)?;
         return Ok((source_file, after));
     }
     Ok((source_file, attribute.to))
@@ -149,12 +149,13 @@ fn about_of(
     front: Front,
     pool: &Pool,
     constants: &[Const],
-    annotations: &mut List<Bytes>,
+    annotations: &mut List<Annotation>,
     count: u16,
     at: usize,
 ) -> Result<(u16, usize), ReadError>
-    ensures { Gives (λ x. (x.0, annotations.new.items, x.1)) result
-        (folded (about_turn (pool_of pool.now) constants.now (front_of front.entry)) count (0, annotations.old.items, at)) }
+    ensures { Gives (λ x. (x.0, map annotation_of annotations.new.items, x.1)) result
+        (folded (about_turn (pool_of pool.now) constants.now (front_of front.entry)) count
+        (0, map annotation_of annotations.old.items, at)) }
 {
     let mut source_file = 0;
     let mut place = at;
@@ -182,8 +183,9 @@ fn about_at(
     pool: &Pool,
     constants: &[Const],
     at: usize,
-) -> Result<(u16, List<Bytes>, usize), ReadError>
-    ensures { Gives (λ x. (x.0, x.1.items, x.2)) result (about_at (pool_of pool.now) constants.now (front_of front.entry) at) }
+) -> Result<(u16, List<Annotation>, usize), ReadError>
+    ensures { Gives (λ x. (x.0, map annotation_of x.1.items, x.2)) result
+        (about_at (pool_of pool.now) constants.now (front_of front.entry) at) }
 {
     let (count, from) = u2_at(front, at)?;
     let mut annotations = List::new(alloc);

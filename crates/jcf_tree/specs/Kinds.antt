@@ -5,6 +5,10 @@ use Rattle.jcf_tree.specs.declared.kind.Kind.TheVariants as kinds
 
 abbrev pub is_of : Kind → ℕ → Bool
 is_of kinds.Text tag = tag == 1
+is_of kinds.Integer tag = tag == 3
+is_of kinds.Float tag = tag == 4
+is_of kinds.Long tag = tag == 5
+is_of kinds.Double tag = tag == 6
 is_of kinds.Class tag = tag == 7
 is_of kinds.NameAndType tag = tag == 12
 is_of kinds.Field tag = tag == 9

@@ -4,7 +4,9 @@ use Rattle.jcf_tree.specs.declared.class.Const.{Const}
 use Rattle.jcf_tree.specs.declared.class.Handler.{Handler}
 use Rattle.jcf_tree.specs.declared.class.Line.{Line}
 use Rattle.jcf_tree.specs.declared.class.Variable.{Variable}
+use Rattle.jcf_tree.specs.declared.class.Element.{Element}
 use Rattle.jcf_tree.specs.declared.class.Code.{Code as KeptCode}
+use Rattle.jcf_tree.specs.declared.class.Annotation.{Annotation as KeptAnnotation}
 use Rattle.jcf_tree.specs.declared.class.Member.{Member as KeptMember}
 use Rattle.jcf_tree.specs.declared.class.Class.{Class as KeptClass}
 
@@ -22,6 +24,10 @@ pub record Member : Type 0 where
   pub descriptor : ℕ
   pub code : Option Code
 
+pub record Annotation : Type 0 where
+  pub type_descriptor : ℕ
+  pub elements : List Element
+
 pub record Class : Type 0 where
   pub constants : List Const
   pub access : ℕ
@@ -31,7 +37,7 @@ pub record Class : Type 0 where
   pub fields : List Member
   pub methods : List Member
   pub source_file : ℕ
-  pub annotations : List (List ℕ)
+  pub annotations : List Annotation
 
 abbrev pub code_of : KeptCode → Code
 code_of c =
@@ -47,6 +53,9 @@ code_of c =
 abbrev pub member_of : KeptMember → Member
 member_of m = record { access = m.access; name = m.name; descriptor = m.descriptor; code = option_map code_of m.code }
 
+abbrev pub annotation_of : KeptAnnotation → Annotation
+annotation_of a = record { type_descriptor = a.type_descriptor; elements = a.elements.items }
+
 abbrev pub class_of : KeptClass → Class
 class_of c =
     record {
@@ -58,5 +67,5 @@ class_of c =
       fields = map member_of c.fields.items;
       methods = map member_of c.methods.items;
       source_file = c.source_file;
-      annotations = c.annotations.items;
+      annotations = map annotation_of c.annotations.items;
     }

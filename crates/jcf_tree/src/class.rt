@@ -90,21 +90,51 @@ pub struct Member {
     pub code: Option<Code>,
 }
 
+/// The value of an element of an annotation (JVMS 4.7.16.1), by the numbers of constants.
+#[derive(Clone, Copy)]
+pub enum ElementValue {
+    /// A number, a character or a truth value.
+    Constant(u16),
+    Text(u16),
+    /// A constant of an enum: the descriptor of the enum, and its name.
+    EnumConstant(u16, u16),
+    /// A class, by its descriptor.
+    Class(u16),
+    /// A further annotation, of which nothing is kept.
+    Annotation,
+    /// Values in a row, of which nothing is kept.
+    Array,
+}
+
+/// An element of an annotation: its name, and its value.
+#[derive(Clone, Copy)]
+pub struct Element {
+    pub name: u16,
+    pub value: ElementValue,
+}
+
+/// An annotation (JVMS 4.7.16): the descriptor of its type, and its elements in their order.
+#[derive(Drop)]
+pub struct Annotation {
+    pub type_descriptor: u16,
+    pub elements: List<Element>,
+}
+
 /// A class file (JVMS 4.1).
 pub struct Class {
     /// The constants, of which the first has the number 1.
     pub constants: List<Const>,
     pub access: u16,
     pub this_class: u16,
-    /// Its superclass, or 0 of `java.lang.Object` and of a module.
+    /// Its superclass, or 0, as of `java.lang.Object` and of a module.
     pub super_class: u16,
     pub interfaces: List<u16>,
     pub fields: List<Member>,
     pub methods: List<Member>,
     /// The name of the file that it was compiled from (JVMS 4.7.10), or 0 where none is told.
     pub source_file: u16,
-    /// What its attributes of annotations hold (JVMS 4.7.16, 4.7.17), in their order.
-    pub annotations: List<Bytes>,
+    /// Its annotations, whether they are there at run time (JVMS 4.7.16) or not (4.7.17), in their order.
+    pub annotations: List<Annotation>,
 }
 
 // One call lets go of it, wherever a function ends.

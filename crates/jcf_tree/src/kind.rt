@@ -8,6 +8,10 @@ ghost use Rattle.jcf_tree.specs.Kinds.{is_of};
 pub enum Kind {
     /// A text.
     Text,
+    Integer,
+    Float,
+    Long,
+    Double,
     Class,
     NameAndType,
     Field,
@@ -31,6 +35,10 @@ pub fn is_of(kind: Kind, tag: u8) -> bool
 {
     match kind {
         Kind::Text => tag == 1,
+        Kind::Integer => tag == 3,
+        Kind::Float => tag == 4,
+        Kind::Long => tag == 5,
+        Kind::Double => tag == 6,
         Kind::Class => tag == 7,
         Kind::NameAndType => tag == 12,
         Kind::Field => tag == 9,

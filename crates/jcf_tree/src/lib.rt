@@ -5,5 +5,7 @@
 mod class;
 mod kind;
 
-pub use class::{Class, Code, Const, Handler, Line, Member, Variable};
+pub use class::{
+    Annotation, Class, Code, Const, Element, ElementValue, Handler, Line, Member, Variable,
+};
 pub use kind::{Kind, is_of};

@@ -6,4 +6,5 @@ use Rattle.jcf_read.specs.Codes.{variable_turn}
 use Rattle.jcf_read.proofs.codes.add_so_many_variables.Given as goal
 
 abbrev pub invariant-loop : goal.invariant-loop
-invariant-loop l = folded (variable_turn (pool_of l.pool) (front_of l.front)) (l.count - l.counter) (l.variables.items, l.place) ≡ folded (variable_turn (pool_of l.pool) (front_of l.front)) l.count (l.fn.variables.items, l.at)
+invariant-loop l = folded (variable_turn (pool_of l.pool) (front_of l.front)) (l.count - l.counter) (l.variables.items, l.place)
+    ≡ folded (variable_turn (pool_of l.pool) (front_of l.front)) l.count (l.fn.variables.items, l.at)

@@ -7,4 +7,5 @@ use Rattle.jcf_read.specs.Constants.{const_turn}
 use Rattle.jcf_read.proofs.constants.constants_of.Given as goal
 
 abbrev pub invariant-loop : goal.invariant-loop
-invariant-loop l = folded (const_turn (pool_of l.pool) (front_of l.front)) (l.count - l.counter) (l.constants.items, l.is_second, l.place) ≡ folded (const_turn (pool_of l.pool) (front_of l.front)) l.count ([], false, l.at)
+invariant-loop l = folded (const_turn (pool_of l.pool) (front_of l.front)) (l.count - l.counter) (l.constants.items, l.is_second, l.place)
+    ≡ folded (const_turn (pool_of l.pool) (front_of l.front)) l.count ([], false, l.at)

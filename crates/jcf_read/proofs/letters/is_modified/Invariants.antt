@@ -1,7 +1,9 @@
-use Rattle.std.proofs.Common.{◌≡◌, drop}
-use Rattle.jcf_read.specs.Letters.{walk}
-use Rattle.jcf_read.specs.declared.letters.Unit.TheVariants as units
+use Rattle.std.proofs.Common.{◌≡◌, length}
+use Rattle.jcf_read.specs.Letters.{is_modified}
 use Rattle.jcf_read.proofs.letters.is_modified.Given as goal
 
-abbrev pub invariant-loop-byte : goal.invariant-loop-byte
-invariant-loop-byte l = walk l.unit (drop l.byte-index l.bytes) ≡ walk units.Whole l.bytes
+abbrev pub invariant-loop-rest : goal.invariant-loop-rest
+invariant-loop-rest l = is_modified l.rest ≡ is_modified l.bytes
+
+abbrev pub decreases-loop-rest : goal.decreases-loop-rest
+decreases-loop-rest l = length l.rest
