@@ -1,5 +1,5 @@
 -- The loops over a code and over a switch: what was read, with what is left to read, is the whole.
-use Rattle.std.proofs.Common.{◌≡◌, ℕ, suc, ◌+◌, ◌-◌, ◌<◌, ◌≤◌, List, [], ◌∷◌, ◌++◌, length, drop, replicate, refl, sym, ◌∙◌}
+use Rattle.std.proofs.Common.{◌≡◌, ℕ, suc, ◌+◌, ◌-◌, ◌<◌, ◌≤◌, List, [], ◌∷◌, ◌++◌, length, drop, replicate, sym, ◌∙◌}
 use Rattle.std.proofs.Common.{append_assoc, append-nil, arith, Bool, true, false}
 use Rattle.std.specs.Prelude.{Ok, Err, ◌%◌}
 use Rattle.std.specs.Int.{cast_signed}

@@ -1,6 +1,6 @@
 -- The instructions of a code, one behind the other (JVMS chapter 6): where each stands, what it does, and what stands behind its opcode.
 use Rattle.std.specs.Prelude.{ℕ, ℤ, zero, suc, ◌+◌, ◌-◌, ◌*◌, ◌%◌, List, [], ◌∷◌, drop, length, get_or, Option, Some, None}
-use Rattle.std.specs.Prelude.{Result, Ok, Err, nat_lt, if◌then◌else◌, map}
+use Rattle.std.specs.Prelude.{Result, Ok, Err, nat_lt, if◌then◌else◌}
 use Rattle.std.specs.Int.{cast_signed}
 use mir.Syntax.{w8, w16, w32}
 use Rattle.jcf_effects.specs.declared.operands.Operands.{Operands}

@@ -1,5 +1,5 @@
 -- Loops over the bytes of the pool and of a code: what was read, with what is left to read, is the whole.
-use Rattle.std.proofs.Common.{◌≡◌, ℕ, zero, suc, ◌+◌, ◌-◌, ◌<◌, ◌≤◌, List, [], ◌∷◌, ◌++◌, length, get_or, drop, take, replicate, refl}
+use Rattle.std.proofs.Common.{◌≡◌, ℕ, zero, suc, ◌+◌, ◌-◌, ◌<◌, ◌≤◌, List, [], ◌∷◌, ◌++◌, length, get_or, drop, take, refl}
 use Rattle.std.proofs.Common.{sym, ap, ◌∙◌, append_assoc, append-nil, arith, Bool, true, false, Option, Some, None}
 use Rattle.std.specs.Prelude.{Ok, Err}
 use Rattle.jcf_read.specs.declared.fault.Fault.{Fault}

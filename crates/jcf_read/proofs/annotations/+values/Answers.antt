@@ -1,6 +1,6 @@
 use Rattle.std.proofs.lemmas.Result.{err_from_is_err_and}
 use Rattle.jcf_read.specs.Annotations.{behind_values, behind_annotation}
-use Rattle.jcf_read.proofs.Folds.{begins, goes_on, ends, is_done, passed, not_passed}
+use Rattle.jcf_read.proofs.Folds.{goes_on, ends, is_done, passed, not_passed}
 use Rattle.jcf_read.proofs.annotations.+values.Goals as goal
 
 pub behind_values-returns-in_err-after : goal.behind_values-returns-in_err-after
