@@ -1,0 +1,81 @@
+-- The blocks of an own choice, taken from the last to the first; labels, and counters one by one.
+use Rattle.std.proofs.Common.{◌≡◌, ◌×◌, ℕ, zero, suc, ◌+◌, ◌-◌, ◌<◌, ◌≤◌, Bool, true, false, List, [], ◌∷◌, ◌++◌, map, length, take, drop, get_or, refl, sym}
+use Rattle.std.proofs.Common.{ap, ◌∙◌, arith, codes, if◌then◌else◌, append_assoc, length-append}
+use Rattle.std.specs.List.{range_with_len, list_any}
+use Rattle.std.specs.Str.{bytes_eq}
+use Rattle.std.proofs.lemmas.List.{map-append, map_push, map_more, length-map}
+use Rattle.mg_text.specs.Call.{Name}
+use Rattle.mg_text.specs.declared.place.Place.{Place}
+use Rattle.jv_tree.specs.Source.{Stmt, IfElse}
+use Rattle.stm_client.specs.declared.labels.Around.{Around}
+use Rattle.stm_client.specs.Client.{Loop, counter, counters, is_taken, free_label, label_in, is_turn, by_turns, before_last, last_of, block}
+use Rattle.stm_client.specs.View.{loop_of, loops_of}
+
+-- ---- blocks
+
+pub before-last : (xs : List Stmt) (x : Stmt) → before_last (xs ++ x ∷ []) ≡ xs
+before-last [] x = refl
+before-last (y ∷ []) x = refl
+before-last (y ∷ z ∷ more) x = ap (λ (l : List Stmt). y ∷ l) (before-last (z ∷ more) x)
+
+pub last-of : (p : Place) (xs : List Stmt) (x : Stmt) → last_of p (xs ++ x ∷ []) ≡ x
+last-of p [] x = refl
+last-of p (y ∷ []) x = refl
+last-of p (y ∷ z ∷ more) x = last-of p (z ∷ more) x
+
+pub turns-behind : (p : Place) (k n i : ℕ) (xs : List Stmt) (x last : Stmt) →
+    by_turns p k n i (xs ++ x ∷ []) last ≡ by_turns p k n i xs (IfElse p (is_turn p k n (i + length xs)) x last)
+turns-behind p k n i [] x last =
+    let e : i ≡ i + 0 = omega arith in ap (λ (j : ℕ). IfElse p (is_turn p k n j) x last) e
+turns-behind p k n i (y ∷ ys) x last =
+    let e : i + 1 + length ys ≡ i + suc (length ys) = omega arith in
+    ap (λ (s : Stmt). IfElse p (is_turn p k n i) y s) (turns-behind p k n (i + 1) ys x last
+    ∙ ap (λ (j : ℕ). by_turns p k n (i + 1) ys (IfElse p (is_turn p k n j) x last)) e)
+
+-- blocks that are taken from behind, one by one
+module _ {A : Type 0} (f : A → Stmt) (p : Place) (k n : ℕ) where
+  pub turns-start : (old rest : List A) (x : A) → old ≡ rest ++ x ∷ [] →
+      by_turns p k n 1 (before_last (map f old)) (last_of p (map f old)) ≡ by_turns p k n 1 (map f rest) (f x)
+  turns-start old rest x e =
+      ap (λ (l : List Stmt). by_turns p k n 1 (before_last l) (last_of p l)) (ap (map f) e ∙ map_push f rest x)
+      ∙ (λ i. by_turns p k n 1 (before-last (map f rest) (f x) i) (last-of p (map f rest) (f x) i))
+
+  pub turns-more : (old rest : List A) (x : A) (last turned : Stmt) (branch : ℕ) → old ≡ rest ++ x ∷ [] → branch ≡ length rest + 1 →
+      turned ≡ by_turns p k n branch (f x ∷ []) last → by_turns p k n 1 (map f old) last ≡ by_turns p k n 1 (map f rest) turned
+  turns-more old rest x last turned branch e at so =
+      let long : length (map f rest) ≡ length rest = length-map rest f in
+      let here : 1 + length (map f rest) ≡ branch = omega (arith, long, at) in
+      ap (λ (l : List Stmt). by_turns p k n 1 l last) (ap (map f) e ∙ map_push f rest x)
+      ∙ turns-behind p k n 1 (map f rest) (f x) last
+      ∙ ap (by_turns p k n 1 (map f rest)) (ap (λ (j : ℕ). IfElse p (is_turn p k n j) (f x) last) here ∙ sym so)
+
+-- ---- labels
+
+pub not-taken : (n : ℕ) (loops : List Loop) (w : Name) → is_taken loops w ≡ false → free_label (suc n) loops w ≡ w
+not-taken n loops w e = ap (λ (b : Bool). if b then free_label n loops (w ++ codes "_") else w) e
+
+pub is-taken : (n : ℕ) (loops : List Loop) (w : Name) → is_taken loops w ≡ true → free_label (suc n) loops w ≡ free_label n loops (w ++ codes "_")
+is-taken n loops w e = ap (λ (b : Bool). if b then free_label n loops (w ++ codes "_") else w) e
+
+-- ---- the loops around, copied one by one
+
+pub loops-more : (loops old new : List Around) (i : ℕ) (x : Around) → i < length loops → x ≡ get_or loops i x →
+    loops_of old ≡ loops_of (take i loops) → loops_of new ≡ loops_of old ++ loop_of x ∷ [] → loops_of new ≡ loops_of (take (i + 1) loops)
+loops-more loops old new i x within is so added =
+    added ∙ (λ k. so k ++ loop_of (is k) ∷ []) ∙ sym (map_more loop_of loops i x within)
+
+-- ---- counters
+
+range_more : (a n : ℕ) → range_with_len a (suc n) ≡ range_with_len a n ++ (a + n) ∷ []
+range_more a zero = let e : a ≡ a + 0 = omega arith in ap (λ (z : ℕ). z ∷ []) e
+range_more a (suc n) =
+    let e : a + 1 + n ≡ a + suc n = omega arith in
+    ap (λ (z : List ℕ). a ∷ z) (range_more (a + 1) n ∙ ap (λ (z : ℕ). range_with_len (a + 1) n ++ z ∷ []) e)
+
+pub one-counter-more : (items new : List Name) (name : Name) (n : ℕ) → items ≡ counters n → name ≡ counter (n + 1) → new ≡ items ++ name ∷ [] →
+    new ≡ counters (n + 1)
+one-counter-more items new name n so is added =
+    let e : n + 1 ≡ 1 + n = omega arith in
+    let one : suc n ≡ n + 1 = omega arith in
+    added ∙ (λ i. so i ++ (is ∙ ap counter e) i ∷ []) ∙ sym (map-append counter (range_with_len 1 n) ((1 + n) ∷ []))
+    ∙ ap (map counter) (sym (range_more 1 n)) ∙ ap counters one

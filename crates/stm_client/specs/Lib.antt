@@ -1,0 +1,3 @@
+pub mod Counting
+pub mod Client
+pub mod View
