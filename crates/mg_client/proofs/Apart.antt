@@ -23,7 +23,7 @@ same_text : (x y : ApiText) → Some x ≡ Some y → x ≡ y
 same_text x y e = cc
 
 module _ (p : Option Name) where
-  one_client : (source : Source) (a b : ClientFile) → IsClient p source a → IsClient p source b → a ≡ b
+  pub one_client : (source : Source) (a b : ClientFile) → IsClient p source a → IsClient p source b → a ≡ b
   one_client source a b h k =
       let same : h.local ≡ k.local = same_local h.local k.local (one_part source (Protocol h.local) (Protocol k.local) h.spelled k.spelled)
       in

@@ -55,7 +55,7 @@ all_answered p files parts (Err stops.Memory) each apart h = tt
 some_is : (x y : ApiText) → Some x ≡ Some y → x ≡ y
 some_is x y e = cc
 
-no_file : {P : Type 0} (x : ApiText) → ◌≡◌ {A = Option ApiText} None (Some x) → P
+pub no_file : {P : Type 0} (x : ApiText) → ◌≡◌ {A = Option ApiText} None (Some x) → P
 no_file x e = absurd cc
 
 made_where : (b : Bool) (file made : ApiText) → (if b then Some file else None) ≡ Some made → made ≡ file

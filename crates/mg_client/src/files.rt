@@ -1,15 +1,15 @@
 //! From the files of protocols to their clients.
 
-ghost use Rattle.std.specs.Prelude.{◌≡◌, ◌<◌, ◌^◌, [], ◌∷◌, All, length, codes, map, Some, IfOk, option_map};
+ghost use Rattle.std.specs.Prelude.{◌≡◌, ◌<◌, ◌^◌, ℕ, [], ◌∷◌, All, length, codes, map, Some, IfOk, option_map};
 ghost use Rattle.mg_read.specs.First.{Judged};
 ghost use Rattle.scr_tree.specs.Local.{tree_of};
 ghost use Rattle.mg_refusal.specs.Order.{Answers};
-ghost use Rattle.mg_sources.specs.Files.{EndsWith, source_of, sources};
+ghost use Rattle.mg_sources.specs.Files.{EndsWith, HaveKinds, source_of, sources};
 ghost use Rattle.mg_sources.specs.Reading.{Protocol, Reads, EachSpells};
 ghost use Rattle.mg_sources.specs.Parts.{part_of};
 ghost use Rattle.stm_api.specs.View.{written_of};
 ghost use Rattle.mg_client.specs.Clients.{AreClients, EachPlays, IsPlayed, IsUnaccepted, FirstRefusal, packed};
-ghost use Rattle.mg_client.specs.inner.Answered.{IsJudged};
+ghost use Rattle.mg_client.specs.inner.Answered.{IsJudged, IsFound};
 
 use api_package::enum_head;
 use mg_accepted::accept;
@@ -117,15 +117,38 @@ fn accepted_client(
     ensures { Answers (IsPlayed (option_map (λ p. p.now) package_name.entry) (source_of number name.now bytes.now))
         (IsUnaccepted (option_map (λ p. p.now) package_name.entry) (source_of number name.now bytes.now)) result }
 {
-    if let Some(file) = client(alloc, local)? {
-        let file = packed(alloc, package_name, file)?;
-        if is_accepted(alloc, name, bytes, &file)? {
-            return Ok(file);
+    match found_client(alloc, package_name, name, bytes, local)? {
+        Some(file) => Ok(file),
+        None => {
+            let place = Place::start(number);
+            let role = local.me().copy()?;
+            Err(Stop::named("NotAccepted", place, role))
         }
     }
-    let place = Place::start(number);
-    let role = local.me().copy()?;
-    Err(Stop::named("NotAccepted", place, role))
+}
+
+// The client of a protocol, if it is accepted beside a file of this name that holds this, whatever
+// the file's number.
+fn found_client(
+    alloc: Global,
+    package_name: Option<&Text>,
+    name: &Text,
+    bytes: &[u8],
+    local: &Local,
+) -> Result<Option<ClientFile>, Memory>
+    requires scribble { EndsWith (codes ".scr") name.now }
+    ensures { IfOk result (λ f. (number : ℕ) → Reads (source_of number name.now bytes.now) (Protocol (tree_of local.now))
+        → IsFound (option_map (λ p. p.now) package_name.entry) (source_of number name.now bytes.now) f) }
+{
+    let Some(file) = client(alloc, local)? else {
+        return Ok(None);
+    };
+    let file = packed(alloc, package_name, file)?;
+    if is_accepted(alloc, name, bytes, &file)? {
+        Ok(Some(file))
+    } else {
+        Ok(None)
+    }
 }
 
 // The file of a client, in a package where one is named: before it stand the package's line and an
@@ -159,13 +182,39 @@ fn is_accepted(
     requires java { EndsWith (codes ".java") file.now.name }
     ensures { IfOk result (λ b. IsJudged (sources (name.now ∷ file.now.name ∷ []) (bytes.now ∷ file.now.text ∷ [])) b) }
 {
+    let names = two_names(alloc, name, &file.name)?;
+    let contents = two_contents(alloc, bytes, file.text.as_str().as_bytes())?;
+    are_accepted(alloc, names.as_slice(), contents.as_slice())
+}
+
+// Two names.
+fn two_names(alloc: Global, first: &Text, second: &Text) -> Result<List<Text>, Memory>
+    ensures { IfOk result (λ ns. ns.items ≡ first.now ∷ second.now ∷ []) }
+{
     let mut names = List::new(alloc);
-    names.push(name.copy()?)?;
-    names.push(file.name.copy()?)?;
+    names.push(first.copy()?)?;
+    names.push(second.copy()?)?;
+    Ok(names)
+}
+
+// The contents of two files.
+fn two_contents(alloc: Global, first: &[u8], second: &[u8]) -> Result<List<Bytes>, Memory>
+    ensures { IfOk result (λ cs. cs.items ≡ first.now ∷ second.now ∷ []) }
+{
     let mut contents = List::new(alloc);
-    contents.push(Bytes::of(alloc, bytes)?)?;
-    contents.push(Bytes::of(alloc, file.text.as_str().as_bytes())?)?;
-    match accept(alloc, names.as_slice(), contents.as_slice()) {
+    contents.push(Bytes::of(alloc, first)?)?;
+    contents.push(Bytes::of(alloc, second)?)?;
+    Ok(contents)
+}
+
+// Whether `check` accepts these files.
+fn are_accepted(alloc: Global, names: &[Text], contents: &[Bytes]) -> Result<bool, Memory>
+    requires same { length names.now ≡ length contents.now }
+    requires count { length contents.now < 2 ^ 32 }
+    requires kinds { HaveKinds names.now }
+    ensures { IfOk result (λ b. IsJudged (sources names.now contents.now) b) }
+{
+    match accept(alloc, names, contents) {
         Ok(_) => Ok(true),
         Err(Stop::Refused(_)) => Ok(false),
         Err(Stop::Memory) => Err(Memory),
