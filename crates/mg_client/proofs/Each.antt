@@ -34,7 +34,8 @@ part_at (p ∷ ps) (suc i) l d lt is = part_at ps i l d (omega arith) is
 
 pub spelled_at : (names contents : List (List ℕ)) (parts : List KeptPart) (i : ℕ) (name item bytes : List ℕ) (l : KeptPart) →
     length names ≡ length contents → i < length contents → i < length parts → name ≡ get_or names i name → item ≡ get_or contents i item →
-    bytes ≡ item → l ≡ get_or parts i l → EachSpells (sources names contents) (map part_of parts) → Reads (source_of i name bytes) (part_of l)
+    bytes ≡ item → l ≡ get_or parts i l → EachSpells (sources names contents) (map part_of parts) → Reads (source_of i name bytes)
+    (part_of l)
 spelled_at names contents parts i name item bytes l same lt lt' e e' k is each =
     let f : Source = source_of i name bytes in
     subst (λ (z : Part). Reads f z) (part_at parts i l (part_of l) lt' is)

@@ -1,5 +1,6 @@
 -- The client of one protocol, judged beside its file.
-use Rattle.std.proofs.Common.{◌≡◌, ℕ, zero, suc, List, [], ◌∷◌, codes, Option, Some, None, Bool, true, false, refl, sym, ap, ◌∙◌, subst, arith}
+use Rattle.std.proofs.Common.{◌≡◌, ℕ, zero, suc, List, [], ◌∷◌, codes, Option, Some, None, Bool, true, false, refl, sym, ap, ◌∙◌, subst}
+use Rattle.std.proofs.Common.{arith}
 use Rattle.mg_text.specs.Call.{Name}
 use Rattle.mg_text.specs.Places.{start_of}
 use Rattle.scr_tree.specs.Tree.{LocalTree}
@@ -19,7 +20,8 @@ use Rattle.mg_client.proofs.Apart.{same_local, one_client}
 use Rattle.mg_client.proofs.Whole.{no_file}
 
 -- a file of a protocol, and one of Java
-pub two_kinds : (names : List Name) (a b : Name) → names ≡ a ∷ b ∷ [] → EndsWith (codes ".scr") a → EndsWith (codes ".java") b → HaveKinds names
+pub two_kinds : (names : List Name) (a b : Name) → names ≡ a ∷ b ∷ [] → EndsWith (codes ".scr") a → EndsWith (codes ".java") b →
+    HaveKinds names
 two_kinds names a b e h k = subst HaveKinds (sym e) each where
   each : HaveKinds (a ∷ b ∷ [])
   each zero d lt = (Scribble, h)

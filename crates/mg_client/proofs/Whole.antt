@@ -1,5 +1,6 @@
 -- What the calls that make clients answer.
-use Rattle.std.proofs.Common.{◌≡◌, List, [], ◌∷◌, ◌++◌, All, codes, map, Option, Some, None, Bool, true, false, Result, Ok, Err, refl, sym, ap, ◌∙◌}
+use Rattle.std.proofs.Common.{◌≡◌, List, [], ◌∷◌, ◌++◌, All, codes, map, Option, Some, None, Bool, true, false, Result, Ok, Err, refl, sym}
+use Rattle.std.proofs.Common.{ap, ◌∙◌}
 use Rattle.std.proofs.Common.{append_assoc, ◌||◌, if◌then◌else◌}
 use Rattle.std.specs.Prelude.{nat_le}
 use Rattle.mg_text.specs.Call.{Name}
@@ -40,7 +41,8 @@ module _ (p : Option Name) (files : List Source) (stop : Stop) (answer : Result 
       (Err stop) → Answers (λ (fs : Row ClientFile). AreClients p files fs.items) (FirstRefusal p files) answer
   roles_failed parts each h =
       refused_by (λ (done : Unit {0}). Judged SharesRole (with_earlier files) None) (λ r. Judged SharesRole (with_earlier files) (Some r))
-      (λ (fs : Row ClientFile). AreClients p files fs.items) (FirstRefusal p files) (λ r j. at_first (at_next parts each j)) stop h answer is
+      (λ (fs : Row ClientFile). AreClients p files fs.items) (FirstRefusal p files) (λ r j. at_first (at_next parts each j))
+      stop h answer is
 
 pub all_answered : (p : Option Name) (files : List Source) (parts : List Part) (answer : Result (Row ClientFile) Stop) →
     EachSpells files parts → Judged SharesRole (with_earlier files) None →
@@ -73,9 +75,11 @@ packed_name None made = refl
 packed_name (Some q) made = refl
 
 -- the file of a client is one of Java
-pub is_java : (p : Option Name) (local : LocalTree) (made : ApiText) (file : ClientFile) → client_of local ≡ Some made → file ≡ packed p made →
+pub is_java : (p : Option Name) (local : LocalTree) (made : ApiText) (file : ClientFile) → client_of local ≡ Some made →
+    file ≡ packed p made →
     EndsWith (codes ".java") file.name
 is_java p local made file e packs = (
   local.me ++ codes "Main",
-  ap (λ (f : ClientFile). f.name) packs ∙ packed_name p made ∙ made_is local made e ∙ sym (append_assoc local.me (codes "Main") (codes ".java")),
+  ap (λ (f : ClientFile). f.name) packs ∙ packed_name p made ∙ made_is local made e ∙ sym (append_assoc local.me (codes "Main")
+      (codes ".java")),
 )

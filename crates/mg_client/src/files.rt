@@ -153,11 +153,7 @@ fn found_client(
 
 // The file of a client, in a package where one is named: before it stand the package's line and an
 // empty one.
-fn packed(
-    alloc: Global,
-    package_name: Option<&Text>,
-    file: ApiFile,
-) -> Result<ClientFile, Memory>
+fn packed(alloc: Global, package_name: Option<&Text>, file: ApiFile) -> Result<ClientFile, Memory>
     ensures { IfOk result (λ f. f ≡ packed (option_map (λ p. p.now) package_name.entry) (written_of file)) }
 {
     let ApiFile { name, text, .. } = file;
@@ -172,12 +168,7 @@ fn packed(
 }
 
 // Whether a client is accepted beside the file of this name that holds this.
-fn is_accepted(
-    alloc: Global,
-    name: &Text,
-    bytes: &[u8],
-    file: &ClientFile,
-) -> Result<bool, Memory>
+fn is_accepted(alloc: Global, name: &Text, bytes: &[u8], file: &ClientFile) -> Result<bool, Memory>
     requires scribble { EndsWith (codes ".scr") name.now }
     requires java { EndsWith (codes ".java") file.now.name }
     ensures { IfOk result (λ b. IsJudged (sources (name.now ∷ file.now.name ∷ []) (bytes.now ∷ file.now.text ∷ [])) b) }

@@ -37,7 +37,8 @@ use Rattle.mg_runs.specs.Headline.{Course, IsRun}
 use Rattle.mg_exec.proofs.Apart.{not_refused as not_stopped, one_course}
 use Rattle.vm_world_law.specs.declared.role.RoleMain.{RoleMain}
 use Rattle.mg_top.specs.Translation.{Target, AreTranslated}
-use Rattle.mg_top.specs.Commands.{Gives, translated, played, conforms, checked, compiled, ran, executed, refined, projected, loaded, verified, fitted, faulted, shown}
+use Rattle.mg_top.specs.Commands.{Gives, translated, played, conforms, checked, compiled, ran, executed, refined, projected, loaded}
+use Rattle.mg_top.specs.Commands.{verified, fitted, faulted, shown}
 use Rattle.mg_top.specs.Commands.{refined_status}
 use Rattle.mg_top.specs.Statuses.{status_of}
 use Rattle.mg_top.specs.Commands.{load_asked, load_sources, role_mains_of, cast_mains_of, IsRefused, judged_names, Yields, gives, refused}

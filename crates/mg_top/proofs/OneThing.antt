@@ -60,7 +60,8 @@ use Rattle.mg_delivery.specs.Lines.{refusal_line, refusal_lines, not_offered_lin
 use Rattle.mg_top.specs.Conformance.{calls_of, Conforms, complete, unfinished, not_offered, IsNoList, too_large, bad_line, ConformRefusal}
 use Rattle.mg_top.specs.Commands.{loaded, load_asked, load_sources, judged_names, prints, kept_in, role_mains_of, cast_mains_of, run_said, run_printed}
 use Rattle.mg_top.specs.Commands.{exec_said, exec_printed}
-use Rattle.mg_top.specs.Commands.{Gives, translated, played, conforms, checked, compiled, ran, executed, refined, projected, verified, fitted, faulted, shown}
+use Rattle.mg_top.specs.Commands.{Gives, translated, played, conforms, checked, compiled, ran, executed, refined, projected, verified}
+use Rattle.mg_top.specs.Commands.{fitted, faulted, shown}
 use Rattle.mg_top.specs.Commands.{IsRefused, Yields, gives, refused}
 use Rattle.mg_top.specs.Commands as commands
 use Rattle.mg_top.specs.Once.{SameActions, YieldsOnce}
@@ -299,7 +300,8 @@ module _ (law : RefusalsAreAlike) where
       → AreAlike r q
   refused_alike {contents = contents} {r = r} {q = q} (commands.translate {files = files} h) (commands.translate k) =
       sources_alike.same_refusal (sources files contents) r q h k
-  refused_alike {contents = contents} {r = r} {q = q} (commands.client {package_name = package_name} {files = files} h) (commands.client k) =
+  refused_alike {contents = contents} {r = r} {q = q} (commands.client {package_name = package_name} {files = files} h)
+      (commands.client k) =
       client_alike.same_refusal package_name (sources files contents) r q h k
   refused_alike {r = r} {q = q} (commands.conform {protocol = protocol} {calls = calls} {bytes = bytes} {listed = listed} h)
       (commands.conform k) =

@@ -4,7 +4,8 @@ use Rattle.mg_delivery.specs.declared.status.Status.{Status}
 use Rattle.mg_delivery.specs.declared.status.Status.TheVariants as statuses
 use Rattle.mg_delivery.specs.declared.delivery.Action.{Action}
 use Rattle.mg_delivery.specs.declared.delivery.Action.TheVariants.{Say}
-use Rattle.mg_words.specs.Words.{Word, Command, Translate, Client, Conform, Check, Compile, Run, Exec, Refine, Project, Load, Verify, Fit, Show, files_of}
+use Rattle.mg_words.specs.Words.{Word, Command, Translate, Client, Conform, Check, Compile, Run, Exec, Refine, Project, Load, Verify, Fit}
+use Rattle.mg_words.specs.Words.{Show, files_of}
 use Rattle.mg_words.specs.Words.{IsCommand}
 use Rattle.mg_words.specs.Words.{AreWrong}
 use Rattle.mg_delivery.specs.Lines.{words_line, read_line, memory_line}

@@ -9,7 +9,8 @@ use Rattle.mg_words.specs.declared.runs.Input.{Input}
 use Rattle.mg_words.specs.declared.runs.Input.TheVariants as input
 use Rattle.mg_words.specs.declared.options.Named.{Named}
 use Rattle.mg_words.specs.declared.options.Named.TheVariants as named
-use Rattle.mg_words.specs.Words.{Word, RoleClass, Roles, Alone, Several, role_names, Command, Translate, Client, Conform, Check, Compile, Run, Exec}
+use Rattle.mg_words.specs.Words.{Word, RoleClass, Roles, Alone, Several, role_names, Command, Translate, Client, Conform, Check, Compile}
+use Rattle.mg_words.specs.Words.{Run, Exec}
 use Rattle.mg_words.specs.Words.{Refine, Project, Load, Verify, Fit, Show, Asked, RunOption, Main, Role, Order, Steps, Trace, Out, option_words}
 use Rattle.mg_words.specs.Words.{IsOption}
 use Rattle.mg_words.specs.Words.{AreOptions, IsCommand, AreCommand, CanBegin, AreWrong}

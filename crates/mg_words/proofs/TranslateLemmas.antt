@@ -12,7 +12,8 @@ use Rattle.mg_words.specs.Words.{IsBehind, IsCommand, AreCommand, CanBegin, AreW
 use Rattle.mg_words.specs.inner.Judging.{IsFirstOther, AreTargeted, making, word_for}
 use Rattle.mg_words.specs.declared.targets.Made.{Made}
 use Rattle.mg_words.proofs.WordsLemmas.{out, some_source, some_class, named, is_name as folder_named, head_is, tail_is, filled, empty_is}
-use Rattle.mg_words.proofs.WordsLemmas.{nothing_behind, All-first, All-push, All-mid, none_yet, pushed_filled, first_wrong, is_making, making_is}
+use Rattle.mg_words.proofs.WordsLemmas.{nothing_behind, All-first, All-push, All-mid, none_yet, pushed_filled, first_wrong, is_making}
+use Rattle.mg_words.proofs.WordsLemmas.{making_is}
 use Rattle.mg_words.proofs.NameLemmas.{never_both}
 use Rattle.mg_words.proofs.OptionLemmas.{at_end, one_there}
 use Rattle.mg_words.proofs.FollowLemmas.{same_value}
@@ -117,7 +118,8 @@ folder_free o more p q d v was all =
 -- ---- what can begin the command
 
 -- options and files can be followed by a file
-begins_files : (k : Made) (o : List TargetOption) (p d : Option Word) (before : List Word) → AreTargets p d o → All (IsFileOf (codes ".scr")) before
+begins_files : (k : Made) (o : List TargetOption) (p d : Option Word) (before : List Word) → AreTargets p d o →
+    All (IsFileOf (codes ".scr")) before
     → CanBegin AreCommand (word_for k ∷ (words_of o ++ before))
 begins_files k o p d before h each = (
   some_source ∷ [],
@@ -137,7 +139,8 @@ begins_sooner : (k : Made) (ws more : List Word) → CanBegin AreCommand (word_f
 begins_sooner k ws more (rest, (command, is)) =
     (more ++ rest, (command, subst (IsCommand command) (ap (λ (z : List Word). word_for k ∷ z) (append_assoc ws more rest)) is))
 
-begins_targets : (k : Made) (o : List TargetOption) (p d : Option Word) → AreTargets p d o → CanBegin AreCommand (word_for k ∷ (words_of o ++ []))
+begins_targets : (k : Made) (o : List TargetOption) (p d : Option Word) → AreTargets p d o →
+    CanBegin AreCommand (word_for k ∷ (words_of o ++ []))
 begins_targets k o p d h = begins_files k o p d [] h (none_yet (IsFileOf (codes ".scr")))
 
 -- options can be followed by the word of one more
@@ -182,7 +185,8 @@ record Goes (k : Made) (o : List TargetOption) (rest : List Word) (command : Com
   all : AreTargets p d (o ++ more)
   are : AreFiles files
 
-goes_on : (k : Made) (o : List TargetOption) (rest : List Word) (command : Command) → IsCommand command (word_for k ∷ (words_of o ++ rest)) →
+goes_on : (k : Made) (o : List TargetOption) (rest : List Word) (command : Command) →
+    IsCommand command (word_for k ∷ (words_of o ++ rest)) →
     Goes k o rest command
 goes_on k o rest command is =
     let (p, d, files, same, (all, e, how, are)) = is_making k command (words_of o ++ rest) is in
@@ -276,7 +280,8 @@ lacks_files k o p d files h none =
     subst (λ (z : List Word). AreWrong (word_for k ∷ (words_of o ++ z)) None) (sym (empty_is files none)) (few_files k o p d h)
 
 -- options and files are the command
-pub are_making : (k : Made) (o : List TargetOption) (p d : Option Word) (files : List Word) → AreTargets p d o → eqb (length files) 0 ≡ false
+pub are_making : (k : Made) (o : List TargetOption) (p d : Option Word) (files : List Word) → AreTargets p d o →
+    eqb (length files) 0 ≡ false
     → All (IsFileOf (codes ".scr")) files → IsCommand (making k p d files) (word_for k ∷ (words_of o ++ files))
 are_making k o p d files h some each = making_is k p d files (words_of o ++ files) (o, refl, h, (not_none files some, each)) where
   not_none : (xs : List Word) → eqb (length xs) 0 ≡ false → xs ≢ []
@@ -348,7 +353,8 @@ taken None e n = absurd cc
 taken (Some w) e n = absurd cc
 
 pub package_twice : (k : Made) (words : List Word) (p d : Option (Bor Word)) (rest : List Word) (word : Word) (behind : List Word)
-    → AreTargeted words (seen p) (seen d) rest → is_some p ≡ true → rest ≡ word ∷ behind → word ≡ pack → AreWrong (word_for k ∷ words) (Some word)
+    → AreTargeted words (seen p) (seen d) rest → is_some p ≡ true → rest ≡ word ∷ behind → word ≡ pack →
+    AreWrong (word_for k ∷ words) (Some word)
 package_twice k words p d rest word behind h is_there is name =
     subst (λ (z : List Word). AreWrong (word_for k ∷ z) (Some word)) (sym (h.stand ∙ ap (λ (z : List Word). words_of h.options ++ z) is))
     (wrong_behind k h.options [] word behind (begins_targets k h.options (seen p) (seen d) h.are) (λ command more goes.
@@ -358,7 +364,8 @@ package_twice k words p d rest word behind h is_there is name =
     (subst (λ (z : List TargetOption). AreTargets goes.p goes.d (h.options ++ z)) at goes.all))))
 
 pub folder_twice : (k : Made) (words : List Word) (p d : Option (Bor Word)) (rest : List Word) (word : Word) (behind : List Word)
-    → AreTargeted words (seen p) (seen d) rest → is_some d ≡ true → rest ≡ word ∷ behind → word ≡ out → AreWrong (word_for k ∷ words) (Some word)
+    → AreTargeted words (seen p) (seen d) rest → is_some d ≡ true → rest ≡ word ∷ behind → word ≡ out →
+    AreWrong (word_for k ∷ words) (Some word)
 folder_twice k words p d rest word behind h is_there is name =
     subst (λ (z : List Word). AreWrong (word_for k ∷ z) (Some word)) (sym (h.stand ∙ ap (λ (z : List Word). words_of h.options ++ z) is))
     (wrong_behind k h.options [] word behind (begins_targets k h.options (seen p) (seen d) h.are) (λ command more goes.

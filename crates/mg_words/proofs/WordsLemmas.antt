@@ -9,7 +9,8 @@ use Rattle.std.specs.List.{ends_with, list_all}
 use Rattle.mg_read.specs.Passes.{AllPasses}
 use Rattle.scr_tree.specs.Words.{reserved, IsName}
 use Rattle.mg_sources.specs.Files.{EndsWith, Kind, Scribble, Typestates, Java, suffix_of, HaveKinds}
-use Rattle.mg_words.specs.Words.{Word, Command, Translate, Client, Conform, Check, Compile, Run, Exec, Refine, Project, Load, Verify, Fit, Show, Asked}
+use Rattle.mg_words.specs.Words.{Word, Command, Translate, Client, Conform, Check, Compile, Run, Exec, Refine, Project, Load, Verify, Fit}
+use Rattle.mg_words.specs.Words.{Show, Asked}
 use Rattle.mg_words.specs.Words.{AreOptions, AreTargetsAndFiles}
 use Rattle.mg_words.specs.Words.{IsFileName, IsFileOf, IsSourceName, AreSourceNames, out_words, verb}
 use Rattle.mg_words.specs.Words.{IsBehind, IsCommand, AreCommand, CanBegin, AreWrong}
@@ -170,7 +171,8 @@ is_making kinds.Clients (Client package_name folder files) rest (r, e, b) =
 is_making kinds.Clients other rest (r, e, b) = absurd (omega (arith, ap mark (head_is e)))
 
 -- and such words are that command
-pub making_is : (k : Made) (package_name folder : Option Word) (files rest : List Word) → AreTargetsAndFiles package_name folder files rest →
+pub making_is : (k : Made) (package_name folder : Option Word) (files rest : List Word) →
+    AreTargetsAndFiles package_name folder files rest →
     IsCommand (making k package_name folder files) (word_for k ∷ rest)
 making_is kinds.Api package_name folder files rest h = (rest, refl, h)
 making_is kinds.Clients package_name folder files rest h = (rest, refl, h)
@@ -314,10 +316,12 @@ pub wrong_at : (before rest : List Word) (word : Word) (more : List Word) → re
 wrong_at before rest word more e can cannot = subst (λ (ws : List Word). AreWrong (before ++ ws) (Some word)) (sym e)
     (first_wrong before word more can cannot)
 
-pub wrong_command : (word : Word) (rest : List Word) → (word ≡ fit → ⊥) → (word ≡ translate → ⊥) → (word ≡ client → ⊥) → (word ≡ conform → ⊥)
+pub wrong_command : (word : Word) (rest : List Word) → (word ≡ fit → ⊥) → (word ≡ translate → ⊥) → (word ≡ client → ⊥) →
+    (word ≡ conform → ⊥)
     → (word ≡ check → ⊥) → (word ≡ compile → ⊥) → (word ≡ run → ⊥) → (word ≡ exec → ⊥) → (word ≡ refine → ⊥)
     → (word ≡ project → ⊥) → (word ≡ load → ⊥) → (word ≡ verify → ⊥) → (word ≡ show → ⊥) → AreWrong (word ∷ rest) (Some word)
-wrong_command word rest no_fit no_translate no_client no_conform no_check no_compile no_run no_exec no_refine no_project no_load no_verify no_show =
+wrong_command word rest no_fit no_translate no_client no_conform no_check no_compile no_run no_exec no_refine no_project no_load no_verify
+    no_show =
     first_wrong [] word rest begins_empty (λ b. cannot b.1.0 (head_is b.1.1.1)) where
       cannot : (command : Command) → word ≡ verb command → ⊥
       cannot (Translate package_name folder files) = no_translate

@@ -8,7 +8,8 @@ use Rattle.std.specs.List.{IsDistinct, list_any, list_all, slice_split, before_f
 use Rattle.std.specs.Str.{bytes_eq}
 use Rattle.mg_words.specs.declared.asked.Asked.{Asked as Kept}
 use Rattle.mg_words.specs.declared.asked.RoleClass.{RoleClass as KeptRole}
-use Rattle.mg_words.specs.Words.{Word, RoleClass, Roles, Alone, Several, role_names, Asked, Command, Translate, Client, Conform, Check, Compile}
+use Rattle.mg_words.specs.Words.{Word, RoleClass, Roles, Alone, Several, role_names, Asked, Command, Translate, Client, Conform, Check}
+use Rattle.mg_words.specs.Words.{Compile}
 use Rattle.mg_words.specs.Words.{Run, Exec, Refine, Project, Load, Verify, Fit, Show, all_words, IsFileOf, IsSourceName, IsCommand, AreWrong, RunOption, Main}
 use Rattle.mg_words.specs.Words.{Role}
 use Rattle.mg_words.specs.Words.{Order, Steps, Trace, Out, option_words, IsOption, class_in, role_in, order_in, steps_in, is_trace}
@@ -97,7 +98,8 @@ cast_of cast = roles_in cast.words.now
 -- the command that was found
 abbrev pub command_of : Found → Command
 command_of (found.Translate package_name folder files) = Translate (option_map (λ w. w.now) package_name) (option_map (λ w. w.now) folder) files.now
-command_of (found.Client package_name folder files) = Client (option_map (λ w. w.now) package_name) (option_map (λ w. w.now) folder) files.now
+command_of (found.Client package_name folder files) = Client (option_map (λ w. w.now) package_name) (option_map (λ w. w.now) folder)
+    files.now
 command_of (found.Conform files) = Conform files.now
 command_of (found.Check all files) = Check all files.now
 command_of (found.Compile folder files) = Compile (option_map (λ w. w.now) folder) files.now

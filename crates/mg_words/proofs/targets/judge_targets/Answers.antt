@@ -15,12 +15,14 @@ returns-then-is_some c =
 
 pub returns-in_default-split_first : goal.returns-in_default-split_first
 returns-in_default-split_first c =
-    few_package c.args.made c.args.words.now c.loop-word.package_name c.loop-word.folder _ _ _ c.loop-word.invariant c.in-Some.ensures.cases.0
+    few_package c.args.made c.args.words.now c.loop-word.package_name c.loop-word.folder _ _ _ c.loop-word.invariant
+    c.in-Some.ensures.cases.0
     (sym c.is_some.ensures ∙ c.if-is_some.false) (c.if-is_word.ensures.0 refl) c.in_default-split_first.ensures.cases
 
 pub returns-then-not-is_package : goal.returns-then-not-is_package
 returns-then-not-is_package c =
-    wrong_package c.args.made c.args.words.now c.loop-word.package_name c.loop-word.folder _ _ _ c.loop-word.invariant c.in-Some.ensures.cases.0
+    wrong_package c.args.made c.args.words.now c.loop-word.package_name c.loop-word.folder _ _ _ c.loop-word.invariant
+    c.in-Some.ensures.cases.0
     c.in-Some-split_first.value.now _ (sym c.is_some.ensures ∙ c.if-is_some.false) (c.if-is_word.ensures.0 refl)
     c.in-Some-split_first.ensures.cases.0
     (refuted (λ h. c.if-not-is_package.ensures ∙ ap is_package c.as_str.ensures ∙ h))
@@ -32,12 +34,14 @@ returns-then-is_some-2 c =
 
 pub returns-in_default-split_first-2 : goal.returns-in_default-split_first-2
 returns-in_default-split_first-2 c =
-    few_folder c.args.made c.args.words.now c.loop-word.package_name c.loop-word.folder _ _ _ c.loop-word.invariant c.in-Some.ensures.cases.0
+    few_folder c.args.made c.args.words.now c.loop-word.package_name c.loop-word.folder _ _ _ c.loop-word.invariant
+    c.in-Some.ensures.cases.0
     (sym c.is_some-then-is_word-2.ensures ∙ c.if-is_some-2.false) (c.if-is_word-2.ensures.0 refl) c.in_default-split_first-2.ensures.cases
 
 pub returns-then-not-is_file_name : goal.returns-then-not-is_file_name
 returns-then-not-is_file_name c =
-    wrong_folder c.args.made c.args.words.now c.loop-word.package_name c.loop-word.folder _ _ _ c.loop-word.invariant c.in-Some.ensures.cases.0
+    wrong_folder c.args.made c.args.words.now c.loop-word.package_name c.loop-word.folder _ _ _ c.loop-word.invariant
+    c.in-Some.ensures.cases.0
     c.in-Some-split_first-2.value.now _ (sym c.is_some-then-is_word-2.ensures ∙ c.if-is_some-2.false) (c.if-is_word-2.ensures.0 refl)
     c.in-Some-split_first-2.ensures.cases.0 (refuted c.if-not-is_file_name.ensures.1)
 
