@@ -1,7 +1,7 @@
 -- Clients that are made one after another.
 use Rattle.std.proofs.Common.{◌≡◌, ◌<◌, ◌≤◌, ◌+◌, ℕ, zero, suc, List, [], ◌∷◌, ◌++◌, length, map, get_or, take, drop, Option, Some, None}
 use Rattle.std.proofs.Common.{refl, sym, ap, ◌∙◌, subst, arith, drop-cons, add-one, Result, Err}
-use Rattle.std.proofs.lemmas.List.{take_more, take_all}
+use Rattle.std.proofs.lemmas.List.{take_more, take_all, length-map}
 use Rattle.mg_text.specs.Call.{Name}
 use Rattle.mg_text.specs.Row.{Row}
 use Rattle.mg_read.specs.First.{Judged, here, later}
@@ -13,7 +13,7 @@ use Rattle.mg_sources.specs.Files.{Source, source_of, sources}
 use Rattle.mg_sources.specs.Reading.{Part, Reads, EachSpells}
 use Rattle.mg_sources.specs.Parts.{part_of}
 use Rattle.mg_sources.specs.declared.part.Part.{Part as KeptPart}
-use Rattle.mg_sources.proofs.PartLemmas.{source_is, source_within}
+use Rattle.mg_sources.proofs.PartLemmas.{source_is, source_within, sources_length, same_length}
 use Rattle.mg_client.specs.declared.files.ClientFile.{ClientFile}
 use Rattle.mg_client.specs.Clients.{IsPlayed, EachPlays, IsUnaccepted}
 
@@ -42,6 +42,15 @@ spelled_at names contents parts i name item bytes l same lt lt' e e' k is each =
     (subst (λ (z : Source). Reads z (get_or (map part_of parts) i (part_of l)))
     (sym (source_is names contents i name item bytes same lt e e' k))
     (each_at i (sources names contents) (map part_of parts) f (part_of l) each (source_within names contents i same lt)))
+
+-- as many parts as files
+pub within_parts : (names contents : List (List ℕ)) (parts : List KeptPart) (i : ℕ) → length names ≡ length contents →
+    EachSpells (sources names contents) (map part_of parts) → i < length contents → i < length parts
+within_parts names contents parts i same each lt =
+    let count = sources_length 0 names contents same in
+    let both = same_length (sources names contents) (map part_of parts) each in
+    let mapped = length-map parts part_of in
+    omega (arith, count, both, mapped)
 
 -- ---- in a loop
 

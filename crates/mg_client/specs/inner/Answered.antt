@@ -1,5 +1,5 @@
 -- What judging a client may answer.
-use Rattle.std.specs.Prelude.{Bool, true, false, List, Option, Some, None, ⊥}
+use Rattle.std.specs.Prelude.{Bool, true, false, List, Option, Some, None}
 use Rattle.mg_text.specs.Call.{Name}
 use Rattle.jv_core.specs.Tree as Core
 use Rattle.mg_sources.specs.Files.{Source}
