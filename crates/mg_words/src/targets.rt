@@ -1,6 +1,6 @@
 //! The words behind `translate` and `client`: a package and a folder in any order, and then files.
 
-ghost use Rattle.std.specs.Prelude.{◌≡◌, ◌∷◌, List, option_map};
+ghost use Rattle.std.specs.Prelude.{◌≡◌, ◌∷◌, codes, List, option_map};
 ghost use Rattle.mg_words.specs.Words.{Word};
 ghost use Rattle.mg_words.specs.inner.Judging.{IsJudged, IsTranslated, word_for, making, command_of};
 
