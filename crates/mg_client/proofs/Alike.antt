@@ -1,5 +1,5 @@
 -- Two first refusals of files without clients are one, but for the place of Syntax.
-use Rattle.std.proofs.Common.{◌≡◌, List, [], ◌∷◌, Option, Some, None, refl, inl}
+use Rattle.std.proofs.Common.{◌≡◌, List, [], ◌∷◌, Option, Some, refl, inl}
 use Rattle.mg_text.specs.Call.{Name}
 use Rattle.mg_read.proofs.Judging.{no_both, one_answer}
 use Rattle.mg_refusal.specs.Refusals.{Refusal, AreAlike}

@@ -11,10 +11,10 @@ use Rattle.stm_client.specs.Client.{client_of}
 use Rattle.mg_refusal.specs.Refusals.{Refusal, refusal_at}
 use Rattle.mg_refusal.proofs.Orders.{then_never}
 use Rattle.mg_sources.specs.Files.{Source}
-use Rattle.mg_sources.specs.Reading.{Protocol, Reads, Refuses}
+use Rattle.mg_sources.specs.Reading.{Protocol, Refuses}
 use Rattle.mg_sources.proofs.OneKind.{one_part, excludes}
 use Rattle.mg_client.specs.declared.files.ClientFile.{ClientFile}
-use Rattle.mg_client.specs.Clients.{packed, IsClient, IsPlayed, EachPlays, IsUnaccepted, AreClients, FirstRefusal}
+use Rattle.mg_client.specs.Clients.{packed, IsClient, EachPlays, IsUnaccepted, AreClients, FirstRefusal}
 
 pub same_local : (k l : LocalTree) → Protocol k ≡ Protocol l → k ≡ l
 same_local k l e = cc

@@ -1,12 +1,11 @@
 -- The client of one protocol, judged beside its file.
-use Rattle.std.proofs.Common.{◌≡◌, ℕ, zero, suc, List, [], ◌∷◌, codes, Option, Some, None, Bool, true, false, refl, sym, ap, ◌∙◌, subst}
+use Rattle.std.proofs.Common.{◌≡◌, ℕ, zero, suc, List, [], ◌∷◌, codes, Option, Some, None, Bool, true, false, sym, ap, ◌∙◌, subst}
 use Rattle.std.proofs.Common.{arith}
 use Rattle.mg_text.specs.Call.{Name}
 use Rattle.mg_text.specs.Places.{start_of}
 use Rattle.scr_tree.specs.Tree.{LocalTree}
 use Rattle.stm_api.specs.Api.{ApiText}
 use Rattle.stm_client.specs.Client.{client_of}
-use Rattle.jv_core.specs.Tree as Core
 use Rattle.mg_refusal.specs.Refusals.{Refusal, refusal_at}
 use Rattle.mg_sources.specs.Files.{Source, EndsWith, Scribble, Java, HaveKinds, sources}
 use Rattle.mg_sources.specs.Reading.{Protocol, Reads}

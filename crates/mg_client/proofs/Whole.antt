@@ -1,5 +1,5 @@
 -- What the calls that make clients answer.
-use Rattle.std.proofs.Common.{◌≡◌, List, [], ◌∷◌, ◌++◌, All, codes, map, Option, Some, None, Bool, true, false, Result, Ok, Err, refl, sym}
+use Rattle.std.proofs.Common.{◌≡◌, List, ◌++◌, All, codes, map, Option, Some, None, Bool, true, false, Result, Ok, Err, refl, sym}
 use Rattle.std.proofs.Common.{ap, ◌∙◌}
 use Rattle.std.proofs.Common.{append_assoc, ◌||◌, if◌then◌else◌}
 use Rattle.std.specs.Prelude.{nat_le}
@@ -10,19 +10,18 @@ use Rattle.scr_tree.specs.Tree.{LocalTree, titled}
 use Rattle.stm_api.specs.Api.{ApiText}
 use Rattle.stm_client.specs.Counting.{nothing_yet, survey_all}
 use Rattle.stm_client.specs.Client.{client_of, client_file, making_of, has_items}
-use Rattle.api_package.specs.Heads.{head}
 use Rattle.mg_refusal.specs.Refusals.{Refusal}
 use Rattle.mg_refusal.specs.Order.{Answers, at_first, at_next}
 use Rattle.mg_refusal.specs.declared.stop.Stop.{Stop}
 use Rattle.mg_refusal.specs.declared.stop.Stop.TheVariants as stops
 use Rattle.mg_refusal.proofs.Orders.{refused_by}
-use Rattle.mg_sources.specs.Files.{Source, EndsWith, Scribble, HaveKinds, sources}
+use Rattle.mg_sources.specs.Files.{Source, EndsWith, Scribble, HaveKinds}
 use Rattle.mg_sources.specs.Reading.{Part, EachSpells, Refuses}
 use Rattle.mg_sources.specs.Sources.{SharesRole}
 use Rattle.mg_sources.specs.Parts.{part_of}
 use Rattle.mg_sources.specs.declared.part.Part.{Part as KeptPart}
 use Rattle.mg_client.specs.declared.files.ClientFile.{ClientFile}
-use Rattle.mg_client.specs.Clients.{packed, EachPlays, IsUnaccepted, AreClients, AreApart, FirstRefusal}
+use Rattle.mg_client.specs.Clients.{packed, EachPlays, IsUnaccepted, AreClients, FirstRefusal}
 
 pub scribble_kinds : (names : List Name) → All (EndsWith (codes ".scr")) names → HaveKinds names
 scribble_kinds names each k d lt = (Scribble, each k d lt)

@@ -1,5 +1,5 @@
 -- The clients of files of protocols, and the first refusal of files that have none.
-use Rattle.std.specs.Prelude.{◌≡◌, ℕ, List, [], ◌∷◌, ◌++◌, codes, Option, Some, None}
+use Rattle.std.specs.Prelude.{◌≡◌, List, [], ◌∷◌, ◌++◌, codes, Option, Some, None}
 use Rattle.mg_text.specs.Call.{Name}
 use Rattle.mg_text.specs.Places.{start_of}
 use Rattle.mg_read.specs.First.{Judged, with_earlier}

@@ -8,7 +8,7 @@ use Rattle.jv_tree.specs.Tokens.{is_name}
 use Rattle.api_package.specs.Package.{IsPackage}
 use Rattle.mg_words.specs.Words.{Word, Command, AreTargetsAndFiles, TargetOption, Package, Folder, target_words, IsTarget, target_package}
 use Rattle.mg_words.specs.Words.{target_folder, AreTargets, IsFileName, IsFileOf, AreFilesOf}
-use Rattle.mg_words.specs.Words.{IsBehind, IsCommand, AreCommand, CanBegin, AreWrong}
+use Rattle.mg_words.specs.Words.{IsCommand, AreCommand, CanBegin, AreWrong}
 use Rattle.mg_words.specs.inner.Judging.{IsFirstOther, AreTargeted, making, word_for}
 use Rattle.mg_words.specs.declared.targets.Made.{Made}
 use Rattle.mg_words.proofs.WordsLemmas.{out, some_source, some_class, named, is_name as folder_named, head_is, tail_is, filled, empty_is}

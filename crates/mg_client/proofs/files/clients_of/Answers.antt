@@ -1,9 +1,8 @@
-use Rattle.std.proofs.Common.{[], ◌∷◌, ◌++◌, ◌+◌, ℕ, map, codes, option_map, sym, ap, ◌∙◌, subst, Err, Result, List, arith}
+use Rattle.std.proofs.Common.{◌+◌, ℕ, map, codes, option_map, sym, ap, ◌∙◌, subst, Err, Result, List, arith}
 use Rattle.std.proofs.lemmas.Result.{err_from_is_err_and}
 use Rattle.mg_text.specs.Row.{Row}
 use Rattle.mg_refusal.specs.declared.stop.Stop.{Stop}
 use Rattle.mg_sources.specs.Files.{EndsWith, source_of, sources}
-use Rattle.mg_sources.specs.Parts.{part_of}
 use Rattle.mg_sources.proofs.PartLemmas.{source_is, source_within, sources_length}
 use Rattle.mg_client.specs.declared.files.ClientFile.{ClientFile}
 use Rattle.mg_client.proofs.Each.{PlaysSoFar, plays_start, plays_more, plays_failed, plays_end, spelled_at, within_parts}

@@ -1,4 +1,3 @@
-use Rattle.std.proofs.Common.{option_map}
 use Rattle.std.proofs.lemmas.Result.{err_from_is_err_and}
 use Rattle.mg_text.specs.Row.{Row}
 use Rattle.mg_client.specs.Clients.{AreClients, FirstRefusal}
