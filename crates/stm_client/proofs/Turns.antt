@@ -8,46 +8,43 @@ use Rattle.mg_text.specs.Call.{Name}
 use Rattle.mg_text.specs.declared.place.Place.{Place}
 use Rattle.jv_tree.specs.Source.{Stmt, IfElse}
 use Rattle.stm_client.specs.declared.labels.Around.{Around}
-use Rattle.stm_client.specs.Client.{Loop, counter, counters, is_taken, free_label, label_in, is_turn, by_turns, before_last, last_of, block}
+use Rattle.stm_client.specs.Client.{Loop, counter, counters, is_taken, free_label, is_turn, in_turn}
 use Rattle.stm_client.specs.View.{loop_of, loops_of}
 
 -- ---- blocks
 
-pub before-last : (xs : List Stmt) (x : Stmt) → before_last (xs ++ x ∷ []) ≡ xs
-before-last [] x = refl
-before-last (y ∷ []) x = refl
-before-last (y ∷ z ∷ more) x = ap (λ (l : List Stmt). y ∷ l) (before-last (z ∷ more) x)
+-- blocks, each where its turn is; behind them comes this one
+abbrev pub turned : Place → (k n i : ℕ) → List Stmt → (last : Stmt) → Stmt
+turned p k n i [] last = last
+turned p k n i (b ∷ bs) last = IfElse p (is_turn p k n i) b (turned p k n (i + 1) bs last)
 
-pub last-of : (p : Place) (xs : List Stmt) (x : Stmt) → last_of p (xs ++ x ∷ []) ≡ x
-last-of p [] x = refl
-last-of p (y ∷ []) x = refl
-last-of p (y ∷ z ∷ more) x = last-of p (z ∷ more) x
+in-turn : (p : Place) (k n i : ℕ) (xs : List Stmt) (x : Stmt) → in_turn p k n i (xs ++ x ∷ []) ≡ turned p k n i xs x
+in-turn p k n i [] x = refl
+in-turn p k n i (y ∷ []) x = refl
+in-turn p k n i (y ∷ z ∷ more) x = ap (λ (s : Stmt). IfElse p (is_turn p k n i) y s) (in-turn p k n (i + 1) (z ∷ more) x)
 
-pub turns-behind : (p : Place) (k n i : ℕ) (xs : List Stmt) (x last : Stmt) →
-    by_turns p k n i (xs ++ x ∷ []) last ≡ by_turns p k n i xs (IfElse p (is_turn p k n (i + length xs)) x last)
-turns-behind p k n i [] x last =
-    let e : i ≡ i + 0 = omega arith in ap (λ (j : ℕ). IfElse p (is_turn p k n j) x last) e
-turns-behind p k n i (y ∷ ys) x last =
+turned-behind : (p : Place) (k n i : ℕ) (xs : List Stmt) (x last : Stmt) →
+    turned p k n i (xs ++ x ∷ []) last ≡ turned p k n i xs (IfElse p (is_turn p k n (i + length xs)) x last)
+turned-behind p k n i [] x last = let e : i ≡ i + 0 = omega arith in ap (λ (j : ℕ). IfElse p (is_turn p k n j) x last) e
+turned-behind p k n i (y ∷ ys) x last =
     let e : i + 1 + length ys ≡ i + suc (length ys) = omega arith in
-    ap (λ (s : Stmt). IfElse p (is_turn p k n i) y s) (turns-behind p k n (i + 1) ys x last
-    ∙ ap (λ (j : ℕ). by_turns p k n (i + 1) ys (IfElse p (is_turn p k n j) x last)) e)
+    ap (λ (s : Stmt). IfElse p (is_turn p k n i) y s) (turned-behind p k n (i + 1) ys x last
+    ∙ ap (λ (j : ℕ). turned p k n (i + 1) ys (IfElse p (is_turn p k n j) x last)) e)
 
 -- blocks that are taken from behind, one by one
 module _ {A : Type 0} (f : A → Stmt) (p : Place) (k n : ℕ) where
   pub turns-start : (old rest : List A) (x : A) → old ≡ rest ++ x ∷ [] →
-      by_turns p k n 1 (before_last (map f old)) (last_of p (map f old)) ≡ by_turns p k n 1 (map f rest) (f x)
-  turns-start old rest x e =
-      ap (λ (l : List Stmt). by_turns p k n 1 (before_last l) (last_of p l)) (ap (map f) e ∙ map_push f rest x)
-      ∙ (λ i. by_turns p k n 1 (before-last (map f rest) (f x) i) (last-of p (map f rest) (f x) i))
+      in_turn p k n 1 (map f old) ≡ turned p k n 1 (map f rest) (f x)
+  turns-start old rest x e = ap (in_turn p k n 1) (ap (map f) e ∙ map_push f rest x) ∙ in-turn p k n 1 (map f rest) (f x)
 
-  pub turns-more : (old rest : List A) (x : A) (last turned : Stmt) (branch : ℕ) → old ≡ rest ++ x ∷ [] → branch ≡ length rest + 1 →
-      turned ≡ by_turns p k n branch (f x ∷ []) last → by_turns p k n 1 (map f old) last ≡ by_turns p k n 1 (map f rest) turned
-  turns-more old rest x last turned branch e at so =
+  pub turns-more : (old rest : List A) (x : A) (last next : Stmt) (branch : ℕ) → old ≡ rest ++ x ∷ [] → branch ≡ length rest + 1 →
+      next ≡ IfElse p (is_turn p k n branch) (f x) last → turned p k n 1 (map f old) last ≡ turned p k n 1 (map f rest) next
+  turns-more old rest x last next branch e at so =
       let long : length (map f rest) ≡ length rest = length-map rest f in
       let here : 1 + length (map f rest) ≡ branch = omega (arith, long, at) in
-      ap (λ (l : List Stmt). by_turns p k n 1 l last) (ap (map f) e ∙ map_push f rest x)
-      ∙ turns-behind p k n 1 (map f rest) (f x) last
-      ∙ ap (by_turns p k n 1 (map f rest)) (ap (λ (j : ℕ). IfElse p (is_turn p k n j) (f x) last) here ∙ sym so)
+      ap (λ (l : List Stmt). turned p k n 1 l last) (ap (map f) e ∙ map_push f rest x)
+      ∙ turned-behind p k n 1 (map f rest) (f x) last
+      ∙ ap (turned p k n 1 (map f rest)) (ap (λ (j : ℕ). IfElse p (is_turn p k n j) (f x) last) here ∙ sym so)
 
 -- ---- labels
 

@@ -1,52 +1,42 @@
--- How choices are counted in the order of the text, where control comes, and how many tests stand one inside another.
-use Rattle.std.specs.Prelude.{ℕ, ◌+◌, Bool, true, false, ◌&&◌, ◌||◌, List, [], ◌∷◌, max}
+-- How choices are counted in the order of the text, and how many tests stand one inside another.
+use Rattle.std.specs.Prelude.{ℕ, ◌+◌, Bool, true, false, List, [], ◌∷◌, max, if◌then◌else◌}
 use Rattle.std.specs.Str.{bytes_eq}
 use Rattle.mg_text.specs.Call.{Name}
 use Rattle.scr_tree.specs.Tree.{Statements, Nothing, Says, Choice, Rec, Continue, Do, Branches, NoBranch, Branch, Titled}
-use Rattle.stm_client.specs.declared.points.Point.{Point}
+use Rattle.scr_tree.specs.Actions.{next, next_in}
+use Rattle.stm_client.specs.declared.points.Numbers.{Numbers}
 use Rattle.stm_client.specs.declared.points.Survey.{Survey}
 
--- ---- points of the text: the numbers of the next choice elsewhere and of the next own one, and whether control comes there
+-- ---- the numbers of the next choice that another role makes, and of the next own one
 
 -- where a file begins
-abbrev pub start : Point
-start = record { there = 1; own = 1; falls = true }
+abbrev pub start : Numbers
+start = record { there = 1; own = 1 }
 
--- control comes here, or doesn't
-abbrev pub reached : Point → Point
-reached at = record { there = at.there; own = at.own; falls = true }
-
-abbrev pub left : Point → Point
-left at = record { there = at.there; own = at.own; falls = false }
-
--- behind the opening of a choice, which is an own one or another's: no branch has come to its end
-abbrev pub opened : Bool → Point → Point
-opened true at = record { there = at.there; own = at.own + 1; falls = false }
-opened false at = record { there = at.there + 1; own = at.own; falls = false }
-
--- behind one more branch, whose end is this
-abbrev pub joined : Point → Point → Point
-joined at end = record { there = end.there; own = end.own; falls = at.falls || end.falls }
-
--- behind a statement that stands here, whose end is this
-abbrev pub passed : Point → Point → Point
-passed at end = record { there = end.there; own = end.own; falls = at.falls && end.falls }
+-- behind the opening of a choice, which is an own one or another's
+abbrev pub opened : Bool → Numbers → Numbers
+opened own at = record { there = if own then at.there else at.there + 1; own = if own then at.own + 1 else at.own }
 
 abbrev mutual
-  -- the point behind statements
-  pub behind : Name → Point → Statements → Point
-  behind me at Nothing = at
-  behind me at (Says m rest) = behind me at rest
-  behind me at (Choice place by branches rest) =
-      behind me (passed at (behind_in me (opened (bytes_eq by me) at) branches)) rest
-  behind me at (Rec place name body rest) = behind me (passed at (behind me (reached at) body)) rest
-  behind me at (Continue place name rest) = behind me (left at) rest
-  behind me at (Do place name rest) = behind me (left at) rest
+  -- which number the next own choice has, behind statements
+  pub next_own : Name → ℕ → Statements → ℕ
+  next_own me k Nothing = k
+  next_own me k (Says m rest) = next_own me k rest
+  next_own me k (Choice place by branches rest) = next_own me (next_own_in me (if bytes_eq by me then k + 1 else k) branches) rest
+  next_own me k (Rec place name body rest) = next_own me (next_own me k body) rest
+  next_own me k (Continue place name rest) = next_own me k rest
+  next_own me k (Do place name rest) = next_own me k rest
 
-  -- the point behind branches
-  pub behind_in : Name → Point → Branches → Point
-  behind_in me at NoBranch = at
-  behind_in me at (Branch b more) = behind_in me (joined at (behind me (reached at) b)) more
+  pub next_own_in : Name → ℕ → Branches → ℕ
+  next_own_in me k NoBranch = k
+  next_own_in me k (Branch b more) = next_own_in me (next_own me k b) more
+
+-- both numbers, behind statements and behind branches
+abbrev pub behind : Name → Numbers → Statements → Numbers
+behind me at body = record { there = next me at.there body; own = next_own me at.own body }
+
+abbrev pub behind_in : Name → Numbers → Branches → Numbers
+behind_in me at branches = record { there = next_in me at.there branches; own = next_own_in me at.own branches }
 
 -- ---- what a file has: how many own choices, how many branches of own choices one inside another at most, and whether it goes on by `do`
 

@@ -39,12 +39,7 @@ fn survey_parts(me: &Text, so_far: Survey, parts: &[Part]) -> Result<Survey, Mem
 // With what statements have, which stand so deep.
 #[tactic(auto, using(crate::proofs::Counting::survey_steps))]
 #[cycle(survey)]
-fn survey_body(
-    me: &Text,
-    level: u32,
-    so_far: Survey,
-    body: &[Statement],
-) -> Result<Survey, Memory>
+fn survey_body(me: &Text, level: u32, so_far: Survey, body: &[Statement]) -> Result<Survey, Memory>
     ensures { IfOk result (λ s. s ≡ survey me.now level so_far (statements body.now)) }
 {
     let mut so_far = so_far;
@@ -56,12 +51,7 @@ fn survey_body(
 
 #[tactic(auto, using(crate::proofs::Counting::surveyed))]
 #[cycle(survey)]
-fn survey_at(
-    me: &Text,
-    level: u32,
-    so_far: Survey,
-    statement: &Statement,
-) -> Result<Survey, Memory>
+fn survey_at(me: &Text, level: u32, so_far: Survey, statement: &Statement) -> Result<Survey, Memory>
     ensures { IfOk result (λ s. s ≡ survey me.now level so_far (front statement.now Nothing)) }
 {
     match statement {
