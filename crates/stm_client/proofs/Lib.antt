@@ -1,4 +1,5 @@
 pub mod Counting
+pub mod Surveyed
 pub mod Trees
 pub mod Words
 pub mod Turns

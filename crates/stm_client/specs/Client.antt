@@ -28,7 +28,7 @@ use Rattle.jv_tree.specs.Source as java
 use Rattle.jv_tree.specs.View.{exprs_of, stmts_of, groups_of, OneGroup}
 use Rattle.stm_api.specs.Api.{ApiText, written}
 use Rattle.stm_client.specs.declared.points.Numbers.{Numbers}
-use Rattle.stm_client.specs.Counting.{start, opened, behind, behind_in, nothing_yet, survey_all}
+use Rattle.stm_client.specs.Counting.{start, opened, behind, behind_in, own_choices, deepest_of_all, any_goes_on}
 
 -- ---- names
 
@@ -246,11 +246,7 @@ has_items (x ∷ xs) = true
 -- ---- the whole
 
 abbrev pub making_of : LocalTree → Making
-making_of local = record {
-  place = start_of local.file;
-  me = local.me;
-  counters = counters (survey_all local.me nothing_yet (titled local)).own;
-}
+making_of local = record { place = start_of local.file; me = local.me; counters = counters (own_choices local.me 0 (titled local)) }
 
 -- the class of these methods
 abbrev pub class_with : Making → List Method → Class
@@ -259,10 +255,12 @@ class_with w ms = record { place = w.place; name = w.me ++ codes "Main"; typesta
 abbrev pub client_file : Making → LocalTree → (several : Bool) → ApiText
 client_file w local several = written (w.me ++ codes "Main.java") (ClassDecl (class_with w (methods w local several)) ∷ [])
 
+-- whether each protocol of the file has a method
+abbrev pub is_several : LocalTree → Bool
+is_several local = has_items local.others || any_goes_on (titled local)
+
 -- The file of the client of a local protocol; each place is the first of the protocol's file. There is none where more than 200 branches of
 -- own choices stand one inside another: a file of Java has statements and expressions at most 200 deep.
 abbrev pub client_of : LocalTree → Option ApiText
 client_of local =
-    if nat_le (survey_all local.me nothing_yet (titled local)).levels 200
-    then Some (client_file (making_of local) local (has_items local.others || (survey_all local.me nothing_yet (titled local)).goes_on))
-    else None
+    if nat_le (deepest_of_all local.me (titled local)) 200 then Some (client_file (making_of local) local (is_several local)) else None

@@ -1,11 +1,10 @@
--- How choices are counted in the order of the text, and how many tests stand one inside another.
-use Rattle.std.specs.Prelude.{ℕ, ◌+◌, Bool, true, false, List, [], ◌∷◌, max, if◌then◌else◌}
+-- How choices are counted in the order of the text, how many tests stand one inside another, and which protocols go on by `do`.
+use Rattle.std.specs.Prelude.{ℕ, ◌+◌, Bool, true, false, ◌||◌, List, [], ◌∷◌, max, if◌then◌else◌}
 use Rattle.std.specs.Str.{bytes_eq}
 use Rattle.mg_text.specs.Call.{Name}
 use Rattle.scr_tree.specs.Tree.{Statements, Nothing, Says, Choice, Rec, Continue, Do, Branches, NoBranch, Branch, Titled}
 use Rattle.scr_tree.specs.Actions.{next, next_in}
 use Rattle.stm_client.specs.declared.points.Numbers.{Numbers}
-use Rattle.stm_client.specs.declared.points.Survey.{Survey}
 
 -- ---- the numbers of the next choice that another role makes, and of the next own one
 
@@ -38,43 +37,52 @@ behind me at body = record { there = next me at.there body; own = next_own me at
 abbrev pub behind_in : Name → Numbers → Branches → Numbers
 behind_in me at branches = record { there = next_in me at.there branches; own = next_own_in me at.own branches }
 
--- ---- what a file has: how many own choices, how many branches of own choices one inside another at most, and whether it goes on by `do`
+-- how many own choices protocols have, where there are so many before
+abbrev pub own_choices : Name → ℕ → List Titled → ℕ
+own_choices me k [] = k
+own_choices me k (t ∷ ts) = own_choices me (next_own me k t.body) ts
 
-abbrev pub nothing_yet : Survey
-nothing_yet = record { own = 0; levels = 0; goes_on = false }
-
--- one more own choice
-abbrev pub counted : Bool → Survey → Survey
-counted true s = record { own = s.own + 1; levels = s.levels; goes_on = s.goes_on }
-counted false s = s
+-- ---- how many branches of own choices stand one inside another
 
 -- each branch of an own choice stands one deeper than the one before it, since it is tried where that isn't taken
 abbrev pub deeper : Bool → ℕ → ℕ
 deeper true level = level + 1
 deeper false level = level
 
-abbrev pub seen : ℕ → Survey → Survey
-seen level s = record { own = s.own; levels = max s.levels level; goes_on = s.goes_on }
+abbrev mutual
+  -- how deep the deepest branch stands in statements, which stand so deep themselves
+  pub deepest : Name → ℕ → Statements → ℕ
+  deepest me level Nothing = level
+  deepest me level (Says m rest) = deepest me level rest
+  deepest me level (Choice place by branches rest) = max (deepest_in me (bytes_eq by me) level branches) (deepest me level rest)
+  deepest me level (Rec place name body rest) = max (deepest me level body) (deepest me level rest)
+  deepest me level (Continue place name rest) = deepest me level rest
+  deepest me level (Do place name rest) = deepest me level rest
 
-abbrev pub going_on : Survey → Survey
-going_on s = record { own = s.own; levels = s.levels; goes_on = true }
+  -- the same of the branches of a choice, which is an own one or another's
+  pub deepest_in : Name → Bool → ℕ → Branches → ℕ
+  deepest_in me own level NoBranch = level
+  deepest_in me own level (Branch b more) = max (deepest me (deeper own level) b) (deepest_in me own (deeper own level) more)
+
+abbrev pub deepest_of_all : Name → List Titled → ℕ
+deepest_of_all me [] = 0
+deepest_of_all me (t ∷ ts) = max (deepest me 0 t.body) (deepest_of_all me ts)
+
+-- ---- whether a protocol goes on as another, or as itself, by `do`
 
 abbrev mutual
-  pub survey : Name → ℕ → Survey → Statements → Survey
-  survey me level s Nothing = s
-  survey me level s (Says m rest) = survey me level s rest
-  survey me level s (Choice place by branches rest) =
-      survey me level (survey_in me (bytes_eq by me) level (counted (bytes_eq by me) s) branches) rest
-  survey me level s (Rec place name body rest) = survey me level (survey me level s body) rest
-  survey me level s (Continue place name rest) = survey me level s rest
-  survey me level s (Do place name rest) = survey me level (going_on s) rest
+  pub goes_on : Statements → Bool
+  goes_on Nothing = false
+  goes_on (Says m rest) = goes_on rest
+  goes_on (Choice place by branches rest) = some_goes_on branches || goes_on rest
+  goes_on (Rec place name body rest) = goes_on body || goes_on rest
+  goes_on (Continue place name rest) = goes_on rest
+  goes_on (Do place name rest) = true
 
-  pub survey_in : Name → Bool → ℕ → Survey → Branches → Survey
-  survey_in me own level s NoBranch = s
-  survey_in me own level s (Branch b more) =
-      survey_in me own (deeper own level) (survey me (deeper own level) (seen (deeper own level) s) b) more
+  pub some_goes_on : Branches → Bool
+  some_goes_on NoBranch = false
+  some_goes_on (Branch b more) = goes_on b || some_goes_on more
 
--- of all protocols of a file
-abbrev pub survey_all : Name → Survey → List Titled → Survey
-survey_all me s [] = s
-survey_all me s (t ∷ ts) = survey_all me (survey me 0 s t.body) ts
+abbrev pub any_goes_on : List Titled → Bool
+any_goes_on [] = false
+any_goes_on (t ∷ ts) = goes_on t.body || any_goes_on ts

@@ -1,7 +1,8 @@
 //! How choices are numbered, where control comes, and what a protocol's file has.
 
 ghost use Rattle.std.specs.Prelude.{◌≡◌, ◌+◌, IfOk};
-ghost use Rattle.stm_client.specs.Counting.{opened, counted, deeper, seen, going_on};
+ghost use Rattle.stm_client.specs.Counting.{opened, deeper};
+ghost use Rattle.stm_client.specs.inner.Surveyed.{counted, seen, going_on};
 ghost use Rattle.stm_client.specs.View.{past, either};
 
 use mg_text::{Memory, Place, Text};
