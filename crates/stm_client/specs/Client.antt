@@ -1,6 +1,6 @@
 -- The client of a local protocol: a class whose `main` plays the whole protocol, each statement of the text in its order.
 use Rattle.std.specs.Prelude.{ℕ, zero, suc, ◌+◌, pos, Bool, true, false, ◌||◌, List, [], ◌∷◌, ◌++◌, map, length, codes}
-use Rattle.std.specs.Prelude.{Option, Some, None, if◌then◌else◌, nat_le}
+use Rattle.std.specs.Prelude.{Option, Some, None, if◌then◌else◌, nat_lt, nat_le}
 use Rattle.std.specs.Char.{to_ascii_lowercase}
 use Rattle.std.specs.Fmt.{decimal}
 use Rattle.std.specs.List.{list_any, range_with_len}
@@ -239,10 +239,6 @@ abbrev pub methods : Making → LocalTree → (several : Bool) → List Method
 methods w local false = main_with w (plays w [] start local.body) ∷ []
 methods w local true = main_with w (Eval w.place (part_call w local.name) ∷ []) ∷ part_methods w start (titled local)
 
-abbrev pub has_items : {A : Type 0} → List A → Bool
-has_items [] = false
-has_items (x ∷ xs) = true
-
 -- ---- the whole
 
 abbrev pub making_of : LocalTree → Making
@@ -257,7 +253,7 @@ client_file w local several = written (w.me ++ codes "Main.java") (ClassDecl (cl
 
 -- whether each protocol of the file has a method
 abbrev pub is_several : LocalTree → Bool
-is_several local = has_items local.others || any_goes_on (titled local)
+is_several local = nat_lt 0 (length local.others) || any_goes_on (titled local)
 
 -- The file of the client of a local protocol; each place is the first of the protocol's file. There is none where more than 200 branches of
 -- own choices stand one inside another: a file of Java has statements and expressions at most 200 deep.

@@ -1,6 +1,6 @@
 //! The file of a client.
 
-ghost use Rattle.std.specs.Prelude.{◌≡◌, ◌++◌, [], ◌∷◌, true, false, codes, IfOk, OnOk, map, option_map};
+ghost use Rattle.std.specs.Prelude.{◌≡◌, ◌++◌, ◌||◌, [], ◌∷◌, true, false, codes, IfOk, OnOk, map, length, option_map, nat_lt};
 ghost use Rattle.scr_tree.specs.Local.{tree_of};
 ghost use Rattle.scr_tree.specs.Tree.{other};
 ghost use Rattle.scr_tree.specs.View.{statements, part_of};
@@ -46,9 +46,15 @@ pub fn client(alloc: Global, local: &Local) -> Result<Option<ApiFile>, Memory>
         place: Place::start(local.file()),
         counters: counters.as_slice(),
     };
-    let is_several = !local.others().as_slice().is_empty() || survey.goes_on;
-    let file = file_of(alloc, &about, is_several)?;
+    let file = file_of(alloc, &about, is_several(local, survey.goes_on))?;
     Ok(Some(file))
+}
+
+// Whether each protocol of a file has a method: there are several, or one that goes on by `do`.
+fn is_several(local: &Local, goes_on: bool) -> bool
+    ensures { result ≡ (nat_lt 0 (length (tree_of local.now).others) || goes_on) }
+{
+    !local.others().as_slice().is_empty() || goes_on
 }
 
 // The names of the counters of the first own choices, so many.

@@ -1,0 +1,44 @@
+-- The file of a client, from what was found of the protocol.
+use Rattle.std.proofs.Common.{◌≡◌, ℕ, zero, suc, ◌<◌, ◌≤◌, Bool, true, false, List, [], ◌∷◌, ◌++◌, map, refl, sym, ap, subst, ◌∙◌, arith}
+use Rattle.std.proofs.Common.{if◌then◌else◌, Some, None, codes}
+use Rattle.std.specs.Prelude.{◌||◌, length, nat_lt, nat_le}
+use Rattle.std.proofs.lemmas.Bool.Decides.{nat_tests}
+use Rattle.mg_text.specs.Call.{Name}
+use Rattle.scr_tree.specs.Tree.{LocalTree, titled}
+use Rattle.jv_tree.specs.Source.{Stmt, Method}
+use Rattle.stm_api.specs.Api.{ApiText}
+use Rattle.stm_client.specs.declared.points.Survey.{Survey}
+use Rattle.stm_client.specs.Counting.{start, deepest_of_all}
+use Rattle.stm_client.specs.Client.{Making, plays, new_role, new_counter, static_method, methods, making_of, is_several, client_file, client_of}
+use Rattle.stm_client.specs.inner.Surveyed.{survey_of}
+
+-- ---- whether there are several
+
+pub some_others : (n : ℕ) (goes_on : Bool) → 0 < n → true ≡ (nat_lt 0 n || goes_on)
+some_others zero goes_on some = absurd (omega arith)
+some_others (suc n) goes_on some = refl
+
+pub no_others : (n : ℕ) (goes_on : Bool) → n ≡ 0 → goes_on ≡ (nat_lt 0 n || goes_on)
+no_others n goes_on none = ap (λ k. nat_lt 0 k || goes_on) (sym none)
+
+-- ---- whether there is a client
+
+over : (n m : ℕ) → m < n → nat_le n m ≡ false
+over n m h = grind (arith, nat_tests)
+
+within : (n m : ℕ) → n ≤ m → nat_le n m ≡ true
+within n m h = grind (arith, nat_tests)
+
+pub too_deep : (t : LocalTree) (s : Survey) → s ≡ survey_of t → 200 < s.levels → None ≡ client_of t
+too_deep t s so deep =
+    let e : nat_le (deepest_of_all t.me (titled t)) 200 ≡ false = over (deepest_of_all t.me (titled t)) 200
+    (subst (λ (z : Survey). 200 < z.levels) so deep) in
+    ap (λ (b : Bool). if b then Some (client_file (making_of t) t (is_several t)) else None) (sym e)
+
+pub a_client : (t : LocalTree) (s : Survey) (w : Making) (several : Bool) (f : ApiText) → s ≡ survey_of t → s.levels ≤ 200 →
+    w ≡ making_of t → several ≡ is_several t → f ≡ client_file w t several → Some f ≡ client_of t
+a_client t s w several f so low made parts e =
+    let l : nat_le (deepest_of_all t.me (titled t)) 200 ≡ true = within (deepest_of_all t.me (titled t)) 200
+    (subst (λ (z : Survey). z.levels ≤ 200) so low) in
+    ap Some (e ∙ (λ k. client_file (made k) t (parts k)))
+    ∙ ap (λ (b : Bool). if b then Some (client_file (making_of t) t (is_several t)) else None) (sym l)
