@@ -60,8 +60,8 @@ abbrev pub free_label : ℕ → List Loop → Name → Name
 free_label zero loops label = label
 free_label (suc n) loops label = if is_taken loops label then free_label n loops (label ++ codes "_") else label
 
--- The label of a `rec` inside these: its name in small letters. One more `_` than there are loops around makes it free: the words that Java
--- reserves have no other with `_` behind it.
+-- The label of a `rec` inside these: its name in small letters, with `_` until it is free. So many are enough, since no word that Java reserves
+-- ends with `_`.
 abbrev pub label_for : List Loop → Name → Name
 label_for loops name = free_label (suc (length loops)) loops (map to_ascii_lowercase name)
 

@@ -11,3 +11,4 @@ mod stmts;
 mod survey;
 
 pub use files::client;
+pub use labels::labels_are_free;
