@@ -1,4 +1,4 @@
--- The blocks of an own choice, taken from the last to the first; labels, and counters one by one.
+-- The blocks of an own choice, taken from the last to the first; loops and counters one by one.
 use Rattle.std.proofs.Common.{◌≡◌, ◌×◌, ℕ, zero, suc, ◌+◌, ◌-◌, ◌<◌, ◌≤◌, Bool, true, false, List, [], ◌∷◌, ◌++◌, map, length, take, drop, get_or, refl, sym}
 use Rattle.std.proofs.Common.{ap, ◌∙◌, arith, codes, if◌then◌else◌, append_assoc, length-append}
 use Rattle.std.specs.List.{range_with_len, list_any}
@@ -45,14 +45,6 @@ module _ {A : Type 0} (f : A → Stmt) (p : Place) (k n : ℕ) where
       ap (λ (l : List Stmt). turned p k n 1 l last) (ap (map f) e ∙ map_push f rest x)
       ∙ turned-behind p k n 1 (map f rest) (f x) last
       ∙ ap (turned p k n 1 (map f rest)) (ap (λ (j : ℕ). IfElse p (is_turn p k n j) (f x) last) here ∙ sym so)
-
--- ---- labels
-
-pub not-taken : (n : ℕ) (loops : List Loop) (w : Name) → is_taken loops w ≡ false → free_label (suc n) loops w ≡ w
-not-taken n loops w e = ap (λ (b : Bool). if b then free_label n loops (w ++ codes "_") else w) e
-
-pub is-taken : (n : ℕ) (loops : List Loop) (w : Name) → is_taken loops w ≡ true → free_label (suc n) loops w ≡ free_label n loops (w ++ codes "_")
-is-taken n loops w e = ap (λ (b : Bool). if b then free_label n loops (w ++ codes "_") else w) e
 
 -- ---- the loops around, copied one by one
 

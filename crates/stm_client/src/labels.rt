@@ -1,9 +1,8 @@
 //! The labels of loops.
 
-ghost use Rattle.std.specs.Prelude.{◌≡◌, ◌++◌, List, [], ◌∷◌, false, IfOk, OnOk};
+ghost use Rattle.std.specs.Prelude.{◌≡◌, ◌++◌, [], ◌∷◌, IfOk, OnOk};
 ghost use Rattle.std.specs.List.{list_any};
 ghost use Rattle.std.specs.Str.{bytes_eq};
-ghost use Rattle.mg_text.specs.Call.{Name};
 ghost use Rattle.mg_text.specs.JavaWords.{java_words};
 ghost use Rattle.stm_client.specs.Client.{is_taken, label_for, label_in, with_loop, Loop};
 ghost use Rattle.stm_client.specs.View.{loops_of};
@@ -104,8 +103,3 @@ fn add_loop(name: &Text, label: &Text, loops: &mut List<Around>) -> Result<(), M
     let label = label.copy()?;
     loops.push(Around { name, label })
 }
-
-/// The label of a `rec` is free: neither a word that Java reserves nor the label of a loop around.
-pub fn labels_are_free()
-    ensures { (loops : List Loop) (name : Name) → is_taken loops (label_for loops name) ≡ false }
-{}

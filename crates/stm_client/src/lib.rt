@@ -6,9 +6,10 @@ mod body;
 mod exprs;
 mod files;
 mod labels;
+mod laws;
 mod points;
 mod stmts;
 mod survey;
 
 pub use files::client;
-pub use labels::labels_are_free;
+pub use laws::labels_are_free;

@@ -1,5 +1,5 @@
 use Rattle.stm_client.proofs.Labels as law
-use Rattle.stm_client.proofs.labels.labels_are_free.Goals as goal
+use Rattle.stm_client.proofs.laws.labels_are_free.Goals as goal
 
 pub returns : goal.returns
 returns c = law.labels_are_free
