@@ -46,8 +46,9 @@ module _ {A : Type 0} (f : A → Stmt) (p : Place) (k n : ℕ) where
       ∙ turned-behind p k n 1 (map f rest) (f x) last
       ∙ ap (turned p k n 1 (map f rest)) (ap (λ (j : ℕ). IfElse p (is_turn p k n j) (f x) last) here ∙ sym so)
 
-  pub own-choice : (items : List A) → own_choice p k (map f items) ≡ next_turn p k ∷ in_turn p k (length items) 1 (map f items) ∷ []
-  own-choice items = ap (λ (m : ℕ). next_turn p k ∷ in_turn p k m 1 (map f items) ∷ []) (length-map items f)
+pub own-choice : {A : Type 0} (f : A → Stmt) (p : Place) (k : ℕ) (items : List A) →
+    own_choice p k (map f items) ≡ next_turn p k ∷ in_turn p k (length items) 1 (map f items) ∷ []
+own-choice f p k items = ap (λ (m : ℕ). next_turn p k ∷ in_turn p k m 1 (map f items) ∷ []) (length-map items f)
 
 -- ---- the loops around, copied one by one
 
