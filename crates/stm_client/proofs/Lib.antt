@@ -5,4 +5,4 @@ pub mod Words
 pub mod Turns
 pub mod Playing
 pub mod Whole
-pub mod Labels
+pub mod FreeLabels

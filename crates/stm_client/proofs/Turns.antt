@@ -2,13 +2,13 @@
 use Rattle.std.proofs.Common.{◌≡◌, ◌×◌, ℕ, zero, suc, ◌+◌, ◌-◌, ◌<◌, ◌≤◌, Bool, true, false, List, [], ◌∷◌, ◌++◌, map, length, take, drop, get_or, refl, sym}
 use Rattle.std.proofs.Common.{ap, ◌∙◌, arith, codes, if◌then◌else◌, append_assoc, length-append}
 use Rattle.std.specs.List.{range_with_len, list_any}
-use Rattle.std.specs.Str.{bytes_eq}
+use Rattle.std.specs.Char.{to_ascii_lowercase}
 use Rattle.std.proofs.lemmas.List.{map-append, map_push, map_more, length-map}
 use Rattle.mg_text.specs.Call.{Name}
 use Rattle.mg_text.specs.declared.place.Place.{Place}
 use Rattle.jv_tree.specs.Source.{Stmt, IfElse}
 use Rattle.stm_client.specs.declared.labels.Around.{Around}
-use Rattle.stm_client.specs.Client.{Loop, counter, counters, is_turn, in_turn, next_turn, own_choice}
+use Rattle.stm_client.specs.Client.{Loop, counter, counters, is_taken, free_label, label_for, is_turn, in_turn, next_turn, own_choice}
 use Rattle.stm_client.specs.View.{loop_of, loops_of}
 
 -- ---- blocks
@@ -49,6 +49,33 @@ module _ {A : Type 0} (f : A → Stmt) (p : Place) (k n : ℕ) where
 pub own-choice : {A : Type 0} (f : A → Stmt) (p : Place) (k : ℕ) (items : List A) →
     own_choice p k (map f items) ≡ next_turn p k ∷ in_turn p k (length items) 1 (map f items) ∷ []
 own-choice f p k items = ap (λ (m : ℕ). next_turn p k ∷ in_turn p k m 1 (map f items) ∷ []) (length-map items f)
+
+-- ---- the label of a loop, one `_` after another
+
+pub label-first : (loops : List Around) (name w : Name) (n : ℕ) → w ≡ map to_ascii_lowercase name → n ≡ length loops + 1 →
+    label_for (loops_of loops) name ≡ free_label n (loops_of loops) w
+label-first loops name w n is many =
+    let long : length (map loop_of loops) ≡ length loops = length-map loops loop_of in
+    let e : suc (length (map loop_of loops)) ≡ n = omega (arith, long, many) in
+    λ k. free_label (e k) (loops_of loops) (sym is k)
+
+module _ (n step : ℕ) (loops : List Loop) (w all : Name) (so : all ≡ free_label (n + 1 - step) loops w) where
+  pub label-free : step < n + 1 → is_taken loops w ≡ false → w ≡ all
+  label-free within free =
+      let e : n + 1 - step ≡ suc (n - step) = omega arith in
+      let here : free_label (suc (n - step)) loops w ≡ w = ap (λ (b : Bool). if b then free_label (n - step) loops (w ++ codes "_") else w) free in
+      sym (so ∙ ap (λ k. free_label k loops w) e ∙ here)
+
+  pub label-taken : (new : Name) → step < n + 1 → is_taken loops w ≡ true → new ≡ w ++ codes "_" → all ≡ free_label (n + 1 - (step + 1)) loops new
+  label-taken new within taken put =
+      let e : n + 1 - step ≡ suc (n - step) = omega arith in
+      let f : n - step ≡ n + 1 - (step + 1) = omega arith in
+      let here : free_label (suc (n - step)) loops w ≡ free_label (n - step) loops (w ++ codes "_") =
+      ap (λ (b : Bool). if b then free_label (n - step) loops (w ++ codes "_") else w) taken in
+      so ∙ ap (λ k. free_label k loops w) e ∙ here ∙ (λ k. free_label (f k) loops (sym put k))
+
+  pub label-last : n + 1 ≤ step → w ≡ all
+  label-last end = let e : n + 1 - step ≡ 0 = omega arith in sym (so ∙ ap (λ k. free_label k loops w) e)
 
 -- ---- the loops around, copied one by one
 

@@ -33,8 +33,8 @@ play_blocks-loop-branch-preserved t c =
           c.loop-branch.invariant.end
           ∙ either-step c.loop-branch.end c.in_ok-last.last c.either-end.result c.args.branches.now c.loop-branch.branch-index
           c.branch-item.result c.loop-branch-test.true c.branch-item.is c.either-end.ensures w.me so;
-      blocks =
-          c.loop-branch.invariant.blocks
+      made =
+          c.loop-branch.invariant.made
           ∙ blocks-step c.loop-branch.end c.in_ok-last.last c.either-end.result c.args.branches.now c.loop-branch.branch-index
           c.branch-item.result c.loop-branch-test.true c.branch-item.is c.either-end.ensures w (loops_of c.args.loops.now)
           (map stmt_of c.play.new.out.items) so
@@ -54,8 +54,8 @@ play_groups-loop-branch-preserved t c =
           c.loop-branch.invariant.end
           ∙ either-step c.loop-branch.end c.in_ok-last.last c.either-end.result c.args.branches.now c.loop-branch.branch-index
           c.branch-item.result c.loop-branch-test.true c.branch-item.is c.either-end.ensures w.me so;
-      groups =
-          c.loop-branch.invariant.groups
+      made =
+          c.loop-branch.invariant.made
           ∙ groups-step c.loop-branch.end c.in_ok-last.last c.either-end.result c.args.branches.now c.loop-branch.branch-index
           c.branch-item.result c.loop-branch-test.true c.branch-item.is c.either-end.ensures w (loops_of c.args.loops.now)
           (map stmt_of c.play.new.out.items) so

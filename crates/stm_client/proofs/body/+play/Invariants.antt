@@ -17,7 +17,7 @@ abbrev pub invariant-play_blocks-loop-branch : goal.invariant-play_blocks-loop-b
 invariant-play_blocks-loop-branch l = record {
   end : end_of_branches (making l.about).me l.fn.at (bodies l.branches)
       ≡ either l.end (end_of_branches (making l.about).me l.end.numbers (bodies (drop l.branch-index l.branches)));
-  blocks : map stmt_of l.fn.out.items ++ blocks (making l.about) (loops_of l.loops) l.fn.at (bodies l.branches)
+  made : map stmt_of l.fn.out.items ++ blocks (making l.about) (loops_of l.loops) l.fn.at (bodies l.branches)
       ≡ map stmt_of l.out.items ++ blocks (making l.about) (loops_of l.loops) l.end.numbers (bodies (drop l.branch-index l.branches));
 }
 
@@ -25,7 +25,7 @@ abbrev pub invariant-play_groups-loop-branch : goal.invariant-play_groups-loop-b
 invariant-play_groups-loop-branch l = record {
   end : end_of_branches (making l.about).me l.fn.at (bodies l.branches)
       ≡ either l.end (end_of_branches (making l.about).me l.end.numbers (bodies (drop l.branch-index l.branches)));
-  groups : map group_of l.fn.out.items ++ groups (making l.about) (loops_of l.loops) l.fn.at (bodies l.branches)
+  made : map group_of l.fn.out.items ++ groups (making l.about) (loops_of l.loops) l.fn.at (bodies l.branches)
       ≡ map group_of l.out.items ++ groups (making l.about) (loops_of l.loops) l.end.numbers (bodies (drop l.branch-index l.branches));
 }
 

@@ -5,6 +5,7 @@ use Rattle.std.specs.Prelude.{◌||◌, ◌==◌}
 use Rattle.std.specs.Char.{to_ascii_lowercase}
 use Rattle.std.specs.List.{list_any}
 use Rattle.std.specs.Str.{bytes_eq}
+use Rattle.std.proofs.lemmas.Bool.{false≢true}
 use Rattle.std.proofs.lemmas.Slice.Eq.{bytes_eq-Decides}
 use Rattle.mg_text.specs.Call.{Name}
 use Rattle.mg_text.specs.JavaWords.{java_words}
@@ -17,12 +18,12 @@ right-or : (a b : Bool) → a ≡ false → (a || b) ≡ true → b ≡ true
 right-or a b x y = sym (ap (λ c. c || b) x) ∙ y
 
 both-not : (a b : Bool) → (a || b) ≡ false → (a ≡ false) × (b ≡ false)
-both-not true b e = let no : true ≡ false = e in cc
+both-not true b e = absurd (false≢true (sym e))
 both-not false b e = (refl, e)
 
 -- ---- no word that Java reserves ends with `_`
 
-last_code : Name → ℕ
+abbrev last_code : Name → ℕ
 last_code [] = 0
 last_code (c ∷ []) = c
 last_code (c ∷ d ∷ cs) = last_code (d ∷ cs)
@@ -32,7 +33,7 @@ last-low [] = refl
 last-low (c ∷ []) = refl
 last-low (c ∷ d ∷ cs) = last-low (d ∷ cs)
 
-ends_low : Name → Bool
+abbrev ends_low : Name → Bool
 ends_low word = last_code word == 95
 
 no-word : list_any ends_low java_words ≡ false
@@ -58,7 +59,7 @@ not-reserved v = none-of v java_words no-word
 
 -- ---- how many loops have a label at least so long
 
-long : ℕ → List Loop → ℕ
+abbrev long : ℕ → List Loop → ℕ
 long n [] = 0
 long n (l ∷ loops) = min 1 (length l.label + 1 - n) + long n loops
 
@@ -70,11 +71,11 @@ long-less : (n : ℕ) (loops : List Loop) → long (n + 1) loops ≤ long n loop
 long-less n [] = omega arith
 long-less n (l ∷ loops) = let h : long (n + 1) loops ≤ long n loops = long-less n loops in omega arith
 
-has_label : Name → List Loop → Bool
+abbrev has_label : Name → List Loop → Bool
 has_label w loops = list_any (λ (l : Loop). bytes_eq l.label w) loops
 
 taken-less : (w : Name) (loops : List Loop) → has_label w loops ≡ true → long (length w + 1) loops + 1 ≤ long (length w) loops
-taken-less w [] e = let no : false ≡ true = e in cc
+taken-less w [] e = absurd (false≢true e)
 taken-less w (l ∷ loops) e = go (bytes_eq l.label w) refl (λ h. taken-less w loops h) where
   go : (b : Bool) → bytes_eq l.label w ≡ b → (has_label w loops ≡ true → long (length w + 1) loops + 1 ≤ long (length w) loops) →
       long (length w + 1) (l ∷ loops) + 1 ≤ long (length w) (l ∷ loops)
