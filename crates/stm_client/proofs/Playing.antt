@@ -7,6 +7,7 @@ use Rattle.std.proofs.lemmas.List.{append-nil, at_drop_more, at_drop_all, map_pu
 use Rattle.std.proofs.lemmas.Grind.{common_steps}
 use Rattle.mg_text.specs.Call.{Name}
 use Rattle.mg_text.specs.Row.{Row}
+use Rattle.mg_text.specs.declared.place.Place.{Place}
 use Rattle.scr_tree.specs.declared.syntax.Message.{Message}
 use Rattle.scr_tree.specs.declared.syntax.Part.{Part}
 use Rattle.scr_tree.specs.declared.syntax.Statement.{Statement}
@@ -18,7 +19,9 @@ use Rattle.scr_tree.specs.Meaning.{message_of}
 use Rattle.scr_tree.proofs.ViewLemmas.{front-Message, front-Choice, front-Rec, front-Continue, front-Do}
 use Rattle.scr_tree.proofs.Behind.{each_front, statements-step, statements-past, bodies-step, bodies-past}
 use Rattle.jv_tree.specs.Source.{Stmt, Method, Eval, Return, Continue}
-use Rattle.jv_tree.specs.View.{OneGroup}
+use Rattle.jv_tree.specs.View.{OneGroup, stmt_kind_of}
+use Rattle.jv_tree.specs.declared.tree.StmtKind.TheVariants as S
+use Rattle.jv_tree.proofs.ViewLaws.{kind-Continue, kind-Return}
 use Rattle.stm_client.specs.declared.points.End.{End}
 use Rattle.stm_client.specs.declared.points.Numbers.{Numbers}
 use Rattle.stm_client.specs.Counting.{opened, behind, behind_in}
@@ -52,6 +55,9 @@ module _ {A B : Type 0} (f : A → B) where
 
   pub from-nothing : (old : List A) (all more : List B) → old ≡ [] → all ≡ map f old ++ more → all ≡ more
   from-nothing old all more none e = e ∙ ap (λ l. map f l ++ more) none
+
+behind-nil : (l more : List Stmt) → l ++ more ≡ (l ++ []) ++ more
+behind-nil l more = ap (λ x. x ++ more) (sym (append-nil l))
 
 -- ---- the end of a statement, and of those behind it
 
@@ -125,7 +131,9 @@ module _ (w : Making) (loops : List Loop) (at : Numbers) where
       ++ plays w loops (behind w.me at (front s Nothing)) rest
   plays-front s rest =
       each_front (λ f. plays w loops at (f rest) ≡ plays w loops at (f Nothing) ++ plays w loops (behind w.me at (f Nothing)) rest)
-      (λ m. refl) (λ p by bs. ap (λ x. x ++ _) (sym (append-nil _))) (λ p name body. refl) (λ p name. refl) (λ p name. refl) s
+      (λ m. refl) (λ p by bs. behind-nil (if bytes_eq by w.me then own_choice w.place at.own (blocks w loops (opened true at) bs)
+      else (other_choice w at.there bs (groups w loops (opened false at) bs) ∷ []))
+      (plays w loops (behind_in w.me (opened (bytes_eq by w.me) at) bs) rest)) (λ p name body. refl) (λ p name. refl) (λ p name. refl) s
 
   pub plays-Message : (m : Message) → plays w loops at (front (kinds.Message m) Nothing) ≡ passing w.place (message_of m) ∷ []
   plays-Message m = ap (λ f. plays w loops at (f Nothing)) (front-Message m)
@@ -158,6 +166,32 @@ module _ (w : Making) (loops : List Loop) (at : Numbers) where
   pub plays-Do : (p : _) (name : Name) → plays w loops at (front (kinds.Do p name) Nothing)
       ≡ Eval w.place (part_call w name) ∷ Return w.place None ∷ []
   plays-Do p name = ap (λ f. plays w loops at (f Nothing)) (front-Do p name)
+
+-- ---- what was appended plays the statement
+
+module _ (w : Making) (loops : List Loop) (at : Numbers) (s : Statement) (old new : List Stmt) where
+  pub chosen_there : (p : Place) (by : Name) (bs : Row (Row Statement)) (me : Name) (branches : List (Row Statement)) →
+      s ≡ kinds.Choice p by bs → me ≡ w.me → bytes_eq by me ≡ false → branches ≡ bs.items →
+      new ≡ old ++ other_choice w at.there (bodies branches) (groups w loops (opened false at) (bodies branches)) ∷ [] →
+      new ≡ old ++ plays w loops at (front s Nothing)
+  chosen_there p by bs me branches is mine there here put =
+      put ∙ ap (λ l. old ++ other_choice w at.there (bodies l) (groups w loops (opened false at) (bodies l)) ∷ []) here
+      ∙ ap (λ l. old ++ l) (sym (plays-other w loops at p by bs (ap (bytes_eq by) (sym mine) ∙ there)))
+      ∙ ap (λ z. old ++ plays w loops at (front z Nothing)) (sym is)
+
+  pub continued : (p : Place) (name label : Name) → s ≡ kinds.Continue p name → label ≡ label_in loops name →
+      new ≡ old ++ stmt_kind_of (S.Continue (Some label)) w.place ∷ [] → new ≡ old ++ plays w loops at (front s Nothing)
+  continued p name label is named put =
+      put ∙ ap (λ x. old ++ x ∷ []) (kind-Continue (Some label) w.place ∙ ap (λ n. Continue w.place (Some n)) named)
+      ∙ ap (λ l. old ++ l) (sym (plays-Continue w loops at p name)) ∙ ap (λ z. old ++ plays w loops at (front z Nothing)) (sym is)
+
+  pub gone_on : (p : Place) (name : Name) (between : List Stmt) → s ≡ kinds.Do p name →
+      between ≡ old ++ Eval w.place (part_call w name) ∷ [] → new ≡ between ++ stmt_kind_of (S.Return None) w.place ∷ [] →
+      new ≡ old ++ plays w loops at (front s Nothing)
+  gone_on p name between is called put =
+      put ∙ (λ k. called k ++ kind-Return None w.place k ∷ [])
+      ∙ append_assoc old (Eval w.place (part_call w name) ∷ []) (Return w.place None ∷ [])
+      ∙ ap (λ l. old ++ l) (sym (plays-Do w loops at p name)) ∙ ap (λ z. old ++ plays w loops at (front z Nothing)) (sym is)
 
 -- ---- the statement at an index: so far the end is e, the statement ends so, and with it the end is new
 

@@ -1,7 +1,7 @@
 -- The file of a client, from what was found of the protocol.
-use Rattle.std.proofs.Common.{◌≡◌, ℕ, zero, suc, ◌<◌, ◌≤◌, Bool, true, false, List, [], ◌∷◌, ◌++◌, map, refl, sym, ap, subst, ◌∙◌, arith}
+use Rattle.std.proofs.Common.{◌≡◌, ℕ, ◌<◌, ◌≤◌, Bool, true, false, List, [], ◌∷◌, ◌++◌, map, refl, sym, ap, subst, ◌∙◌, arith}
 use Rattle.std.proofs.Common.{if◌then◌else◌, Some, None, codes}
-use Rattle.std.specs.Prelude.{◌||◌, length, nat_lt, nat_le}
+use Rattle.std.specs.Prelude.{nat_le}
 use Rattle.std.proofs.lemmas.Bool.Decides.{nat_tests}
 use Rattle.mg_text.specs.Call.{Name}
 use Rattle.scr_tree.specs.Tree.{Statements, LocalTree, PartTree, other, titled}
@@ -13,15 +13,6 @@ use Rattle.stm_client.specs.Counting.{start, behind, deepest_of_all}
 use Rattle.stm_client.specs.Client.{Making, plays, part_call, new_role, new_counter, static_method, part_method, part_methods, methods}
 use Rattle.stm_client.specs.Client.{making_of, is_several, client_file, client_of}
 use Rattle.stm_client.specs.inner.Surveyed.{survey_of}
-
--- ---- whether there are several
-
-pub some_others : (n : ℕ) (goes_on : Bool) → 0 < n → true ≡ (nat_lt 0 n || goes_on)
-some_others zero goes_on some = absurd (omega arith)
-some_others (suc n) goes_on some = refl
-
-pub no_others : (n : ℕ) (goes_on : Bool) → n ≡ 0 → goes_on ≡ (nat_lt 0 n || goes_on)
-no_others n goes_on none = ap (λ k. nat_lt 0 k || goes_on) (sym none)
 
 -- ---- whether there is a client
 

@@ -1,10 +1,12 @@
-use Rattle.std.proofs.Common.{◌≡◌, ◌∙◌, ap, sym, map}
-use Rattle.scr_tree.specs.View.{statements}
+use Rattle.std.proofs.Common.{◌≡◌, ◌∙◌, ◌++◌, [], ◌∷◌, List, None, ap, sym, map}
+use Rattle.std.proofs.lemmas.Result.{on_ok_weaker}
+use Rattle.scr_tree.specs.View.{statements, bodies}
 use Rattle.scr_tree.specs.declared.syntax.Statement.{Statement}
 use Rattle.jv_tree.specs.View.{stmt_of, group_of}
 use Rattle.stm_client.specs.View.{making, loops_of, end_of}
-use Rattle.stm_client.specs.Client.{block, plays}
+use Rattle.stm_client.specs.Client.{group, groups, plays, ended, other_choice}
 use Rattle.stm_client.proofs.Playing.{end-step, plays-step, either-step, blocks-step, groups-step, pushed, from-nothing}
+use Rattle.stm_client.proofs.Playing.{chosen_there, continued, gone_on}
 use Rattle.stm_client.proofs.body.+play.Goals as goal
 
 pub play-loop-statement-preserved : goal.play-loop-statement-preserved
@@ -62,5 +64,36 @@ play_groups-loop-branch-preserved t c =
           (from-nothing stmt_of c.new-body.result.items (map stmt_of c.play.new.out.items) _ c.new-body.ensures c.in_ok-last.ensures.plays
           ∙ ap (plays w (loops_of c.args.loops.now) c.loop-branch.end.numbers) here)
           (map group_of c.loop-branch.out.items) (map group_of c.add_group.new.out.items)
-          c.in_ok-add_group.ensures;
+          (c.in_ok-add_group.ensures ∙ ap (λ (ss : List Statement). map group_of c.loop-branch.out.items
+          ++ group w.place (statements ss) (map stmt_of c.play.new.out.items ++ ended w.place None c.in_ok-last.last.falls) ∷ [])
+          c.as_slice-2.ensures.items);
     }
+
+pub play_other-returns-clause-plays : goal.play_other-returns-clause-plays
+play_other-returns-clause-plays t c =
+    let w = making c.args.about.now in
+    let loops = loops_of c.args.loops.now in
+    let branches = bodies c.args.branches.now in
+    pushed stmt_of c.args.out.now.items c.push.new.self.items c.in_ok-choice.choice _ c.in_ok-push.ensures.ok
+    (c.in_ok-choice.ensures ∙ ap (other_choice w c.args.at.there branches)
+    (from-nothing group_of c.new-groups.result.items (map group_of c.play_groups.new.out.items) (groups w loops c.in_ok-opened.opened branches)
+    c.new-groups.ensures c.in_ok-end.ensures.groups
+    ∙ ap (λ o. groups w loops o branches) c.in_ok-opened.ensures))
+
+pub play_at-returns-else-eq-clause-plays : goal.play_at-returns-else-eq-clause-plays
+play_at-returns-else-eq-clause-plays t c =
+    on_ok_weaker c.play_other.result
+    (chosen_there (making c.args.about.now) (loops_of c.args.loops.now) c.args.at c.args.statement.now (map stmt_of c.args.out.now.items)
+    (map stmt_of c.play_other.new.out.items) _ _ _ c.me.result.now c.as_slice.result.now c.in-Choice.is c.me.ensures c.if-eq.false
+    c.as_slice.ensures.items) c.play_other.ensures.plays
+
+pub play_at-returns-in_ok-add-in-Continue-clause-plays : goal.play_at-returns-in_ok-add-in-Continue-clause-plays
+play_at-returns-in_ok-add-in-Continue-clause-plays t c =
+    continued (making c.args.about.now) (loops_of c.args.loops.now) c.args.at c.args.statement.now (map stmt_of c.args.out.now.items)
+    (map stmt_of c.add.new.out.items) _ _ c.in_ok-label.label c.in-Continue.is c.in_ok-label.ensures c.in_ok-add.ensures
+
+pub play_at-returns-in_ok-add-in-Do-clause-plays : goal.play_at-returns-in_ok-add-in-Do-clause-plays
+play_at-returns-in_ok-add-in-Do-clause-plays t c =
+    gone_on (making c.args.about.now) (loops_of c.args.loops.now) c.args.at c.args.statement.now (map stmt_of c.args.out.now.items)
+    (map stmt_of c.add.new.out.items) _ _ (map stmt_of c.add_part_call.new.out.items) c.in-Do.is c.in_ok-add_part_call.ensures
+    c.in_ok-add.ensures
