@@ -1,6 +1,6 @@
 -- The blocks of an own choice, taken from the last to the first; loops and counters one by one.
 use Rattle.std.proofs.Common.{◌≡◌, ℕ, zero, suc, ◌+◌, ◌-◌, ◌<◌, ◌≤◌, Bool, true, false, List, [], ◌∷◌, ◌++◌, map, length, take, drop, get_or, refl, sym}
-use Rattle.std.proofs.Common.{ap, ◌∙◌, arith, codes, if◌then◌else◌}
+use Rattle.std.proofs.Common.{ap, ◌∙◌, arith, codes, if◌then◌else◌, length-append}
 use Rattle.std.specs.List.{range_with_len}
 use Rattle.std.specs.Char.{to_ascii_lowercase}
 use Rattle.std.proofs.lemmas.List.{map-append, map_push, map_more, length-map}
@@ -30,6 +30,9 @@ turned-behind p k n i (y ∷ ys) x last =
     let e : i + 1 + length ys ≡ i + suc (length ys) = omega arith in
     ap (λ (s : Stmt). IfElse p (is_turn p k n i) y s) (turned-behind p k n (i + 1) ys x last
     ∙ ap (λ (j : ℕ). turned p k n (i + 1) ys (IfElse p (is_turn p k n j) x last)) e)
+
+pub one-less : {A : Type 0} (old rest : List A) (x : A) → old ≡ rest ++ x ∷ [] → length old ≡ length rest + 1
+one-less old rest x e = ap length e ∙ length-append rest (x ∷ [])
 
 -- blocks that are taken from behind, one by one
 module _ {A : Type 0} (f : A → Stmt) (p : Place) (k n : ℕ) where

@@ -66,7 +66,7 @@ play_groups-loop-branch-preserved t c =
           (map group_of c.loop-branch.out.items) (map group_of c.add_group.new.out.items)
           (c.in_ok-add_group.ensures ∙ ap (λ (ss : List Statement). map group_of c.loop-branch.out.items
           ++ group w.place (statements ss) (map stmt_of c.play.new.out.items ++ ended w.place None c.in_ok-last.last.falls) ∷ [])
-          c.as_slice-2.ensures.items);
+          c.as_slice-in-loop-branch.ensures.items);
     }
 
 pub play_other-returns-clause-plays : goal.play_other-returns-clause-plays
@@ -84,16 +84,16 @@ pub play_at-returns-else-eq-clause-plays : goal.play_at-returns-else-eq-clause-p
 play_at-returns-else-eq-clause-plays t c =
     on_ok_weaker c.play_other.result
     (chosen_there (making c.args.about.now) (loops_of c.args.loops.now) c.args.at c.args.statement.now (map stmt_of c.args.out.now.items)
-    (map stmt_of c.play_other.new.out.items) _ _ _ c.me.result.now c.as_slice.result.now c.in-Choice.is c.me.ensures c.if-eq.false
-    c.as_slice.ensures.items) c.play_other.ensures.plays
+    (map stmt_of c.play_other.new.out.items) _ _ _ c.me.result.now c.as_slice-branches.result.now c.in-Choice.is c.me.ensures (sym c.eq.ensures ∙ c.if-eq.false)
+    c.as_slice-branches.ensures.items) c.play_other.ensures.plays
 
 pub play_at-returns-in_ok-add-in-Continue-clause-plays : goal.play_at-returns-in_ok-add-in-Continue-clause-plays
 play_at-returns-in_ok-add-in-Continue-clause-plays t c =
     continued (making c.args.about.now) (loops_of c.args.loops.now) c.args.at c.args.statement.now (map stmt_of c.args.out.now.items)
-    (map stmt_of c.add.new.out.items) _ _ c.in_ok-label.label c.in-Continue.is c.in_ok-label.ensures c.in_ok-add.ensures
+    (map stmt_of c.add.new.out.items) _ _ c.in_ok-label-in-Continue.label c.in-Continue.is c.in_ok-label-in-Continue.ensures c.in_ok-add-in-Continue.ensures
 
 pub play_at-returns-in_ok-add-in-Do-clause-plays : goal.play_at-returns-in_ok-add-in-Do-clause-plays
 play_at-returns-in_ok-add-in-Do-clause-plays t c =
     gone_on (making c.args.about.now) (loops_of c.args.loops.now) c.args.at c.args.statement.now (map stmt_of c.args.out.now.items)
-    (map stmt_of c.add.new.out.items) _ _ (map stmt_of c.add_part_call.new.out.items) c.in-Do.is c.in_ok-add_part_call.ensures
-    c.in_ok-add.ensures
+    (map stmt_of c.add-in-Do.new.out.items) _ _ (map stmt_of c.add_part_call.new.out.items) c.in-Do.is c.in_ok-add_part_call-in-Do.ensures
+    c.in_ok-add-in-Do.ensures
