@@ -14,7 +14,7 @@ use Rattle.scr_tree.specs.View.{front, statements, bodies, part_of}
 use Rattle.scr_tree.proofs.ViewLemmas.{front-Message, front-Choice, front-Rec, front-Continue, front-Do}
 use Rattle.scr_tree.proofs.Behind.{each_front, statements-step, statements-past, bodies-step, bodies-past}
 use Rattle.stm_client.specs.declared.points.Survey.{Survey}
-use Rattle.stm_client.specs.Counting.{counted, going_on, survey, survey_in, survey_all}
+use Rattle.stm_client.specs.inner.Surveyed.{counted, going_on, survey, survey_in, survey_all}
 
 module _ (me : Name) (level : ℕ) (so_far : Survey) where
   survey-front : (s : Statement) (rest : Statements) → survey me level so_far (front s rest) ≡ survey me level

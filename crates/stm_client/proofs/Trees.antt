@@ -1,5 +1,5 @@
 -- The trees of expressions and statements.
-use Rattle.std.proofs.Common.{◌≡◌, sym, subst, refl, append_assoc}
+use Rattle.std.proofs.Common.{◌≡◌, [], sym, subst, refl, append_assoc}
 use Rattle.std.proofs.lemmas.List.{append-nil}
 use Rattle.std.proofs.lemmas.Grind.{common_steps}
 use Rattle.mg_text.specs.Call.{Name}

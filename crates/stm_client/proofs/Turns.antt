@@ -1,61 +1,84 @@
--- The blocks of an own choice, taken from the last to the first; labels, and counters one by one.
-use Rattle.std.proofs.Common.{◌≡◌, ◌×◌, ℕ, zero, suc, ◌+◌, ◌-◌, ◌<◌, ◌≤◌, Bool, true, false, List, [], ◌∷◌, ◌++◌, map, length, take, drop, get_or, refl, sym}
-use Rattle.std.proofs.Common.{ap, ◌∙◌, arith, codes, if◌then◌else◌, append_assoc, length-append}
-use Rattle.std.specs.List.{range_with_len, list_any}
-use Rattle.std.specs.Str.{bytes_eq}
+-- The blocks of an own choice, taken from the last to the first; loops and counters one by one.
+use Rattle.std.proofs.Common.{◌≡◌, ℕ, zero, suc, ◌+◌, ◌-◌, ◌<◌, ◌≤◌, Bool, true, false, List, [], ◌∷◌, ◌++◌, map, length, take, drop, get_or, refl, sym}
+use Rattle.std.proofs.Common.{ap, ◌∙◌, arith, codes, if◌then◌else◌, length-append}
+use Rattle.std.specs.List.{range_with_len}
+use Rattle.std.specs.Char.{to_ascii_lowercase}
 use Rattle.std.proofs.lemmas.List.{map-append, map_push, map_more, length-map}
 use Rattle.mg_text.specs.Call.{Name}
 use Rattle.mg_text.specs.declared.place.Place.{Place}
 use Rattle.jv_tree.specs.Source.{Stmt, IfElse}
 use Rattle.stm_client.specs.declared.labels.Around.{Around}
-use Rattle.stm_client.specs.Client.{Loop, counter, counters, is_taken, free_label, label_in, is_turn, by_turns, before_last, last_of, block}
+use Rattle.stm_client.specs.Client.{Loop, counter, counters, is_taken, free_label, label_for, is_turn, in_turn, next_turn, own_choice}
 use Rattle.stm_client.specs.View.{loop_of, loops_of}
 
 -- ---- blocks
 
-pub before-last : (xs : List Stmt) (x : Stmt) → before_last (xs ++ x ∷ []) ≡ xs
-before-last [] x = refl
-before-last (y ∷ []) x = refl
-before-last (y ∷ z ∷ more) x = ap (λ (l : List Stmt). y ∷ l) (before-last (z ∷ more) x)
+-- blocks, each where its turn is; behind them comes this one
+abbrev pub turned : Place → (k n i : ℕ) → List Stmt → (last : Stmt) → Stmt
+turned p k n i [] last = last
+turned p k n i (b ∷ bs) last = IfElse p (is_turn p k n i) b (turned p k n (i + 1) bs last)
 
-pub last-of : (p : Place) (xs : List Stmt) (x : Stmt) → last_of p (xs ++ x ∷ []) ≡ x
-last-of p [] x = refl
-last-of p (y ∷ []) x = refl
-last-of p (y ∷ z ∷ more) x = last-of p (z ∷ more) x
+in-turn : (p : Place) (k n i : ℕ) (xs : List Stmt) (x : Stmt) → in_turn p k n i (xs ++ x ∷ []) ≡ turned p k n i xs x
+in-turn p k n i [] x = refl
+in-turn p k n i (y ∷ []) x = refl
+in-turn p k n i (y ∷ z ∷ more) x = ap (λ (s : Stmt). IfElse p (is_turn p k n i) y s) (in-turn p k n (i + 1) (z ∷ more) x)
 
-pub turns-behind : (p : Place) (k n i : ℕ) (xs : List Stmt) (x last : Stmt) →
-    by_turns p k n i (xs ++ x ∷ []) last ≡ by_turns p k n i xs (IfElse p (is_turn p k n (i + length xs)) x last)
-turns-behind p k n i [] x last =
-    let e : i ≡ i + 0 = omega arith in ap (λ (j : ℕ). IfElse p (is_turn p k n j) x last) e
-turns-behind p k n i (y ∷ ys) x last =
+turned-behind : (p : Place) (k n i : ℕ) (xs : List Stmt) (x last : Stmt) →
+    turned p k n i (xs ++ x ∷ []) last ≡ turned p k n i xs (IfElse p (is_turn p k n (i + length xs)) x last)
+turned-behind p k n i [] x last = let e : i ≡ i + 0 = omega arith in ap (λ (j : ℕ). IfElse p (is_turn p k n j) x last) e
+turned-behind p k n i (y ∷ ys) x last =
     let e : i + 1 + length ys ≡ i + suc (length ys) = omega arith in
-    ap (λ (s : Stmt). IfElse p (is_turn p k n i) y s) (turns-behind p k n (i + 1) ys x last
-    ∙ ap (λ (j : ℕ). by_turns p k n (i + 1) ys (IfElse p (is_turn p k n j) x last)) e)
+    ap (λ (s : Stmt). IfElse p (is_turn p k n i) y s) (turned-behind p k n (i + 1) ys x last
+    ∙ ap (λ (j : ℕ). turned p k n (i + 1) ys (IfElse p (is_turn p k n j) x last)) e)
+
+pub one-less : {A : Type 0} (old rest : List A) (x : A) → old ≡ rest ++ x ∷ [] → length old ≡ length rest + 1
+one-less old rest x e = ap length e ∙ length-append rest (x ∷ [])
 
 -- blocks that are taken from behind, one by one
 module _ {A : Type 0} (f : A → Stmt) (p : Place) (k n : ℕ) where
   pub turns-start : (old rest : List A) (x : A) → old ≡ rest ++ x ∷ [] →
-      by_turns p k n 1 (before_last (map f old)) (last_of p (map f old)) ≡ by_turns p k n 1 (map f rest) (f x)
-  turns-start old rest x e =
-      ap (λ (l : List Stmt). by_turns p k n 1 (before_last l) (last_of p l)) (ap (map f) e ∙ map_push f rest x)
-      ∙ (λ i. by_turns p k n 1 (before-last (map f rest) (f x) i) (last-of p (map f rest) (f x) i))
+      in_turn p k n 1 (map f old) ≡ turned p k n 1 (map f rest) (f x)
+  turns-start old rest x e = ap (in_turn p k n 1) (ap (map f) e ∙ map_push f rest x) ∙ in-turn p k n 1 (map f rest) (f x)
 
-  pub turns-more : (old rest : List A) (x : A) (last turned : Stmt) (branch : ℕ) → old ≡ rest ++ x ∷ [] → branch ≡ length rest + 1 →
-      turned ≡ by_turns p k n branch (f x ∷ []) last → by_turns p k n 1 (map f old) last ≡ by_turns p k n 1 (map f rest) turned
-  turns-more old rest x last turned branch e at so =
+  pub turns-more : (old rest : List A) (x : A) (last next : Stmt) (branch : ℕ) → old ≡ rest ++ x ∷ [] → branch ≡ length rest + 1 →
+      next ≡ IfElse p (is_turn p k n branch) (f x) last → turned p k n 1 (map f old) last ≡ turned p k n 1 (map f rest) next
+  turns-more old rest x last next branch e at so =
       let long : length (map f rest) ≡ length rest = length-map rest f in
       let here : 1 + length (map f rest) ≡ branch = omega (arith, long, at) in
-      ap (λ (l : List Stmt). by_turns p k n 1 l last) (ap (map f) e ∙ map_push f rest x)
-      ∙ turns-behind p k n 1 (map f rest) (f x) last
-      ∙ ap (by_turns p k n 1 (map f rest)) (ap (λ (j : ℕ). IfElse p (is_turn p k n j) (f x) last) here ∙ sym so)
+      ap (λ (l : List Stmt). turned p k n 1 l last) (ap (map f) e ∙ map_push f rest x)
+      ∙ turned-behind p k n 1 (map f rest) (f x) last
+      ∙ ap (turned p k n 1 (map f rest)) (ap (λ (j : ℕ). IfElse p (is_turn p k n j) (f x) last) here ∙ sym so)
 
--- ---- labels
+pub own-choice : {A : Type 0} (f : A → Stmt) (p : Place) (k : ℕ) (items : List A) →
+    own_choice p k (map f items) ≡ next_turn p k ∷ in_turn p k (length items) 1 (map f items) ∷ []
+own-choice f p k items = ap (λ (m : ℕ). next_turn p k ∷ in_turn p k m 1 (map f items) ∷ []) (length-map items f)
 
-pub not-taken : (n : ℕ) (loops : List Loop) (w : Name) → is_taken loops w ≡ false → free_label (suc n) loops w ≡ w
-not-taken n loops w e = ap (λ (b : Bool). if b then free_label n loops (w ++ codes "_") else w) e
+-- ---- the label of a loop, one `_` after another
 
-pub is-taken : (n : ℕ) (loops : List Loop) (w : Name) → is_taken loops w ≡ true → free_label (suc n) loops w ≡ free_label n loops (w ++ codes "_")
-is-taken n loops w e = ap (λ (b : Bool). if b then free_label n loops (w ++ codes "_") else w) e
+pub label-first : (loops : List Around) (name w : Name) (n : ℕ) → w ≡ map to_ascii_lowercase name → n ≡ length loops + 1 →
+    label_for (loops_of loops) name ≡ free_label n (loops_of loops) w
+label-first loops name w n is many =
+    let long : length (map loop_of loops) ≡ length loops = length-map loops loop_of in
+    let e : suc (length (map loop_of loops)) ≡ n = omega (arith, long, many) in
+    λ k. free_label (e k) (loops_of loops) (sym is k)
+
+module _ (n step : ℕ) (loops : List Loop) (w all : Name) (so : all ≡ free_label (n + 1 - step) loops w) where
+  pub label-free : step < n + 1 → is_taken loops w ≡ false → w ≡ all
+  label-free within free =
+      let e : n + 1 - step ≡ suc (n - step) = omega arith in
+      let here : free_label (suc (n - step)) loops w ≡ w = ap (λ (b : Bool). if b then free_label (n - step) loops (w ++ codes "_") else w) free in
+      sym (so ∙ ap (λ k. free_label k loops w) e ∙ here)
+
+  pub label-taken : (new : Name) → step < n + 1 → is_taken loops w ≡ true → new ≡ w ++ codes "_" → all ≡ free_label (n + 1 - (step + 1)) loops new
+  label-taken new within taken put =
+      let e : n + 1 - step ≡ suc (n - step) = omega arith in
+      let f : n - step ≡ n + 1 - (step + 1) = omega arith in
+      let here : free_label (suc (n - step)) loops w ≡ free_label (n - step) loops (w ++ codes "_") =
+      ap (λ (b : Bool). if b then free_label (n - step) loops (w ++ codes "_") else w) taken in
+      so ∙ ap (λ k. free_label k loops w) e ∙ here ∙ (λ k. free_label (f k) loops (sym put k))
+
+  pub label-last : n + 1 ≤ step → w ≡ all
+  label-last end = let e : n + 1 - step ≡ 0 = omega arith in sym (so ∙ ap (λ k. free_label k loops w) e)
 
 -- ---- the loops around, copied one by one
 

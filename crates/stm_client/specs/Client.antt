@@ -1,6 +1,6 @@
 -- The client of a local protocol: a class whose `main` plays the whole protocol, each statement of the text in its order.
 use Rattle.std.specs.Prelude.{ℕ, zero, suc, ◌+◌, pos, Bool, true, false, ◌||◌, List, [], ◌∷◌, ◌++◌, map, length, codes}
-use Rattle.std.specs.Prelude.{Option, Some, None, if◌then◌else◌, nat_le}
+use Rattle.std.specs.Prelude.{Option, Some, None, if◌then◌else◌, nat_lt, nat_le}
 use Rattle.std.specs.Char.{to_ascii_lowercase}
 use Rattle.std.specs.Fmt.{decimal}
 use Rattle.std.specs.List.{list_any, range_with_len}
@@ -16,6 +16,7 @@ use Rattle.scr_tree.specs.Tree.{LocalTree, Statements, Nothing, Says, Choice, Re
 use Rattle.scr_tree.specs.Protocol.{Message, Send, Take}
 use Rattle.scr_tree.specs.CallNames.{message_call, label_call}
 use Rattle.scr_tree.specs.Meaning.{message_of}
+use Rattle.scr_tree.specs.Control.{falls}
 use Rattle.scr_tree.specs.Said.{first_said}
 use Rattle.ts_tree.specs.declared.parts.TypeName.{TypeName}
 use Rattle.ts_tree.specs.declared.parts.TypeName.TheVariants as types
@@ -26,8 +27,8 @@ use Rattle.jv_tree.specs.Source.{Stmt, Block, Local, Assign, IfElse, While, Swit
 use Rattle.jv_tree.specs.Source as java
 use Rattle.jv_tree.specs.View.{exprs_of, stmts_of, groups_of, OneGroup}
 use Rattle.stm_api.specs.Api.{ApiText, written}
-use Rattle.stm_client.specs.declared.points.Point.{Point}
-use Rattle.stm_client.specs.Counting.{start, reached, left, opened, joined, passed, behind, behind_in, nothing_yet, survey_all}
+use Rattle.stm_client.specs.declared.points.Numbers.{Numbers}
+use Rattle.stm_client.specs.Counting.{start, opened, behind, behind_in, own_choices, deepest_of_all, any_goes_on}
 
 -- ---- names
 
@@ -59,8 +60,8 @@ abbrev pub free_label : ℕ → List Loop → Name → Name
 free_label zero loops label = label
 free_label (suc n) loops label = if is_taken loops label then free_label n loops (label ++ codes "_") else label
 
--- The label of a `rec` inside these: its name in small letters. One more `_` than there are loops around makes it free: the words that Java
--- reserves have no other with `_` behind it.
+-- The label of a `rec` inside these: its name in small letters, with `_` until it is free. So many are enough, since no word that Java reserves
+-- ends with `_`.
 abbrev pub label_for : List Loop → Name → Name
 label_for loops name = free_label (suc (length loops)) loops (map to_ascii_lowercase name)
 
@@ -115,26 +116,15 @@ passing p (Take peer label kind) = taken p kind (on_role p (message_call (Take p
 abbrev pub next_turn : Place → ℕ → Stmt
 next_turn p k = Assign p (Variable p (counter k)) (Binary p ops.Add (Variable p (counter k)) (Int p (pos 1)))
 
--- the blocks of branches from this number on, of n, each where its turn is; behind them comes this one
-abbrev pub by_turns : Place → (k n i : ℕ) → List Stmt → (last : Stmt) → Stmt
-by_turns p k n i [] last = last
-by_turns p k n i (b ∷ blocks) last = IfElse p (is_turn p k n i) b (by_turns p k n (i + 1) blocks last)
-
--- the last of blocks, or an empty one
-abbrev pub last_of : Place → List Stmt → Stmt
-last_of p [] = block p []
-last_of p (b ∷ []) = b
-last_of p (b ∷ c ∷ more) = last_of p (c ∷ more)
-
--- those before it
-abbrev pub before_last : List Stmt → List Stmt
-before_last [] = []
-before_last (b ∷ []) = []
-before_last (b ∷ c ∷ more) = b ∷ before_last (c ∷ more)
+-- the blocks of branches from this number on, of n: each where its turn is, the last where it is that of none before it
+abbrev pub in_turn : Place → (k n i : ℕ) → List Stmt → Stmt
+in_turn p k n i [] = block p []
+in_turn p k n i (b ∷ []) = b
+in_turn p k n i (b ∷ c ∷ more) = IfElse p (is_turn p k n i) b (in_turn p k n (i + 1) (c ∷ more))
 
 -- an own choice of this number: its branches are taken in turn
 abbrev pub own_choice : Place → ℕ → List Stmt → List Stmt
-own_choice p k blocks = next_turn p k ∷ by_turns p k (length blocks) 1 (before_last blocks) (last_of p blocks) ∷ []
+own_choice p k blocks = next_turn p k ∷ in_turn p k (length blocks) 1 blocks ∷ []
 
 -- `break`, where control comes there
 abbrev pub ended : Place → Option Name → Bool → List Stmt
@@ -172,33 +162,31 @@ abbrev pub with_loop : List Loop → Name → List Loop
 with_loop loops name = loops ++ (record { name = name; label = label_for loops name }) ∷ []
 
 abbrev mutual
-  -- the statements that play those of the protocol from this point on, inside these loops
-  pub plays : Making → List Loop → Point → Statements → List Stmt
+  -- the statements that play those of the protocol, inside these loops; the next choices have these numbers
+  pub plays : Making → List Loop → Numbers → Statements → List Stmt
   plays w loops at Nothing = []
   plays w loops at (Says m rest) = passing w.place (message_of m) ∷ plays w loops at rest
   plays w loops at (Choice place by branches rest) =
       (if bytes_eq by w.me then own_choice w.place at.own (blocks w loops (opened true at) branches)
       else (other_choice w at.there branches (groups w loops (opened false at) branches) ∷ []))
-      ++ plays w loops (passed at (behind_in w.me (opened (bytes_eq by w.me) at) branches)) rest
+      ++ plays w loops (behind_in w.me (opened (bytes_eq by w.me) at) branches) rest
   plays w loops at (Rec place name body rest) =
-      looping w.place (label_for loops name) (plays w (with_loop loops name) (reached at) body
-      ++ ended w.place (Some (label_for loops name)) (behind w.me (reached at) body).falls)
-      ∷ plays w loops (passed at (behind w.me (reached at) body)) rest
-  plays w loops at (Continue place name rest) = java.Continue w.place (Some (label_in loops name)) ∷ plays w loops (left at) rest
-  plays w loops at (Do place name rest) = Eval w.place (part_call w name) ∷ Return w.place None ∷ plays w loops (left at) rest
+      looping w.place (label_for loops name) (plays w (with_loop loops name) at body
+      ++ ended w.place (Some (label_for loops name)) (falls body))
+      ∷ plays w loops (behind w.me at body) rest
+  plays w loops at (Continue place name rest) = java.Continue w.place (Some (label_in loops name)) ∷ plays w loops at rest
+  plays w loops at (Do place name rest) = Eval w.place (part_call w name) ∷ Return w.place None ∷ plays w loops at rest
 
   -- the blocks of the branches of an own choice
-  pub blocks : Making → List Loop → Point → Branches → List Stmt
+  pub blocks : Making → List Loop → Numbers → Branches → List Stmt
   blocks w loops at NoBranch = []
-  blocks w loops at (Branch b more) =
-      block w.place (plays w loops (reached at) b) ∷ blocks w loops (joined at (behind w.me (reached at) b)) more
+  blocks w loops at (Branch b more) = block w.place (plays w loops at b) ∷ blocks w loops (behind w.me at b) more
 
   -- the groups of the branches of another's choice
-  pub groups : Making → List Loop → Point → Branches → List OneGroup
+  pub groups : Making → List Loop → Numbers → Branches → List OneGroup
   groups w loops at NoBranch = []
   groups w loops at (Branch b more) =
-      group w.place b (plays w loops (reached at) b ++ ended w.place None (behind w.me (reached at) b).falls)
-      ∷ groups w loops (joined at (behind w.me (reached at) b)) more
+      group w.place b (plays w loops at b ++ ended w.place None (falls b)) ∷ groups w loops (behind w.me at b) more
 
 -- ---- methods
 
@@ -241,29 +229,20 @@ part_params w = record { place = w.place; ty = types.Named (role_class w.me); na
 abbrev pub part_method : Making → Name → List Stmt → Method
 part_method w name body = static_method w.place (codes "as_" ++ name) false (part_params w) body
 
--- the methods of the protocols of a file, from this point on
-abbrev pub part_methods : Making → Point → List Titled → List Method
+-- the methods of the protocols of a file, from these numbers on
+abbrev pub part_methods : Making → Numbers → List Titled → List Method
 part_methods w at [] = []
-part_methods w at (t ∷ ts) =
-    part_method w t.name (plays w [] (reached at) t.body) ∷ part_methods w (behind w.me (reached at) t.body) ts
+part_methods w at (t ∷ ts) = part_method w t.name (plays w [] at t.body) ∷ part_methods w (behind w.me at t.body) ts
 
 -- the methods of a client: one protocol is played by `main`; several, or one that goes on by `do`, by a method each
 abbrev pub methods : Making → LocalTree → (several : Bool) → List Method
 methods w local false = main_with w (plays w [] start local.body) ∷ []
 methods w local true = main_with w (Eval w.place (part_call w local.name) ∷ []) ∷ part_methods w start (titled local)
 
-abbrev pub has_items : {A : Type 0} → List A → Bool
-has_items [] = false
-has_items (x ∷ xs) = true
-
 -- ---- the whole
 
 abbrev pub making_of : LocalTree → Making
-making_of local = record {
-  place = start_of local.file;
-  me = local.me;
-  counters = counters (survey_all local.me nothing_yet (titled local)).own;
-}
+making_of local = record { place = start_of local.file; me = local.me; counters = counters (own_choices local.me 0 (titled local)) }
 
 -- the class of these methods
 abbrev pub class_with : Making → List Method → Class
@@ -272,10 +251,12 @@ class_with w ms = record { place = w.place; name = w.me ++ codes "Main"; typesta
 abbrev pub client_file : Making → LocalTree → (several : Bool) → ApiText
 client_file w local several = written (w.me ++ codes "Main.java") (ClassDecl (class_with w (methods w local several)) ∷ [])
 
+-- whether each protocol of the file has a method
+abbrev pub is_several : LocalTree → Bool
+is_several local = nat_lt 0 (length local.others) || any_goes_on (titled local)
+
 -- The file of the client of a local protocol; each place is the first of the protocol's file. There is none where more than 200 branches of
 -- own choices stand one inside another: a file of Java has statements and expressions at most 200 deep.
 abbrev pub client_of : LocalTree → Option ApiText
 client_of local =
-    if nat_le (survey_all local.me nothing_yet (titled local)).levels 200
-    then Some (client_file (making_of local) local (has_items local.others || (survey_all local.me nothing_yet (titled local)).goes_on))
-    else None
+    if nat_le (deepest_of_all local.me (titled local)) 200 then Some (client_file (making_of local) local (is_several local)) else None

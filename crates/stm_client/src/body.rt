@@ -1,16 +1,16 @@
 //! The statements that play those of a protocol.
 
 ghost use Rattle.std.specs.Prelude.{◌≡◌, ◌++◌, [], ◌∷◌, true, false, IfOk, OnOk, map, Some as There, None};
-ghost use Rattle.scr_tree.specs.Local.{tree_of};
+ghost use Rattle.scr_tree.specs.Control.{falls};
 ghost use Rattle.scr_tree.specs.Tree.{Nothing};
 ghost use Rattle.scr_tree.specs.View.{front, statements, bodies};
 ghost use Rattle.jv_tree.specs.View.{stmt_of, group_of};
-ghost use Rattle.stm_client.specs.Counting.{behind, behind_in, opened, passed};
-ghost use Rattle.stm_client.specs.Client.{plays, blocks, groups, group, looping, ended, own_choice, other_choice};
-ghost use Rattle.stm_client.specs.View.{making, loops_of};
+ghost use Rattle.stm_client.specs.Counting.{opened};
+ghost use Rattle.stm_client.specs.Client.{plays, blocks, groups, group, looping, ended, own_choice, other_choice, label_for, with_loop};
+ghost use Rattle.stm_client.specs.View.{making, loops_of, end_of, end_of_branches};
 
 use crate::labels::{Around, label_for, label_in, with_loop};
-use crate::points::{About, Point};
+use crate::points::{About, End, Numbers};
 use crate::stmts::{
     add, add_break, add_own_choice, add_part_call, block, group, looping, other_choice, passing,
 };
@@ -19,40 +19,45 @@ use mg_text::{List, Memory, Text};
 use scr_tree::Statement;
 use std::alloc::Global;
 
-/// Appends the statements that play these from this point on, inside these loops. The answer is the
-/// point behind them.
+/// Appends the statements that play these, inside these loops; the next choices have these numbers.
+/// The answer is the end of the protocol's statements.
 #[tactic(auto, using(crate::proofs::Playing::all_steps))]
 #[cycle(play)]
 pub fn play(
     alloc: Global,
     about: &About<'_>,
     loops: &[Around],
-    at: Point,
+    at: Numbers,
     body: &[Statement],
     out: &mut List<Stmt>,
-) -> Result<Point, Memory>
-    ensures behind { IfOk result (λ p. p ≡ behind (making about.now).me at (statements body.now)) }
+) -> Result<End, Memory>
+    ensures end { IfOk result (λ e. e ≡ end_of (making about.now).me at (statements body.now)) }
     ensures plays { OnOk result (map stmt_of out.new.items ≡ map stmt_of out.old.items
         ++ plays (making about.now) (loops_of loops.now) at (statements body.now)) }
 {
-    let mut at = at;
+    let mut end = End {
+        numbers: at,
+        falls: true,
+    };
     for statement in body {
-        at = play_at(alloc, about, loops, at, statement, out)?;
+        let last = play_at(alloc, about, loops, end.numbers, statement, out)?;
+        end = end.past(last);
     }
-    Ok(at)
+    Ok(end)
 }
 
+// Appends the statements that play this one.
 #[tactic(auto, using(crate::proofs::Playing::alone))]
 #[cycle(play)]
 fn play_at(
     alloc: Global,
     about: &About<'_>,
     loops: &[Around],
-    at: Point,
+    at: Numbers,
     statement: &Statement,
     out: &mut List<Stmt>,
-) -> Result<Point, Memory>
-    ensures behind { IfOk result (λ p. p ≡ behind (making about.now).me at (front statement.now Nothing)) }
+) -> Result<End, Memory>
+    ensures end { IfOk result (λ e. e ≡ end_of (making about.now).me at (front statement.now Nothing)) }
     ensures plays { OnOk result (map stmt_of out.new.items ≡ map stmt_of out.old.items
         ++ plays (making about.now) (loops_of loops.now) at (front statement.now Nothing)) }
 {
@@ -60,10 +65,15 @@ fn play_at(
         Statement::Message(message) => {
             let passing = passing(alloc, about.place, message)?;
             out.push(passing)?;
-            Ok(at)
+            Ok(End {
+                numbers: at,
+                falls: true,
+            })
         }
         Statement::Choice {
-            at: by, branches, ..
+            at: by,
+            branches,
+            ..
         } => {
             let branches = branches.as_slice();
             if *by == *about.local.me() {
@@ -73,29 +83,23 @@ fn play_at(
             }
         }
         Statement::Rec { name, body, .. } => {
-            let label = label_for(alloc, loops, name)?;
-            let inside = with_loop(alloc, loops, name, &label)?;
-            let mut inner = List::new(alloc);
-            let end = play(
-                alloc,
-                about,
-                inside.as_slice(),
-                at.reached(),
-                body.as_slice(),
-                &mut inner,
-            )?;
-            add_loop(alloc, about, &label, end.falls, inner, out)?;
-            Ok(at.passed(end))
+            play_loop(alloc, about, loops, at, name, body.as_slice(), out)
         }
         Statement::Continue { name, .. } => {
             let label = label_in(alloc, loops, name)?;
             add(out, about.place, StmtKind::Continue(Some(label)))?;
-            Ok(at.left())
+            Ok(End {
+                numbers: at,
+                falls: false,
+            })
         }
         Statement::Do { name, .. } => {
             add_part_call(alloc, about, name, out)?;
             add(out, about.place, StmtKind::Return(None))?;
-            Ok(at.left())
+            Ok(End {
+                numbers: at,
+                falls: false,
+            })
         }
     }
 }
@@ -107,11 +111,11 @@ fn play_own(
     alloc: Global,
     about: &About<'_>,
     loops: &[Around],
-    at: Point,
+    at: Numbers,
     branches: &[List<Statement>],
     out: &mut List<Stmt>,
-) -> Result<Point, Memory>
-    ensures behind { IfOk result (λ p. p ≡ passed at (behind_in (making about.now).me (opened true at) (bodies branches.now))) }
+) -> Result<End, Memory>
+    ensures end { IfOk result (λ e. e ≡ end_of_branches (making about.now).me (opened true at) (bodies branches.now)) }
     ensures plays { OnOk result (map stmt_of out.new.items ≡ map stmt_of out.old.items
         ++ own_choice about.now.place at.own (blocks (making about.now) (loops_of loops.now) (opened true at) (bodies branches.now))) }
 {
@@ -119,7 +123,7 @@ fn play_own(
     let opened = at.opened(true)?;
     let end = play_blocks(alloc, about, loops, opened, branches, &mut blocks)?;
     add_own_choice(alloc, about.place, at.own, blocks, out)?;
-    Ok(at.passed(end))
+    Ok(end)
 }
 
 // Appends another's choice.
@@ -129,11 +133,11 @@ fn play_other(
     alloc: Global,
     about: &About<'_>,
     loops: &[Around],
-    at: Point,
+    at: Numbers,
     branches: &[List<Statement>],
     out: &mut List<Stmt>,
-) -> Result<Point, Memory>
-    ensures behind { IfOk result (λ p. p ≡ passed at (behind_in (making about.now).me (opened false at) (bodies branches.now))) }
+) -> Result<End, Memory>
+    ensures end { IfOk result (λ e. e ≡ end_of_branches (making about.now).me (opened false at) (bodies branches.now)) }
     ensures plays { OnOk result (map stmt_of out.new.items ≡ map stmt_of out.old.items
         ++ other_choice (making about.now) at.there (bodies branches.now)
         (groups (making about.now) (loops_of loops.now) (opened false at) (bodies branches.now)) ∷ []) }
@@ -143,7 +147,7 @@ fn play_other(
     let end = play_groups(alloc, about, loops, opened, branches, &mut groups)?;
     let choice = other_choice(alloc, about, at.there, branches, groups)?;
     out.push(choice)?;
-    Ok(at.passed(end))
+    Ok(end)
 }
 
 // Appends the blocks of the branches of an own choice.
@@ -153,29 +157,32 @@ fn play_blocks(
     alloc: Global,
     about: &About<'_>,
     loops: &[Around],
-    at: Point,
+    at: Numbers,
     branches: &[List<Statement>],
     out: &mut List<Stmt>,
-) -> Result<Point, Memory>
-    ensures behind { IfOk result (λ p. p ≡ behind_in (making about.now).me at (bodies branches.now)) }
+) -> Result<End, Memory>
+    ensures end { IfOk result (λ e. e ≡ end_of_branches (making about.now).me at (bodies branches.now)) }
     ensures blocks { OnOk result (map stmt_of out.new.items ≡ map stmt_of out.old.items
         ++ blocks (making about.now) (loops_of loops.now) at (bodies branches.now)) }
 {
-    let mut at = at;
+    let mut end = End {
+        numbers: at,
+        falls: false,
+    };
     for branch in branches {
         let mut body = List::new(alloc);
-        let end = play(
+        let last = play(
             alloc,
             about,
             loops,
-            at.reached(),
+            end.numbers,
             branch.as_slice(),
             &mut body,
         )?;
         out.push(block(about.place, body))?;
-        at = at.joined(end);
+        end = end.either(last);
     }
-    Ok(at)
+    Ok(end)
 }
 
 // Appends the groups of the branches of another's choice.
@@ -185,29 +192,32 @@ fn play_groups(
     alloc: Global,
     about: &About<'_>,
     loops: &[Around],
-    at: Point,
+    at: Numbers,
     branches: &[List<Statement>],
     out: &mut List<Group>,
-) -> Result<Point, Memory>
-    ensures behind { IfOk result (λ p. p ≡ behind_in (making about.now).me at (bodies branches.now)) }
+) -> Result<End, Memory>
+    ensures end { IfOk result (λ e. e ≡ end_of_branches (making about.now).me at (bodies branches.now)) }
     ensures groups { OnOk result (map group_of out.new.items ≡ map group_of out.old.items
         ++ groups (making about.now) (loops_of loops.now) at (bodies branches.now)) }
 {
-    let mut at = at;
+    let mut end = End {
+        numbers: at,
+        falls: false,
+    };
     for branch in branches {
         let mut body = List::new(alloc);
-        let end = play(
+        let last = play(
             alloc,
             about,
             loops,
-            at.reached(),
+            end.numbers,
             branch.as_slice(),
             &mut body,
         )?;
-        add_group(alloc, about, branch.as_slice(), end.falls, body, out)?;
-        at = at.joined(end);
+        add_group(alloc, about, branch.as_slice(), last.falls, body, out)?;
+        end = end.either(last);
     }
-    Ok(at)
+    Ok(end)
 }
 
 // Appends the group of a branch, which ends with `break` where control comes there.
@@ -228,8 +238,34 @@ fn add_group(
     out.push(group)
 }
 
-// Appends a loop, which is left where control comes to its end.
-fn add_loop(
+// Appends the loop of a `rec`.
+#[tactic(auto, using(crate::proofs::Playing::alone))]
+#[cycle(play)]
+fn play_loop(
+    alloc: Global,
+    about: &About<'_>,
+    loops: &[Around],
+    at: Numbers,
+    name: &Text,
+    body: &[Statement],
+    out: &mut List<Stmt>,
+) -> Result<End, Memory>
+    ensures end { IfOk result (λ e. e ≡ end_of (making about.now).me at (statements body.now)) }
+    ensures plays { OnOk result (map stmt_of out.new.items ≡ map stmt_of out.old.items
+        ++ looping about.now.place (label_for (loops_of loops.now) name.now)
+        (plays (making about.now) (with_loop (loops_of loops.now) name.now) at (statements body.now)
+        ++ ended about.now.place (There (label_for (loops_of loops.now) name.now)) (falls (statements body.now))) ∷ []) }
+{
+    let label = label_for(alloc, loops, name)?;
+    let inside = with_loop(alloc, loops, name, &label)?;
+    let mut inner = List::new(alloc);
+    let end = play(alloc, about, inside.as_slice(), at, body, &mut inner)?;
+    add_looping(alloc, about, &label, end.falls, inner, out)?;
+    Ok(end)
+}
+
+// Appends a loop with this label, which is left where control comes to its end.
+fn add_looping(
     alloc: Global,
     about: &About<'_>,
     label: &Text,

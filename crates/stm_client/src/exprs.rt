@@ -56,13 +56,7 @@ pub fn variable(alloc: Global, place: Place, name: &str) -> Result<Expr, Memory>
 
 /// Two operands with an operator between them.
 #[tactic(auto, using(crate::proofs::Trees::views))]
-pub fn binary(
-    alloc: Global,
-    place: Place,
-    op: Op,
-    left: Expr,
-    right: Expr,
-) -> Result<Expr, Memory>
+pub fn binary(alloc: Global, place: Place, op: Op, left: Expr, right: Expr) -> Result<Expr, Memory>
     ensures { IfOk result (λ e. expr_of e ≡ Binary place op (expr_of left) (expr_of right)) }
 {
     let left = boxed(alloc, left)?;
@@ -119,9 +113,16 @@ pub fn part_call(alloc: Global, about: &About<'_>, name: &Text) -> Result<Expr, 
 pub fn part_name(alloc: Global, name: &Text) -> Result<Text, Memory>
     ensures { IfOk result (λ t. t ≡ codes "as_" ++ name.now) }
 {
-    let mut of = String::from_str(alloc, "as_")?;
-    of.push_str(name.as_str())?;
-    Ok(Text::from_string(of))
+    joined(alloc, "as_", name.as_str())
+}
+
+/// A text with another behind it.
+pub fn joined(alloc: Global, text: &str, behind: &str) -> Result<Text, Memory>
+    ensures { IfOk result (λ t. t ≡ text.now ++ behind.now) }
+{
+    let mut joined = String::from_str(alloc, text)?;
+    joined.push_str(behind)?;
+    Ok(Text::from_string(joined))
 }
 
 // Appends a variable for each of these names.

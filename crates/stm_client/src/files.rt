@@ -1,19 +1,19 @@
 //! The file of a client.
 
-ghost use Rattle.std.specs.Prelude.{◌≡◌, ◌++◌, [], ◌∷◌, true, false, codes, IfOk, OnOk, map, option_map};
+ghost use Rattle.std.specs.Prelude.{◌≡◌, ◌++◌, ◌||◌, [], ◌∷◌, true, false, codes, IfOk, OnOk, map, length, option_map, nat_lt};
 ghost use Rattle.scr_tree.specs.Local.{tree_of};
 ghost use Rattle.scr_tree.specs.Tree.{other};
 ghost use Rattle.scr_tree.specs.View.{statements, part_of};
 ghost use Rattle.jv_tree.specs.View.{stmt_of, method_of};
 ghost use Rattle.stm_api.specs.View.{written_of};
-ghost use Rattle.stm_client.specs.Counting.{reached, behind};
+ghost use Rattle.stm_client.specs.Counting.{behind};
 ghost use Rattle.stm_client.specs.Client.{counters, plays, new_role, new_counter, static_method, part_method, part_methods, part_params};
 ghost use Rattle.stm_client.specs.Client.{counter_param, methods, client_of, client_file};
 ghost use Rattle.stm_client.specs.View.{making};
 
 use crate::body::play;
-use crate::exprs::{ROLE, counter, number, part_name};
-use crate::points::{About, Point};
+use crate::exprs::{ROLE, counter, joined, number, part_name};
+use crate::points::{About, Numbers};
 use crate::stmts::{add, add_part_call};
 use crate::survey::survey_of;
 use jv_print::print_file;
@@ -46,9 +46,15 @@ pub fn client(alloc: Global, local: &Local) -> Result<Option<ApiFile>, Memory>
         place: Place::start(local.file()),
         counters: counters.as_slice(),
     };
-    let is_several = !local.others().as_slice().is_empty() || survey.goes_on;
-    let file = file_of(alloc, &about, is_several)?;
+    let file = file_of(alloc, &about, is_several(local, survey.goes_on))?;
     Ok(Some(file))
+}
+
+// Whether each protocol of a file has a method: there are several, or one that goes on by `do`.
+fn is_several(local: &Local, goes_on: bool) -> bool
+    ensures { result ≡ (nat_lt 0 (length (tree_of local.now).others) || goes_on) }
+{
+    !local.others().as_slice().is_empty() || goes_on
 }
 
 // The names of the counters of the first own choices, so many.
@@ -118,11 +124,7 @@ fn method_of_one(alloc: Global, about: &About<'_>) -> Result<List<MethodDecl>, M
 }
 
 // Where a file begins.
-const START: Point = Point {
-    there: 1,
-    own: 1,
-    falls: true,
-};
+const START: Numbers = Numbers { there: 1, own: 1 };
 
 // The method `main` that plays the first protocol of a file, and the methods of all of them.
 fn methods_of_several(alloc: Global, about: &About<'_>) -> Result<List<MethodDecl>, Memory>
@@ -141,16 +143,22 @@ fn methods_of_several(alloc: Global, about: &About<'_>) -> Result<List<MethodDec
         local.body().as_slice(),
         &mut methods,
     )?;
-    add_parts(alloc, about, behind, local.others().as_slice(), &mut methods)?;
+    add_parts(
+        alloc,
+        about,
+        behind,
+        local.others().as_slice(),
+        &mut methods,
+    )?;
     Ok(methods)
 }
 
-// Appends the methods of protocols, from this point on.
+// Appends the methods of protocols, from these numbers on.
 #[tactic(auto, using(crate::proofs::Playing::part_steps))]
 fn add_parts(
     alloc: Global,
     about: &About<'_>,
-    at: Point,
+    at: Numbers,
     parts: &[Part],
     methods: &mut List<MethodDecl>,
 ) -> Result<(), Memory>
@@ -164,26 +172,26 @@ fn add_parts(
     Ok(())
 }
 
-// Appends the method of a protocol. The answer is the point behind it.
+// Appends the method of a protocol. The answer is the numbers behind it.
 fn add_part(
     alloc: Global,
     about: &About<'_>,
-    at: Point,
+    at: Numbers,
     name: &Text,
     body: &[Statement],
     methods: &mut List<MethodDecl>,
-) -> Result<Point, Memory>
-    ensures behind { IfOk result (λ p. p ≡ behind (making about.now).me (reached at) (statements body.now)) }
+) -> Result<Numbers, Memory>
+    ensures behind { IfOk result (λ n. n ≡ behind (making about.now).me at (statements body.now)) }
     ensures method { OnOk result (map method_of methods.new.items ≡ map method_of methods.old.items
-        ++ part_method (making about.now) name.now (plays (making about.now) [] (reached at) (statements body.now)) ∷ []) }
+        ++ part_method (making about.now) name.now (plays (making about.now) [] at (statements body.now)) ∷ []) }
 {
     let mut statements = List::new(alloc);
-    let behind = play(alloc, about, &[], at.reached(), body, &mut statements)?;
+    let end = play(alloc, about, &[], at, body, &mut statements)?;
     let name = part_name(alloc, name)?;
     let params = part_params(alloc, about)?;
     let method = static_method(about.place, name, false, params, statements);
     methods.push(method)?;
-    Ok(behind)
+    Ok(end.numbers)
 }
 
 // A static method that answers nothing.
@@ -286,11 +294,7 @@ fn part_params(alloc: Global, about: &About<'_>) -> Result<List<Param>, Memory>
 
 // Appends parameters for counters.
 #[tactic(auto, using(crate::proofs::Trees::name_steps))]
-fn add_counter_params(
-    place: Place,
-    names: &[Text],
-    params: &mut List<Param>,
-) -> Result<(), Memory>
+fn add_counter_params(place: Place, names: &[Text], params: &mut List<Param>) -> Result<(), Memory>
     ensures { OnOk result (params.new.items ≡ params.old.items ++ map (counter_param place) names.now) }
 {
     for name in names {
@@ -299,13 +303,4 @@ fn add_counter_params(
         params.push(Param { place, ty, name })?;
     }
     Ok(())
-}
-
-// A text with another behind it.
-fn joined(alloc: Global, text: &str, behind: &str) -> Result<Text, Memory>
-    ensures { IfOk result (λ t. t ≡ text.now ++ behind.now) }
-{
-    let mut joined = String::from_str(alloc, text)?;
-    joined.push_str(behind)?;
-    Ok(Text::from_string(joined))
 }

@@ -23,13 +23,10 @@ pub fn label_for(alloc: Global, loops: &[Around], name: &Text) -> Result<Text, M
     ensures { IfOk result (λ t. t ≡ label_for (loops_of loops.now) name.now) }
 {
     let mut label = name.as_str().to_ascii_lowercase(alloc)?;
-    for _step in 0..loops.len() {
+    for _step in 0..loops.len() + 1 {
         if !is_taken(loops, label.as_str()) {
             return Ok(Text::from_string(label));
         }
-        label.push_str("_")?;
-    }
-    if is_taken(loops, label.as_str()) {
         label.push_str("_")?;
     }
     Ok(Text::from_string(label))

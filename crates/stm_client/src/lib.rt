@@ -6,8 +6,10 @@ mod body;
 mod exprs;
 mod files;
 mod labels;
+mod laws;
 mod points;
 mod stmts;
 mod survey;
 
 pub use files::client;
+pub use laws::labels_are_free;

@@ -1,7 +1,9 @@
-//! Points of a protocol's text, and what a protocol's file has.
+//! How choices are numbered, where control comes, and what a protocol's file has.
 
 ghost use Rattle.std.specs.Prelude.{◌≡◌, ◌+◌, IfOk};
-ghost use Rattle.stm_client.specs.Counting.{reached, left, opened, joined, passed, counted, deeper, seen, going_on};
+ghost use Rattle.stm_client.specs.Counting.{opened, deeper};
+ghost use Rattle.stm_client.specs.inner.Surveyed.{counted, seen, going_on};
+ghost use Rattle.stm_client.specs.View.{past, either};
 
 use mg_text::{Memory, Place, Text};
 use scr_tree::Local;
@@ -16,72 +18,53 @@ pub struct About<'a> {
     pub counters: &'a [Text],
 }
 
-/// A point of the text: the numbers of the next choice elsewhere and of the next own one, and whether
-/// control comes there.
+/// The numbers of the next choice that another role makes, and of the next own one.
 #[derive(Clone, Copy)]
-pub struct Point {
+pub struct Numbers {
     pub there: u32,
     pub own: u32,
+}
+
+impl Numbers {
+    /// Behind the opening of a choice. `Memory` past the last number.
+    pub fn opened(self, is_own: bool) -> Result<Numbers, Memory>
+        ensures { IfOk result (λ n. n ≡ opened is_own self) }
+    {
+        if is_own {
+            let own = next_number(self.own)?;
+            Ok(Numbers { own, ..self })
+        } else {
+            let there = next_number(self.there)?;
+            Ok(Numbers { there, ..self })
+        }
+    }
+}
+
+/// The end of statements or of branches: the next numbers, and whether control comes there.
+#[derive(Clone, Copy)]
+pub struct End {
+    pub numbers: Numbers,
     pub falls: bool,
 }
 
-impl Point {
-    /// The same, where control comes.
-    pub fn reached(self) -> Point
-        ensures { result ≡ reached self }
+impl End {
+    /// The end of these statements and one more, which ends so.
+    pub fn past(self, last: End) -> End
+        ensures { result ≡ past self last }
     {
-        Point {
-            falls: true,
-            ..self
+        End {
+            numbers: last.numbers,
+            falls: self.falls && last.falls,
         }
     }
 
-    /// The same, where control doesn't come.
-    pub fn left(self) -> Point
-        ensures { result ≡ left self }
+    /// The end of these branches and one more, which ends so.
+    pub fn either(self, last: End) -> End
+        ensures { result ≡ either self last }
     {
-        Point {
-            falls: false,
-            ..self
-        }
-    }
-
-    /// Behind the opening of a choice that stands here. `Memory` past the last number.
-    pub fn opened(self, is_own: bool) -> Result<Point, Memory>
-        ensures { IfOk result (λ p. p ≡ opened is_own self) }
-    {
-        if is_own {
-            Ok(Point {
-                there: self.there,
-                own: next_number(self.own)?,
-                falls: false,
-            })
-        } else {
-            Ok(Point {
-                there: next_number(self.there)?,
-                own: self.own,
-                falls: false,
-            })
-        }
-    }
-
-    /// Behind one more branch, whose end is this.
-    pub fn joined(self, end: Point) -> Point
-        ensures { result ≡ joined self end }
-    {
-        Point {
-            falls: self.falls || end.falls,
-            ..end
-        }
-    }
-
-    /// Behind a statement that stands here, whose end is this.
-    pub fn passed(self, end: Point) -> Point
-        ensures { result ≡ passed self end }
-    {
-        Point {
-            falls: self.falls && end.falls,
-            ..end
+        End {
+            numbers: last.numbers,
+            falls: self.falls || last.falls,
         }
     }
 }

@@ -6,10 +6,10 @@ ghost use Rattle.scr_tree.specs.Meaning.{message_of};
 ghost use Rattle.scr_tree.specs.CallNames.{label_call};
 ghost use Rattle.scr_tree.specs.Said.{first_said};
 ghost use Rattle.scr_tree.specs.View.{statements, bodies};
-ghost use Rattle.jv_tree.specs.Source.{Eval};
-ghost use Rattle.jv_tree.specs.View.{ stmt_of, stmt_kind_of, group_of};
-ghost use Rattle.stm_client.specs.Client.{block, taken, passing, next_turn, by_turns, own_choice, ended, label_of_group, group, first_branch};
-ghost use Rattle.stm_client.specs.Client.{other_choice, looping, on_role, first_value, last_of, before_last, peer_of, part_call};
+ghost use Rattle.jv_tree.specs.Source.{Eval, IfElse};
+ghost use Rattle.jv_tree.specs.View.{stmt_of, stmt_kind_of, group_of};
+ghost use Rattle.stm_client.specs.Client.{block, taken, passing, is_turn, next_turn, in_turn, own_choice, ended, label_of_group, group};
+ghost use Rattle.stm_client.specs.Client.{first_branch, other_choice, looping, on_role, first_value, peer_of, part_call};
 ghost use Rattle.stm_client.specs.View.{making};
 
 use crate::exprs::{
@@ -87,7 +87,7 @@ pub fn add_own_choice(
     ensures { OnOk result (map stmt_of out.new.items ≡ map stmt_of out.old.items ++ own_choice place choice (map stmt_of blocks.items)) }
 {
     let turn = next_turn(alloc, place, choice)?;
-    let branches = by_turns(alloc, place, choice, blocks)?;
+    let branches = in_turn(alloc, place, choice, blocks)?;
     out.push(turn)?;
     out.push(branches)
 }
@@ -107,9 +107,8 @@ fn next_turn(alloc: Global, place: Place, choice: u32) -> Result<Stmt, Memory>
 }
 
 // These blocks, each where its turn is, and the last where it is that of none before it.
-fn by_turns(alloc: Global, place: Place, choice: u32, blocks: List<Stmt>) -> Result<Stmt, Memory>
-    ensures { IfOk result (λ s. stmt_of s ≡ by_turns place choice (length blocks.items) 1 (before_last (map stmt_of blocks.items))
-        (last_of place (map stmt_of blocks.items))) }
+fn in_turn(alloc: Global, place: Place, choice: u32, blocks: List<Stmt>) -> Result<Stmt, Memory>
+    ensures { IfOk result (λ s. stmt_of s ≡ in_turn place choice (length blocks.items) 1 (map stmt_of blocks.items)) }
 {
     let count = blocks.len() as u32;
     let mut blocks = blocks.into_vec();
@@ -135,7 +134,7 @@ fn turn(
     block: Stmt,
     last: Stmt,
 ) -> Result<Stmt, Memory>
-    ensures { IfOk result (λ s. stmt_of s ≡ by_turns place choice count branch (stmt_of block ∷ []) (stmt_of last)) }
+    ensures { IfOk result (λ s. stmt_of s ≡ IfElse place (is_turn place choice count branch) (stmt_of block) (stmt_of last)) }
 {
     let test = is_turn(alloc, place, choice, count, branch)?;
     let block = boxed(alloc, block)?;
@@ -246,12 +245,7 @@ fn look_name(
 
 /// A loop with this label.
 #[tactic(auto, using(crate::proofs::Trees::views))]
-pub fn looping(
-    alloc: Global,
-    place: Place,
-    label: Text,
-    body: List<Stmt>,
-) -> Result<Stmt, Memory>
+pub fn looping(alloc: Global, place: Place, label: Text, body: List<Stmt>) -> Result<Stmt, Memory>
     ensures { IfOk result (λ s. stmt_of s ≡ looping place label (map stmt_of body.items)) }
 {
     let kind = ExprKind::Truth(true);

@@ -2,9 +2,9 @@
 
 ghost use Rattle.std.specs.Prelude.{◌≡◌, [], ◌∷◌, IfOk, map};
 ghost use Rattle.scr_tree.specs.Local.{tree_of};
-ghost use Rattle.scr_tree.specs.Tree.{titled, other, Nothing};
+ghost use Rattle.scr_tree.specs.Tree.{other, Nothing};
 ghost use Rattle.scr_tree.specs.View.{front, statements, bodies, part_of};
-ghost use Rattle.stm_client.specs.Counting.{nothing_yet, survey, survey_in, survey_all};
+ghost use Rattle.stm_client.specs.inner.Surveyed.{survey_of, survey, survey_in, survey_all};
 
 use crate::points::{Survey, deeper};
 use mg_text::{List, Memory, Text};
@@ -12,7 +12,7 @@ use scr_tree::{Local, Part, Statement};
 
 /// What the protocols of a file have. `Memory` where it has more than can be numbered.
 pub fn survey_of(local: &Local) -> Result<Survey, Memory>
-    ensures { IfOk result (λ s. s ≡ survey_all (tree_of local.now).me nothing_yet (titled (tree_of local.now))) }
+    ensures { IfOk result (λ s. s ≡ survey_of (tree_of local.now)) }
 {
     let nothing = Survey {
         own: 0,
@@ -39,12 +39,7 @@ fn survey_parts(me: &Text, so_far: Survey, parts: &[Part]) -> Result<Survey, Mem
 // With what statements have, which stand so deep.
 #[tactic(auto, using(crate::proofs::Counting::survey_steps))]
 #[cycle(survey)]
-fn survey_body(
-    me: &Text,
-    level: u32,
-    so_far: Survey,
-    body: &[Statement],
-) -> Result<Survey, Memory>
+fn survey_body(me: &Text, level: u32, so_far: Survey, body: &[Statement]) -> Result<Survey, Memory>
     ensures { IfOk result (λ s. s ≡ survey me.now level so_far (statements body.now)) }
 {
     let mut so_far = so_far;
@@ -56,12 +51,7 @@ fn survey_body(
 
 #[tactic(auto, using(crate::proofs::Counting::surveyed))]
 #[cycle(survey)]
-fn survey_at(
-    me: &Text,
-    level: u32,
-    so_far: Survey,
-    statement: &Statement,
-) -> Result<Survey, Memory>
+fn survey_at(me: &Text, level: u32, so_far: Survey, statement: &Statement) -> Result<Survey, Memory>
     ensures { IfOk result (λ s. s ≡ survey me.now level so_far (front statement.now Nothing)) }
 {
     match statement {

@@ -1,6 +1,6 @@
 use Rattle.std.proofs.Common.{◌≡◌, ◌+◌, ◌*◌, drop}
 use Rattle.scr_tree.specs.View.{statements, bodies}
-use Rattle.stm_client.specs.Counting.{survey, survey_in}
+use Rattle.stm_client.specs.inner.Surveyed.{survey, survey_in}
 use Rattle.stm_client.proofs.survey.+survey.Given as goal
 
 abbrev pub invariant-survey_body-loop-statement : goal.invariant-survey_body-loop-statement
