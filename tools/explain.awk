@@ -25,6 +25,7 @@ BEGIN {
     say["NotLast"] = "the do of %1 leaves what stands around it, so nothing stands behind the choice or rec that holds it"
     say["StartsWithDo"] = "the first protocol of the file, %1, begins with a message or a choice"
     say["SameRole"] = "two files of the command are of the role %1"
+    say["NotAccepted"] = "the client of %1 that would be written isn't accepted beside this file: it is too deep or too large for a file of Java"
     say["NotMergeable"] = "%1 cannot tell which branch of this choice was taken, or of another inside it or beside it: let it do the same in each, or begin each by a message to it, all from one role and no two with one label"
     say["Unprojected"] = "what %1 does of this is refused as a local protocol, by %2: repair that here"
     say["Unplayed"] = "no --role names a class for the role %1"

@@ -3,15 +3,16 @@ _mungo() {
     local word=${COMP_WORDS[COMP_CWORD]} before=${COMP_WORDS[COMP_CWORD - 1]} options=
     COMPREPLY=()
     if [ "$COMP_CWORD" -eq 1 ]; then
-        mapfile -t COMPREPLY < <(compgen -W 'translate project conform refine check show compile run fit exec verify load help --help --version --explain' -- "$word")
+        mapfile -t COMPREPLY < <(compgen -W 'translate client project conform refine check show compile run fit exec verify load help --help --version --explain' -- "$word")
         return
     fi
     case $before in
-        --explain) mapfile -t COMPREPLY < <(compgen -W 'ArgsMayMove Arity BadAttribute BadByte BadDescriptor BadEscape BadIndex BadLabel BadLine BadMagic BadNumber BadSwitch BadTag BadText BranchStart CodeTooLong DuplicateClass DuplicateLabel DuplicateLocal DuplicateMember DuplicateMethod DuplicateName DuplicateProtocol DuplicateRec DuplicateState FieldNeedsValue FieldOpenAtEnd InstanceInPlain JumpOutside LabelsDiffer LeftOpen MadeElsewhere MaybeNull MissingMethod MissingReturn MixedChoice NameClash NoCode NoMain NoProtocol NotLast NotMade NotMergeable NotOffered OpenComment OpenText OtherProtocol Overwritten OwnSession PayloadCount PeerIsSelf PoolFull ReservedEnd ReservedLabel RolesDiffer SameLabel SameRole SelfCall SharedMain Short SignatureDiffers StartsWithDo Stranger Syntax TextTooLong ThisAsValue TooLarge TooManyLocals TooManyStates TrailingBytes TypeMismatch Unguarded UnknownClass UnknownMember UnknownName UnknownOpcode UnknownProtocol UnknownRec UnknownRole UnknownState UnknownType UnknownTypestate Unplayed Unprojected Unreachable Unsupported Unverified UseMoved Version' -- "$word"); return ;;
+        --explain) mapfile -t COMPREPLY < <(compgen -W 'ArgsMayMove Arity BadAttribute BadByte BadDescriptor BadEscape BadIndex BadLabel BadLine BadMagic BadNumber BadSwitch BadTag BadText BranchStart CodeTooLong DuplicateClass DuplicateLabel DuplicateLocal DuplicateMember DuplicateMethod DuplicateName DuplicateProtocol DuplicateRec DuplicateState FieldNeedsValue FieldOpenAtEnd InstanceInPlain JumpOutside LabelsDiffer LeftOpen MadeElsewhere MaybeNull MissingMethod MissingReturn MixedChoice NameClash NoCode NoMain NoProtocol NotAccepted NotLast NotMade NotMergeable NotOffered OpenComment OpenText OtherProtocol Overwritten OwnSession PayloadCount PeerIsSelf PoolFull ReservedEnd ReservedLabel RolesDiffer SameLabel SameRole SelfCall SharedMain Short SignatureDiffers StartsWithDo Stranger Syntax TextTooLong ThisAsValue TooLarge TooManyLocals TooManyStates TrailingBytes TypeMismatch Unguarded UnknownClass UnknownMember UnknownName UnknownOpcode UnknownProtocol UnknownRec UnknownRole UnknownState UnknownType UnknownTypestate Unplayed Unprojected Unreachable Unsupported Unverified UseMoved Version' -- "$word"); return ;;
         --out) mapfile -t COMPREPLY < <(compgen -d -- "$word"); return ;;
     esac
     case ${COMP_WORDS[1]} in
         translate) options='--package --out' ;;
+        client) options='--package --out' ;;
         project) options='--out' ;;
         conform) options='' ;;
         refine) options='' ;;

@@ -11,7 +11,7 @@ rows_of() {
 }
 # The same of tools/explain, which writes %1 for what is named and %2 for the state; without the faults that `check` doesn't tell.
 elsewhere='NotMergeable|Unprojected|Unplayed|NoProtocol|OtherProtocol|OwnSession|MadeElsewhere|NotMade'
-elsewhere="$elsewhere|CodeTooLong|TooManyLocals|PoolFull|TextTooLong|BadLine"
+elsewhere="$elsewhere|NotAccepted|CodeTooLong|TooManyLocals|PoolFull|TextTooLong|BadLine"
 sed -n 's/^    say\["\([A-Za-z]*\)"\] = "\(.*\)"$/\1 \2/p' tools/explain.awk | sed 's/%1/@/g; s/%2/#/g' | grep -vE "^($elsewhere) " |
     sort >"$room/explained"
 sentences=crates/lsp_sentences/src

@@ -26,6 +26,7 @@ use Rattle.mg_sources.specs.Sources.{FirstRefusal}
 use Rattle.mg_sources.proofs.OneKind.{one_part, excludes}
 use Rattle.mg_accepted.proofs.Apart.{not_refused as not_unmet}
 use Rattle.mg_accepted.proofs.OneCore.{no_refusal}
+use Rattle.mg_client.proofs.Apart.{not_refused as not_unplayed}
 use Rattle.mg_faults.proofs.Laws.{none_where_accepted}
 use Rattle.mg_compile.proofs.Apart.{not_refused as not_exceeded}
 use Rattle.vm_world_law.specs.declared.stand.Stand.{Stand}
@@ -37,7 +38,8 @@ use Rattle.mg_runs.specs.Laws.{CoursesAreRuns}
 use Rattle.mg_exec.proofs.Apart.{not_refused as not_stopped, one_course}
 use Rattle.vm_world_law.specs.declared.role.RoleMain.{RoleMain}
 use Rattle.mg_top.specs.Translation.{Target, AreTranslated}
-use Rattle.mg_top.specs.Commands.{Gives, translated, conforms, checked, compiled, ran, executed, refined, projected, loaded, verified, fitted, faulted, shown}
+use Rattle.mg_top.specs.Commands.{Gives, translated, played, conforms, checked, compiled, ran, executed, refined, projected, loaded}
+use Rattle.mg_top.specs.Commands.{verified, fitted, faulted, shown}
 use Rattle.mg_top.specs.Commands.{refined_status}
 use Rattle.mg_top.specs.Statuses.{status_of}
 use Rattle.mg_top.specs.Commands.{load_asked, load_sources, role_mains_of, cast_mains_of, IsRefused, judged_names, Yields, gives, refused}
@@ -113,6 +115,8 @@ pub not_both : {command : Command} {contents : List (List ℕ)} {actions : List 
 not_both {contents = contents} {r = r} (translated {package_name = package_name} {folder = folder} {files = files} {writes = writes} t)
     (commands.translate h) =
     not_untranslated (record { package_name = package_name; folder = folder }) (sources files contents) writes r t h
+not_both {contents = contents} {r = r} (played {package_name = package_name} {files = files} written a) (commands.client h) =
+    not_unplayed package_name (sources files contents) written r a h
 not_both {r = r} (conforms {protocol = protocol} {calls = calls} {bytes = bytes} {listed = listed} local list o l c) (commands.conform h) =
     then_never (λ r h. excludes (source_of 0 protocol bytes) (Protocol local) r o h)
     (λ local' o' r h. listed_once (source_of 1 calls listed) list r l h) r h
@@ -152,6 +156,7 @@ conform_status protocol calls local local' list list' t u m n o o' l l' c c' =
 gives_status : {command : Command} {contents : List (List ℕ)} {xa xb : List Action} {m n : Status} → Gives command contents xa m →
     Gives command contents xb n → m ≡ n
 gives_status (translated t) (translated u) = refl
+gives_status (played written h) (played written' h') = refl
 gives_status {m = m} {n = n} (conforms {protocol = protocol} {calls = calls} {bytes = bytes} {listed = listed} {text = t} local list o l c)
     (conforms {text = u} local' list' o' l' c') =
     conform_status (source_of 0 protocol bytes) (source_of 1 calls listed) local local' list list' t u m n o o' l l' c c'
@@ -222,6 +227,7 @@ told_proper false = refused_proper
 gives_proper : {command : Command} {contents : List (List ℕ)} {actions : List Action} {status : Status} →
     Gives command contents actions status → IsYielded status
 gives_proper (translated t) = done_proper
+gives_proper (played written h) = done_proper
 gives_proper (conforms local list o l c) = answer_proper c
 gives_proper (checked core a r) = done_proper
 gives_proper (faulted h) = refused_proper
@@ -276,6 +282,7 @@ gives_says : {command : Command} {contents : List (List ℕ)} {actions : List Ac
     Gives command contents actions status →
     status ≡ statuses.Refused → SaysRefusal actions
 gives_says (translated t) e = absurd cc
+gives_says (played written h) e = absurd cc
 gives_says (conforms local list o l c) e = answer_says c e
 gives_says (checked core a r) e = absurd cc
 gives_says (faulted {files = files} {rs = rs} h) e = inl (refusal_lines files rs, refl)
@@ -317,6 +324,7 @@ told_whole false e = cc
 gives_whole : CoursesAreRuns → {command : Command} {contents : List (List ℕ)} {actions : List Action} {status : Status} →
     Gives command contents actions status → status ≡ statuses.Broken → (asked : Asked) × (files : List Word) × (command ≡ Exec asked files)
 gives_whole law (translated t) e = absurd cc
+gives_whole law (played written h) e = absurd cc
 gives_whole law (conforms local list o l c) e = absurd (answer_whole c e)
 gives_whole law (checked core a r) e = absurd cc
 gives_whole law (faulted h) e = absurd cc

@@ -25,6 +25,8 @@ use Rattle.mg_sources.proofs.Alike as sources_alike
 use Rattle.mg_accepted.proofs.OneCore.{one_core}
 use Rattle.mg_accepted.proofs.Alike as accepted_alike
 use Rattle.mg_accepted.proofs.TypesAlike as program_alike
+use Rattle.mg_client.proofs.Apart.{one_list as one_clients}
+use Rattle.mg_client.proofs.Alike as client_alike
 use Rattle.mg_faults.specs.Faults.{AreAllAlike}
 use Rattle.mg_faults.proofs.Alike.{one_list as all_alike}
 use Rattle.mg_shown.specs.Shown.{IsShown}
@@ -51,14 +53,15 @@ use Rattle.mg_delivery.specs.declared.status.Status.TheVariants as statuses
 use Rattle.mg_delivery.specs.declared.delivery.Action.{Action}
 use Rattle.mg_delivery.specs.declared.delivery.Action.TheVariants.{Write, Print, Say}
 use Rattle.mg_delivery.specs.Files.{Output}
-use Rattle.mg_top.specs.Writing.{classes_written, roles_written}
+use Rattle.mg_top.specs.Writing.{classes_written, roles_written, clients_written}
 use Rattle.api_package.specs.Heads.{headed}
 use Rattle.mg_top.specs.Translation.{Target, IsTypestateFile, api_written, IsTranslation, Translates, EachTranslates, none, one}
 use Rattle.mg_delivery.specs.Lines.{refusal_line, refusal_lines, not_offered_line}
 use Rattle.mg_top.specs.Conformance.{calls_of, Conforms, complete, unfinished, not_offered, IsNoList, too_large, bad_line, ConformRefusal}
 use Rattle.mg_top.specs.Commands.{loaded, load_asked, load_sources, judged_names, prints, kept_in, role_mains_of, cast_mains_of, run_said, run_printed}
 use Rattle.mg_top.specs.Commands.{exec_said, exec_printed}
-use Rattle.mg_top.specs.Commands.{Gives, translated, conforms, checked, compiled, ran, executed, refined, projected, verified, fitted, faulted, shown}
+use Rattle.mg_top.specs.Commands.{Gives, translated, played, conforms, checked, compiled, ran, executed, refined, projected, verified}
+use Rattle.mg_top.specs.Commands.{fitted, faulted, shown}
 use Rattle.mg_top.specs.Commands.{IsRefused, Yields, gives, refused}
 use Rattle.mg_top.specs.Commands as commands
 use Rattle.mg_top.specs.Once.{SameActions, YieldsOnce}
@@ -201,6 +204,8 @@ record BothFaulted (a b : List Action) (m : Status) : Type 0 where
 given_once : {command : Command} {contents : List (List ℕ)} {a b : List Action} {m n : Status} → Gives command contents a m →
     Gives command contents b n → m ≡ n → (a ≡ b) ⊎ BothFaulted a b m
 given_once (translated t) (translated u) e = inl (each_once t.each u.each refl)
+given_once {contents = contents} (played {package_name = package_name} {folder = folder} {files = files} written h) (played written' k) e =
+    inl (ap (clients_written folder) (one_clients package_name (sources files contents) written written' h k))
 given_once {m = m} {n = n} (conforms {protocol = protocol} {calls = calls} {bytes = bytes} {listed = listed} {text = t} local list o l c)
     (conforms {text = u} local' list' o' l' c') e =
     let local_is : local' ≡ local = same_local local' local (one_part (source_of 0 protocol bytes) (Protocol local') (Protocol local) o' o)
@@ -295,6 +300,9 @@ module _ (law : RefusalsAreAlike) where
       → AreAlike r q
   refused_alike {contents = contents} {r = r} {q = q} (commands.translate {files = files} h) (commands.translate k) =
       sources_alike.same_refusal (sources files contents) r q h k
+  refused_alike {contents = contents} {r = r} {q = q} (commands.client {package_name = package_name} {files = files} h)
+      (commands.client k) =
+      client_alike.same_refusal package_name (sources files contents) r q h k
   refused_alike {r = r} {q = q} (commands.conform {protocol = protocol} {calls = calls} {bytes = bytes} {listed = listed} h)
       (commands.conform k) =
       conform_alike (source_of 0 protocol bytes) (source_of 1 calls listed) r q h k

@@ -8,6 +8,9 @@ use Rattle.mg_accepted.specs.Accepted.{AreAccepted}
 use Rattle.mg_accepted.specs.Accepted as accepted
 use Rattle.mg_accepted.specs.Program.{HaveCore}
 use Rattle.mg_accepted.specs.Program as program
+use Rattle.mg_client.specs.declared.files.ClientFile.{ClientFile}
+use Rattle.mg_client.specs.Clients.{AreClients}
+use Rattle.mg_client.specs.Clients as playing
 use Rattle.mg_faults.specs.Faults.{AllRefusals}
 use Rattle.mg_shown.specs.Shown.{IsShown}
 use Rattle.mg_compile.specs.declared.files.ClassFile.{ClassFile}
@@ -35,13 +38,14 @@ use Rattle.mg_delivery.specs.declared.status.Status.{Status}
 use Rattle.mg_delivery.specs.declared.status.Status.TheVariants.{Done, Refused}
 use Rattle.mg_delivery.specs.declared.delivery.Action.{Action}
 use Rattle.mg_delivery.specs.declared.delivery.Action.TheVariants.{Print, Say}
-use Rattle.mg_words.specs.Words.{Word, RoleClass, Asked, limit_of, mains_of, order_of, are_named, Command, Translate, Conform, Check}
+use Rattle.mg_words.specs.Words.{Word, RoleClass, Asked, limit_of, mains_of, order_of, are_named, Command, Translate, Client, Conform}
+use Rattle.mg_words.specs.Words.{Check}
 use Rattle.mg_words.specs.Words.{Compile, Run, Exec, Refine, Project, Load, Verify, Fit, Show, Several}
 use Rattle.mg_refusal.specs.Refusals.{Refusal}
 use Rattle.mg_sources.specs.Files.{Source, source_of, sources}
 use Rattle.mg_sources.specs.Reading.{Protocol, Reads}
 use Rattle.mg_sources.specs.Sources as reading
-use Rattle.mg_top.specs.Writing.{classes_written, roles_written}
+use Rattle.mg_top.specs.Writing.{classes_written, roles_written, clients_written}
 use Rattle.mg_top.specs.Translation.{AreTranslated}
 use Rattle.mg_top.specs.Statuses.{status_of}
 use Rattle.mg_delivery.specs.Lines.{refusal_line, refusal_lines}
@@ -115,6 +119,10 @@ pub data Gives : Command → List (List ℕ) → List Action → Status → Type
   translated : {package_name folder : Option Word} {files : List Word} {contents : List (List ℕ)} {writes : List Action} →
       AreTranslated (record { package_name = package_name; folder = folder }) (sources files contents) writes →
       Gives (Translate package_name folder files) contents writes Done
+  -- each class that is written is accepted by `check` beside the file of its protocol
+  played : {package_name folder : Option Word} {files : List Word} {contents : List (List ℕ)} (written : List ClientFile) →
+      AreClients package_name (sources files contents) written →
+      Gives (Client package_name folder files) contents (clients_written folder written) Done
   -- a file of a protocol, and one of calls
   conforms : {protocol calls : Word} {bytes listed text : List ℕ} {status : Status} (local : LocalTree) (list : List CallAt) →
       Reads (source_of 0 protocol bytes) (Protocol local) → Lists (source_of 1 calls listed) list → Conforms local list text status →
@@ -164,6 +172,8 @@ pub data Gives : Command → List (List ℕ) → List Action → Status → Type
 pub data IsRefused : Command → List (List ℕ) → Refusal → Type 0 where
   translate : {package_name folder : Option Word} {files : List Word} {contents : List (List ℕ)} {r : Refusal} →
       reading.FirstRefusal (sources files contents) r → IsRefused (Translate package_name folder files) contents r
+  client : {package_name folder : Option Word} {files : List Word} {contents : List (List ℕ)} {r : Refusal} →
+      playing.FirstRefusal package_name (sources files contents) r → IsRefused (Client package_name folder files) contents r
   -- a file of a protocol, and then one of calls
   conform : {protocol calls : Word} {bytes listed : List ℕ} {r : Refusal} →
       ConformRefusal (source_of 0 protocol bytes) (source_of 1 calls listed) r → IsRefused (Conform (protocol ∷ calls ∷ []))
@@ -200,6 +210,7 @@ first_last (name ∷ names) = names ++ name ∷ []
 -- the names of the files that a command judges
 abbrev pub judged_names : Command → List Word
 judged_names (Translate package_name folder files) = files
+judged_names (Client package_name folder files) = files
 judged_names (Conform files) = files
 judged_names (Check all files) = files
 judged_names (Compile folder files) = files

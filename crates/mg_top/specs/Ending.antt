@@ -4,7 +4,8 @@ use Rattle.mg_delivery.specs.declared.status.Status.{Status}
 use Rattle.mg_delivery.specs.declared.status.Status.TheVariants as statuses
 use Rattle.mg_delivery.specs.declared.delivery.Action.{Action}
 use Rattle.mg_delivery.specs.declared.delivery.Action.TheVariants.{Say}
-use Rattle.mg_words.specs.Words.{Word, Command, Translate, Conform, Check, Compile, Run, Exec, Refine, Project, Load, Verify, Fit, Show, files_of}
+use Rattle.mg_words.specs.Words.{Word, Command, Translate, Client, Conform, Check, Compile, Run, Exec, Refine, Project, Load, Verify, Fit}
+use Rattle.mg_words.specs.Words.{Show, files_of}
 use Rattle.mg_words.specs.Words.{IsCommand}
 use Rattle.mg_words.specs.Words.{AreWrong}
 use Rattle.mg_delivery.specs.Lines.{words_line, read_line, memory_line}
@@ -16,6 +17,7 @@ use Rattle.mg_top.specs.Commands.{Yields}
 -- How many bytes of a file a command reads: one more than such a file may have.
 abbrev pub read_limit : Command → ℕ
 read_limit (Translate package_name folder files) = 1048577
+read_limit (Client package_name folder files) = 1048577
 read_limit (Conform files) = 1048577
 read_limit (Check all files) = 1048577
 read_limit (Compile folder files) = 1048577

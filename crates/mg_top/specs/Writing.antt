@@ -2,6 +2,7 @@
 use Rattle.std.specs.Prelude.{List, map, ◌++◌, codes, Option, Some, None}
 use Rattle.mg_compile.specs.declared.files.ClassFile.{ClassFile}
 use Rattle.mg_projected.specs.declared.files.RoleFile.{RoleFile}
+use Rattle.mg_client.specs.declared.files.ClientFile.{ClientFile}
 use Rattle.mg_delivery.specs.declared.delivery.Action.{Action}
 use Rattle.mg_delivery.specs.declared.delivery.Action.TheVariants.{Write}
 use Rattle.mg_words.specs.Words.{Word}
@@ -24,3 +25,10 @@ role_written folder file = Write (record { name = in_folder folder file.name; te
 
 abbrev pub roles_written : Option Word → List RoleFile → List Action
 roles_written folder files = map (role_written folder) files
+
+-- the same of the file of a client
+abbrev pub client_written : Option Word → ClientFile → Action
+client_written folder file = Write (record { name = in_folder folder file.name; text = file.text })
+
+abbrev pub clients_written : Option Word → List ClientFile → List Action
+clients_written folder files = map (client_written folder) files

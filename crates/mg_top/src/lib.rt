@@ -5,6 +5,7 @@
 ghost use Rattle.mg_top.specs.Once.{YieldsOnce};
 
 mod check;
+mod client;
 mod compile;
 mod conform;
 mod exec;

@@ -11,6 +11,7 @@ ghost use Rattle.mg_words.specs.inner.Judging.{command_of, IsKnown};
 ghost use Rattle.mg_top.specs.inner.Preparing.{IsCarried, IsPrepared};
 
 use crate::check::check;
+use crate::client::client;
 use crate::compile::compile;
 use crate::conform::conform;
 use crate::exec::exec;
@@ -43,6 +44,8 @@ const CLASS_LIMIT: usize = 16_777_217;
 ///
 /// `translate [--package P] [--out D] F..` reads the local protocols in the files and writes the typestates of
 /// their roles and the classes by which programs play them, into the folder D where one is named.
+/// `client [--package P] [--out D] F..` reads the same and writes for each protocol a class whose `main` plays all of it,
+/// which is accepted by `check` beside the protocol's file.
 /// `conform F CALLS` tells whether the calls of the second file follow the protocol of the first.
 /// `project [--out D] F` reads the global protocol in the file and writes the local protocols of its
 /// roles, into the folder D where one is named.
@@ -128,6 +131,7 @@ fn read_limit(command: &Command<'_>) -> usize
 {
     match command {
         Command::Translate { .. }
+        | Command::Client { .. }
         | Command::Conform { .. }
         | Command::Check { .. }
         | Command::Compile { .. }
@@ -205,6 +209,19 @@ fn carried_out(alloc: Global, command: &Command<'_>, contents: &[Bytes]) -> Resu
             folder,
             files,
         } => translate(
+            alloc,
+            &Target {
+                package_name,
+                folder,
+            },
+            files,
+            contents,
+        ),
+        Command::Client {
+            package_name,
+            folder,
+            files,
+        } => client(
             alloc,
             &Target {
                 package_name,

@@ -9,7 +9,8 @@ use Rattle.mg_words.specs.declared.runs.Input.{Input}
 use Rattle.mg_words.specs.declared.runs.Input.TheVariants as input
 use Rattle.mg_words.specs.declared.options.Named.{Named}
 use Rattle.mg_words.specs.declared.options.Named.TheVariants as named
-use Rattle.mg_words.specs.Words.{Word, RoleClass, Roles, Alone, Several, role_names, Command, Translate, Conform, Check, Compile, Run, Exec}
+use Rattle.mg_words.specs.Words.{Word, RoleClass, Roles, Alone, Several, role_names, Command, Translate, Client, Conform, Check, Compile}
+use Rattle.mg_words.specs.Words.{Run, Exec}
 use Rattle.mg_words.specs.Words.{Refine, Project, Load, Verify, Fit, Show, Asked, RunOption, Main, Role, Order, Steps, Trace, Out, option_words}
 use Rattle.mg_words.specs.Words.{IsOption}
 use Rattle.mg_words.specs.Words.{AreOptions, IsCommand, AreCommand, CanBegin, AreWrong}
@@ -19,7 +20,8 @@ use Rattle.mg_words.proofs.WordsLemmas.{head_is, tail_is, filled, nothing_behind
 use Rattle.mg_words.proofs.WordsLemmas.{some_for, for_named, some_class, classed, pushed_filled, IsRunBehind, is_run, run_is, first_wrong}
 use Rattle.mg_words.proofs.WordsLemmas.{same_conform, same_compile}
 use Rattle.mg_words.proofs.CheckLemmas.{same_check, same_show}
-use Rattle.mg_words.proofs.TranslateLemmas.{same_translate}
+use Rattle.mg_words.specs.declared.targets.Made.TheVariants as kinds
+use Rattle.mg_words.proofs.TranslateLemmas.{same_making}
 use Rattle.mg_words.proofs.RefineLemmas.{same_refine}
 use Rattle.mg_words.proofs.ProjectLemmas.{same_project}
 use Rattle.mg_words.proofs.LoadLemmas.{same_load}
@@ -446,7 +448,9 @@ module _ (ran : Input) where
 
 pub same_command : (words : List Word) (a b : Command) → IsCommand a words → IsCommand b words → a ≡ b
 same_command words (Translate package_name folder files) b (rest, e, behind) is =
-    same_translate b package_name folder files rest behind (subst (IsCommand b) e is)
+    same_making kinds.Api b package_name folder files rest behind (subst (IsCommand b) e is)
+same_command words (Client package_name folder files) b (rest, e, behind) is =
+    same_making kinds.Clients b package_name folder files rest behind (subst (IsCommand b) e is)
 same_command words (Conform files) b (rest, e, behind) is = same_conform b files rest behind (subst (IsCommand b) e is)
 same_command words (Check all files) b (rest, e, behind) is = same_check b all files rest behind (subst (IsCommand b) e is)
 same_command words (Show files) b (rest, e, behind) is = same_show b files rest behind (subst (IsCommand b) e is)

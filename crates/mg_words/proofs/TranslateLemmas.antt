@@ -1,4 +1,4 @@
--- Which words are the command `translate`, and which can't follow.
+-- Which words are the commands `translate` and `client`, and which can't follow.
 use Rattle.std.proofs.Common.{◌≡◌, ◌≢◌, List, [], ◌∷◌, ◌++◌, All, length, Option, Some, None, codes, refl, sym, ap, ◌∙◌, subst, append_assoc, arith, eqb}
 use Rattle.std.specs.Borrow.{Bor}
 use Rattle.std.specs.Prelude.{true, false, is_some, flat_map, filter_map, option_map, option_to_list}
@@ -6,13 +6,14 @@ use Rattle.std.proofs.lemmas.Grind.{flat_map-append}
 use Rattle.std.proofs.lemmas.List.Elements.{filter_map-append}
 use Rattle.jv_tree.specs.Tokens.{is_name}
 use Rattle.api_package.specs.Package.{IsPackage}
-use Rattle.mg_words.specs.Words.{Word, Command, Translate, TargetOption, Package, Folder, target_words, IsTarget, target_package}
+use Rattle.mg_words.specs.Words.{Word, Command, AreTargetsAndFiles, TargetOption, Package, Folder, target_words, IsTarget, target_package}
 use Rattle.mg_words.specs.Words.{target_folder, AreTargets, IsFileName, IsFileOf, AreFilesOf}
-use Rattle.mg_words.specs.Words.{IsBehind, IsCommand, AreCommand, CanBegin, AreWrong}
-use Rattle.mg_words.specs.inner.Judging.{IsFirstOther, AreTargeted}
-use Rattle.mg_words.proofs.Verbs.{translate}
+use Rattle.mg_words.specs.Words.{IsCommand, AreCommand, CanBegin, AreWrong}
+use Rattle.mg_words.specs.inner.Judging.{IsFirstOther, AreTargeted, making, word_for}
+use Rattle.mg_words.specs.declared.targets.Made.{Made}
 use Rattle.mg_words.proofs.WordsLemmas.{out, some_source, some_class, named, is_name as folder_named, head_is, tail_is, filled, empty_is}
-use Rattle.mg_words.proofs.WordsLemmas.{nothing_behind, All-first, All-push, All-mid, none_yet, pushed_filled, first_wrong, is_translate}
+use Rattle.mg_words.proofs.WordsLemmas.{nothing_behind, All-first, All-push, All-mid, none_yet, pushed_filled, first_wrong, is_making}
+use Rattle.mg_words.proofs.WordsLemmas.{making_is}
 use Rattle.mg_words.proofs.NameLemmas.{never_both}
 use Rattle.mg_words.proofs.OptionLemmas.{at_end, one_there}
 use Rattle.mg_words.proofs.FollowLemmas.{same_value}
@@ -117,43 +118,41 @@ folder_free o more p q d v was all =
 -- ---- what can begin the command
 
 -- options and files can be followed by a file
-begins_files : (o : List TargetOption) (p d : Option Word) (before : List Word) → AreTargets p d o → All (IsFileOf (codes ".scr")) before
-    → CanBegin AreCommand (translate ∷ (words_of o ++ before))
-begins_files o p d before h each = (
+begins_files : (k : Made) (o : List TargetOption) (p d : Option Word) (before : List Word) → AreTargets p d o →
+    All (IsFileOf (codes ".scr")) before
+    → CanBegin AreCommand (word_for k ∷ (words_of o ++ before))
+begins_files k o p d before h each = (
   some_source ∷ [],
   (
-    Translate p d (before ++ some_source ∷ []),
-    (
-      (words_of o ++ before) ++ some_source ∷ [],
-      refl,
-      (
-        o,
-        append_assoc (words_of o) before (some_source ∷ []),
-        h,
-        (pushed_filled before some_source, All-push (IsFileOf (codes ".scr")) before some_source each named),
-      ),
+    making k p d (before ++ some_source ∷ []),
+    making_is k p d (before ++ some_source ∷ []) ((words_of o ++ before) ++ some_source ∷ []) (
+      o,
+      append_assoc (words_of o) before (some_source ∷ []),
+      h,
+      (pushed_filled before some_source, All-push (IsFileOf (codes ".scr")) before some_source each named),
     ),
   ),
 )
 
 -- what can begin with more words can with fewer
-begins_sooner : (ws more : List Word) → CanBegin AreCommand (translate ∷ (ws ++ more)) → CanBegin AreCommand (translate ∷ ws)
-begins_sooner ws more (rest, (command, is)) =
-    (more ++ rest, (command, subst (IsCommand command) (ap (λ (z : List Word). translate ∷ z) (append_assoc ws more rest)) is))
+begins_sooner : (k : Made) (ws more : List Word) → CanBegin AreCommand (word_for k ∷ (ws ++ more)) → CanBegin AreCommand (word_for k ∷ ws)
+begins_sooner k ws more (rest, (command, is)) =
+    (more ++ rest, (command, subst (IsCommand command) (ap (λ (z : List Word). word_for k ∷ z) (append_assoc ws more rest)) is))
 
-begins_targets : (o : List TargetOption) (p d : Option Word) → AreTargets p d o → CanBegin AreCommand (translate ∷ (words_of o ++ []))
-begins_targets o p d h = begins_files o p d [] h (none_yet (IsFileOf (codes ".scr")))
+begins_targets : (k : Made) (o : List TargetOption) (p d : Option Word) → AreTargets p d o →
+    CanBegin AreCommand (word_for k ∷ (words_of o ++ []))
+begins_targets k o p d h = begins_files k o p d [] h (none_yet (IsFileOf (codes ".scr")))
 
 -- options can be followed by the word of one more
-begins_option : (o : List TargetOption) (x : TargetOption) (p d : Option Word) → AreTargets p d (o ++ x ∷ [])
-    → CanBegin AreCommand (translate ∷ (words_of o ++ option_word x ∷ []))
-begins_option o x p d h =
+begins_option : (k : Made) (o : List TargetOption) (x : TargetOption) (p d : Option Word) → AreTargets p d (o ++ x ∷ [])
+    → CanBegin AreCommand (word_for k ∷ (words_of o ++ option_word x ∷ []))
+begins_option k o x p d h =
     let same : words_of (o ++ x ∷ []) ++ [] ≡ (words_of o ++ option_word x ∷ []) ++ value_word x ∷ [] =
     nothing_behind (words_of (o ++ x ∷ [])) ∙ words_on o (x ∷ [])
     ∙ ap (λ (z : List Word). words_of o ++ z) (nothing_behind (target_words x) ∙ two_words x)
     ∙ sym (append_assoc (words_of o) (option_word x ∷ []) (value_word x ∷ [])) in
-    begins_sooner (words_of o ++ option_word x ∷ []) (value_word x ∷ [])
-    (subst (λ (z : List Word). CanBegin AreCommand (translate ∷ z)) same (begins_targets (o ++ x ∷ []) p d h))
+    begins_sooner k (words_of o ++ option_word x ∷ []) (value_word x ∷ [])
+    (subst (λ (z : List Word). CanBegin AreCommand (word_for k ∷ z)) same (begins_targets k (o ++ x ∷ []) p d h))
 
 -- ---- what stands behind the word
 
@@ -176,20 +175,21 @@ left_of (x ∷ xs) (y ∷ ys) rest files are e =
     record { more = left.more; parts = (λ i. sym one i ∷ left.parts i); words = left.words }
 
 -- a command that begins with options that were read
-record Goes (o : List TargetOption) (rest : List Word) (command : Command) : Type 0 where
+record Goes (k : Made) (o : List TargetOption) (rest : List Word) (command : Command) : Type 0 where
   p : Option Word
   d : Option Word
   files : List Word
   more : List TargetOption
-  same : command ≡ Translate p d files
+  same : command ≡ making k p d files
   words : rest ≡ words_of more ++ files
   all : AreTargets p d (o ++ more)
   are : AreFiles files
 
-goes_on : (o : List TargetOption) (rest : List Word) (command : Command) → IsCommand command (translate ∷ (words_of o ++ rest)) →
-    Goes o rest command
-goes_on o rest command is =
-    let (p, d, files, same, (all, e, how, are)) = is_translate command (words_of o ++ rest) is in
+goes_on : (k : Made) (o : List TargetOption) (rest : List Word) (command : Command) →
+    IsCommand command (word_for k ∷ (words_of o ++ rest)) →
+    Goes k o rest command
+goes_on k o rest command is =
+    let (p, d, files, same, (all, e, how, are)) = is_making k command (words_of o ++ rest) is in
     let left = left_of o all rest files are e in
     record {
       p = p;
@@ -205,24 +205,24 @@ goes_on o rest command is =
 -- ---- what is judged
 
 -- a word can't stand behind options and what was read behind them, where no command goes on so
-wrong_behind : (o : List TargetOption) (before : List Word) (word : Word) (after : List Word)
-    → CanBegin AreCommand (translate ∷ (words_of o ++ before))
-    → ((command : Command) (more : List Word) → Goes o (before ++ word ∷ more) command → ⊥)
-    → AreWrong (translate ∷ (words_of o ++ (before ++ word ∷ after))) (Some word)
-wrong_behind o before word after begins cannot =
-    subst (λ (z : List Word). AreWrong (translate ∷ z) (Some word)) (append_assoc (words_of o) before (word ∷ after))
-    (first_wrong (translate ∷ (words_of o ++ before)) word after begins (λ b.
-    cannot b.1.0 b.0 (goes_on o (before ++ word ∷ b.0) b.1.0 (subst (IsCommand b.1.0) (split b.0) b.1.1)))) where
-      split : (more : List Word) → ((translate ∷ (words_of o ++ before)) ++ word ∷ []) ++ more
-          ≡ translate ∷ (words_of o ++ (before ++ word ∷ more))
+wrong_behind : (k : Made) (o : List TargetOption) (before : List Word) (word : Word) (after : List Word)
+    → CanBegin AreCommand (word_for k ∷ (words_of o ++ before))
+    → ((command : Command) (more : List Word) → Goes k o (before ++ word ∷ more) command → ⊥)
+    → AreWrong (word_for k ∷ (words_of o ++ (before ++ word ∷ after))) (Some word)
+wrong_behind k o before word after begins cannot =
+    subst (λ (z : List Word). AreWrong (word_for k ∷ z) (Some word)) (append_assoc (words_of o) before (word ∷ after))
+    (first_wrong (word_for k ∷ (words_of o ++ before)) word after begins (λ b.
+    cannot b.1.0 b.0 (goes_on k o (before ++ word ∷ b.0) b.1.0 (subst (IsCommand b.1.0) (split b.0) b.1.1)))) where
+      split : (more : List Word) → ((word_for k ∷ (words_of o ++ before)) ++ word ∷ []) ++ more
+          ≡ word_for k ∷ (words_of o ++ (before ++ word ∷ more))
       split more =
-          append_assoc (translate ∷ (words_of o ++ before)) (word ∷ []) more
-          ∙ ap (λ (z : List Word). translate ∷ z) (append_assoc (words_of o) before (word ∷ more))
+          append_assoc (word_for k ∷ (words_of o ++ before)) (word ∷ []) more
+          ∙ ap (λ (z : List Word). word_for k ∷ z) (append_assoc (words_of o) before (word ∷ more))
 
 -- words end behind options and what was read behind them, where no command ends so
-few_behind : (o : List TargetOption) (before : List Word) → CanBegin AreCommand (translate ∷ (words_of o ++ before))
-    → ((command : Command) → Goes o before command → ⊥) → AreWrong (translate ∷ (words_of o ++ before)) None
-few_behind o before begins cannot = (begins, λ k. cannot k.0 (goes_on o before k.0 k.1))
+few_behind : (k : Made) (o : List TargetOption) (before : List Word) → CanBegin AreCommand (word_for k ∷ (words_of o ++ before))
+    → ((command : Command) → Goes k o before command → ⊥) → AreWrong (word_for k ∷ (words_of o ++ before)) None
+few_behind k o before begins cannot = (begins, λ c. cannot c.0 (goes_on k o before c.0 c.1))
 
 -- where the words go on with the word of an option, that option stands there
 package_there : (more : List TargetOption) (rest files : List Word) → pack ∷ rest ≡ words_of more ++ files → AreFiles files
@@ -258,50 +258,51 @@ only_files (Package v ∷ xs) rest files e over are = absurd (over.0 (v ∷ (wor
 only_files (Folder v ∷ xs) rest files e over are = absurd (over.1 (v ∷ (words_of xs ++ files)) e)
 
 -- nothing stands behind options
-pub few_files : (o : List TargetOption) (p d : Option Word) → AreTargets p d o → AreWrong (translate ∷ (words_of o ++ [])) None
-few_files o p d h = few_behind o [] (begins_targets o p d h)
+pub few_files : (k : Made) (o : List TargetOption) (p d : Option Word) → AreTargets p d o → AreWrong (word_for k ∷ (words_of o ++ [])) None
+few_files k o p d h = few_behind k o [] (begins_targets k o p d h)
     (λ command goes. (only_files goes.more [] goes.files goes.words (none_over, none_over) goes.are).0 refl) where
       none_over : {w : Word} → (more : List Word) → ◌≡◌ {A = List Word} [] (w ∷ more) → ⊥
       none_over more e = filled e
 
 -- a word that is no file of a protocol
-pub wrong_file : (o : List TargetOption) (p d : Option Word) (files : List Word) (word : Word) → AreTargets p d o → AreOver files
-    → IsFirstOther (IsFileOf (codes ".scr")) files (Some word) → AreWrong (translate ∷ (words_of o ++ files)) (Some word)
-wrong_file o p d files word h over (before, after, is, each, isnt) =
-    subst (λ (z : List Word). AreWrong (translate ∷ (words_of o ++ z)) (Some word)) (sym is)
-    (wrong_behind o before word after (begins_files o p d before h each) (λ command more goes.
+pub wrong_file : (k : Made) (o : List TargetOption) (p d : Option Word) (files : List Word) (word : Word) → AreTargets p d o → AreOver files
+    → IsFirstOther (IsFileOf (codes ".scr")) files (Some word) → AreWrong (word_for k ∷ (words_of o ++ files)) (Some word)
+wrong_file k o p d files word h over (before, after, is, each, isnt) =
+    subst (λ (z : List Word). AreWrong (word_for k ∷ (words_of o ++ z)) (Some word)) (sym is)
+    (wrong_behind k o before word after (begins_files k o p d before h each) (λ command more goes.
     isnt (All-mid (IsFileOf (codes ".scr")) before word more
     (only_files goes.more (before ++ word ∷ more) goes.files goes.words
     (still_over before word after more (subst AreOver is over)) goes.are).1)))
 
-pub lacks_files : (o : List TargetOption) (p d : Option Word) (files : List Word) → AreTargets p d o → length files ≡ 0
-    → AreWrong (translate ∷ (words_of o ++ files)) None
-lacks_files o p d files h none =
-    subst (λ (z : List Word). AreWrong (translate ∷ (words_of o ++ z)) None) (sym (empty_is files none)) (few_files o p d h)
+pub lacks_files : (k : Made) (o : List TargetOption) (p d : Option Word) (files : List Word) → AreTargets p d o → length files ≡ 0
+    → AreWrong (word_for k ∷ (words_of o ++ files)) None
+lacks_files k o p d files h none =
+    subst (λ (z : List Word). AreWrong (word_for k ∷ (words_of o ++ z)) None) (sym (empty_is files none)) (few_files k o p d h)
 
 -- options and files are the command
-pub are_translate : (o : List TargetOption) (p d : Option Word) (files : List Word) → AreTargets p d o → eqb (length files) 0 ≡ false
-    → All (IsFileOf (codes ".scr")) files → IsCommand (Translate p d files) (translate ∷ (words_of o ++ files))
-are_translate o p d files h some each = (words_of o ++ files, refl, (o, refl, h, (not_none files some, each))) where
+pub are_making : (k : Made) (o : List TargetOption) (p d : Option Word) (files : List Word) → AreTargets p d o →
+    eqb (length files) 0 ≡ false
+    → All (IsFileOf (codes ".scr")) files → IsCommand (making k p d files) (word_for k ∷ (words_of o ++ files))
+are_making k o p d files h some each = making_is k p d files (words_of o ++ files) (o, refl, h, (not_none files some, each)) where
   not_none : (xs : List Word) → eqb (length xs) 0 ≡ false → xs ≢ []
   not_none xs e n = never_both (eqb (length xs) 0) (ap (λ (z : List Word). eqb (length z) 0) n) e
 
 -- ---- words are one such command at most
 
-pub same_translate : (command : Command) (package_name folder : Option Word) (files rest : List Word)
-    → IsBehind (Translate package_name folder files) rest → IsCommand command (translate ∷ rest) → Translate package_name folder files
+pub same_making : (k : Made) (command : Command) (package_name folder : Option Word) (files rest : List Word)
+    → AreTargetsAndFiles package_name folder files rest → IsCommand command (word_for k ∷ rest) → making k package_name folder files
     ≡ command
-same_translate command package_name folder files rest (o, e, how, are) is =
-    let goes = goes_on o files command (subst (λ (z : List Word). IsCommand command (translate ∷ z)) e is) in
+same_making k command package_name folder files rest (o, e, how, are) is =
+    let goes = goes_on k o files command (subst (λ (z : List Word). IsCommand command (word_for k ∷ z)) e is) in
     go goes.p goes.d goes.more goes.files goes.same goes.words goes.all where
-      go : (p d : Option Word) (more : List TargetOption) (files' : List Word) → command ≡ Translate p d files' → files ≡ words_of more
+      go : (p d : Option Word) (more : List TargetOption) (files' : List Word) → command ≡ making k p d files' → files ≡ words_of more
           ++ files'
-          → AreTargets p d (o ++ more) → Translate package_name folder files ≡ command
+          → AreTargets p d (o ++ more) → making k package_name folder files ≡ command
       go p d [] files' same words all =
           let total : AreTargets p d o = subst (AreTargets p d) (at_end o) all in
           let one : package_name ≡ p = same_value package_name p (sym how.packages ∙ total.packages) in
           let other : folder ≡ d = same_value folder d (sym how.folders ∙ total.folders) in
-          (λ i. Translate (one i) (other i) (words i)) ∙ sym same
+          (λ i. making k (one i) (other i) (words i)) ∙ sym same
       go p d (x ∷ xs) files' same words all =
           absurd (no_target x (words_of xs ++ files') files
           (sym (words ∙ append_assoc (target_words x) (words_of xs) files')) are)
@@ -351,61 +352,63 @@ taken : {P : Type 0} (v : Option (Bor Word)) → is_some v ≡ true → seen v �
 taken None e n = absurd cc
 taken (Some w) e n = absurd cc
 
-pub package_twice : (words : List Word) (p d : Option (Bor Word)) (rest : List Word) (word : Word) (behind : List Word)
-    → AreTargeted words (seen p) (seen d) rest → is_some p ≡ true → rest ≡ word ∷ behind → word ≡ pack → AreWrong (translate ∷ words) (Some word)
-package_twice words p d rest word behind h is_there is name =
-    subst (λ (z : List Word). AreWrong (translate ∷ z) (Some word)) (sym (h.stand ∙ ap (λ (z : List Word). words_of h.options ++ z) is))
-    (wrong_behind h.options [] word behind (begins_targets h.options (seen p) (seen d) h.are) (λ command more goes.
+pub package_twice : (k : Made) (words : List Word) (p d : Option (Bor Word)) (rest : List Word) (word : Word) (behind : List Word)
+    → AreTargeted words (seen p) (seen d) rest → is_some p ≡ true → rest ≡ word ∷ behind → word ≡ pack →
+    AreWrong (word_for k ∷ words) (Some word)
+package_twice k words p d rest word behind h is_there is name =
+    subst (λ (z : List Word). AreWrong (word_for k ∷ z) (Some word)) (sym (h.stand ∙ ap (λ (z : List Word). words_of h.options ++ z) is))
+    (wrong_behind k h.options [] word behind (begins_targets k h.options (seen p) (seen d) h.are) (λ command more goes.
     let (v, others, at, rest_is) =
     package_there goes.more more goes.files (ap (λ (w : Word). w ∷ more) (sym name) ∙ goes.words) goes.are in
     taken p is_there (package_free h.options others (seen p) goes.p goes.d v h.are.packages
     (subst (λ (z : List TargetOption). AreTargets goes.p goes.d (h.options ++ z)) at goes.all))))
 
-pub folder_twice : (words : List Word) (p d : Option (Bor Word)) (rest : List Word) (word : Word) (behind : List Word)
-    → AreTargeted words (seen p) (seen d) rest → is_some d ≡ true → rest ≡ word ∷ behind → word ≡ out → AreWrong (translate ∷ words) (Some word)
-folder_twice words p d rest word behind h is_there is name =
-    subst (λ (z : List Word). AreWrong (translate ∷ z) (Some word)) (sym (h.stand ∙ ap (λ (z : List Word). words_of h.options ++ z) is))
-    (wrong_behind h.options [] word behind (begins_targets h.options (seen p) (seen d) h.are) (λ command more goes.
+pub folder_twice : (k : Made) (words : List Word) (p d : Option (Bor Word)) (rest : List Word) (word : Word) (behind : List Word)
+    → AreTargeted words (seen p) (seen d) rest → is_some d ≡ true → rest ≡ word ∷ behind → word ≡ out →
+    AreWrong (word_for k ∷ words) (Some word)
+folder_twice k words p d rest word behind h is_there is name =
+    subst (λ (z : List Word). AreWrong (word_for k ∷ z) (Some word)) (sym (h.stand ∙ ap (λ (z : List Word). words_of h.options ++ z) is))
+    (wrong_behind k h.options [] word behind (begins_targets k h.options (seen p) (seen d) h.are) (λ command more goes.
     let (v, others, at, rest_is) =
     folder_there goes.more more goes.files (ap (λ (w : Word). w ∷ more) (sym name) ∙ goes.words) goes.are in
     taken d is_there (folder_free h.options others (seen d) goes.p goes.d v h.are.folders
     (subst (λ (z : List TargetOption). AreTargets goes.p goes.d (h.options ++ z)) at goes.all))))
 
 -- the value of an option is lacking, or can't be one
-module _ (words : List Word) (p d : Option (Bor Word)) (rest : List Word) (word : Word) (behind : List Word)
+module _ (k : Made) (words : List Word) (p d : Option (Bor Word)) (rest : List Word) (word : Word) (behind : List Word)
     (h : AreTargeted words (seen p) (seen d) rest) (is : rest ≡ word ∷ behind) where
-  begins_package : is_some p ≡ false → CanBegin AreCommand (translate ∷ (words_of h.options ++ pack ∷ []))
+  begins_package : is_some p ≡ false → CanBegin AreCommand (word_for k ∷ (words_of h.options ++ pack ∷ []))
   begins_package free =
-      begins_option h.options (Package some_package) (Some some_package) (seen d)
+      begins_option k h.options (Package some_package) (Some some_package) (seen d)
       (with_package h.options (seen d) some_package
       (subst (λ (z : Option Word). AreTargets z (seen d) h.options) (is_none p free) h.are) some_packaged)
 
-  begins_folder : is_some d ≡ false → CanBegin AreCommand (translate ∷ (words_of h.options ++ out ∷ []))
+  begins_folder : is_some d ≡ false → CanBegin AreCommand (word_for k ∷ (words_of h.options ++ out ∷ []))
   begins_folder free =
-      begins_option h.options (Folder some_class) (seen p) (Some some_class)
+      begins_option k h.options (Folder some_class) (seen p) (Some some_class)
       (with_folder h.options (seen p) some_class
       (subst (λ (z : Option Word). AreTargets (seen p) z h.options) (is_none d free) h.are) folder_named)
 
-  pub few_package : is_some p ≡ false → word ≡ pack → length behind ≡ 0 → AreWrong (translate ∷ words) None
+  pub few_package : is_some p ≡ false → word ≡ pack → length behind ≡ 0 → AreWrong (word_for k ∷ words) None
   few_package free name none =
-      subst (λ (z : List Word). AreWrong (translate ∷ z) None)
+      subst (λ (z : List Word). AreWrong (word_for k ∷ z) None)
       (sym (h.stand ∙ ap (λ (z : List Word). words_of h.options ++ z) (is ∙ (λ i. name i ∷ empty_is behind none i))))
-      (few_behind h.options (pack ∷ []) (begins_package free) (λ command goes.
+      (few_behind k h.options (pack ∷ []) (begins_package free) (λ command goes.
       filled (package_there goes.more [] goes.files goes.words goes.are).3))
 
-  pub few_folder : is_some d ≡ false → word ≡ out → length behind ≡ 0 → AreWrong (translate ∷ words) None
+  pub few_folder : is_some d ≡ false → word ≡ out → length behind ≡ 0 → AreWrong (word_for k ∷ words) None
   few_folder free name none =
-      subst (λ (z : List Word). AreWrong (translate ∷ z) None)
+      subst (λ (z : List Word). AreWrong (word_for k ∷ z) None)
       (sym (h.stand ∙ ap (λ (z : List Word). words_of h.options ++ z) (is ∙ (λ i. name i ∷ empty_is behind none i))))
-      (few_behind h.options (out ∷ []) (begins_folder free) (λ command goes.
+      (few_behind k h.options (out ∷ []) (begins_folder free) (λ command goes.
       filled (folder_there goes.more [] goes.files goes.words goes.are).3))
 
   pub wrong_package : (value : Word) (left : List Word) → is_some p ≡ false → word ≡ pack → behind ≡ value ∷ left → (IsPackage value → ⊥)
-      → AreWrong (translate ∷ words) (Some value)
+      → AreWrong (word_for k ∷ words) (Some value)
   wrong_package value left free name is' isnt =
-      subst (λ (z : List Word). AreWrong (translate ∷ z) (Some value))
+      subst (λ (z : List Word). AreWrong (word_for k ∷ z) (Some value))
       (sym (h.stand ∙ ap (λ (z : List Word). words_of h.options ++ z) (is ∙ (λ i. name i ∷ is' i))))
-      (wrong_behind h.options (pack ∷ []) value left (begins_package free) (λ command more goes.
+      (wrong_behind k h.options (pack ∷ []) value left (begins_package free) (λ command more goes.
       let (v, others, at, rest_is) = package_there goes.more (value ∷ more) goes.files goes.words goes.are in
       let right : IsTarget (Package v) =
       All-mid IsTarget h.options (Package v) others
@@ -413,11 +416,11 @@ module _ (words : List Word) (p d : Option (Bor Word)) (rest : List Word) (word 
       isnt (subst IsPackage (sym (head_is rest_is)) right)))
 
   pub wrong_folder : (value : Word) (left : List Word) → is_some d ≡ false → word ≡ out → behind ≡ value ∷ left → (IsFileName value → ⊥)
-      → AreWrong (translate ∷ words) (Some value)
+      → AreWrong (word_for k ∷ words) (Some value)
   wrong_folder value left free name is' isnt =
-      subst (λ (z : List Word). AreWrong (translate ∷ z) (Some value))
+      subst (λ (z : List Word). AreWrong (word_for k ∷ z) (Some value))
       (sym (h.stand ∙ ap (λ (z : List Word). words_of h.options ++ z) (is ∙ (λ i. name i ∷ is' i))))
-      (wrong_behind h.options (out ∷ []) value left (begins_folder free) (λ command more goes.
+      (wrong_behind k h.options (out ∷ []) value left (begins_folder free) (λ command more goes.
       let (v, others, at, rest_is) = folder_there goes.more (value ∷ more) goes.files goes.words goes.are in
       let right : IsTarget (Folder v) =
       All-mid IsTarget h.options (Folder v) others
@@ -425,11 +428,11 @@ module _ (words : List Word) (p d : Option (Bor Word)) (rest : List Word) (word 
       isnt (subst IsFileName (sym (head_is rest_is)) right)))
 
 -- the words end behind options
-pub end_at : (words : List Word) (p d : Option Word) (rest : List Word) → AreTargeted words p d rest → length rest ≡ 0
-    → AreWrong (translate ∷ words) None
-end_at words p d rest h none =
-    subst (λ (z : List Word). AreWrong (translate ∷ z) None)
-    (sym (h.stand ∙ ap (λ (z : List Word). words_of h.options ++ z) (empty_is rest none))) (few_files h.options p d h.are)
+pub end_at : (k : Made) (words : List Word) (p d : Option Word) (rest : List Word) → AreTargeted words p d rest → length rest ≡ 0
+    → AreWrong (word_for k ∷ words) None
+end_at k words p d rest h none =
+    subst (λ (z : List Word). AreWrong (word_for k ∷ z) None)
+    (sym (h.stand ∙ ap (λ (z : List Word). words_of h.options ++ z) (empty_is rest none))) (few_files k h.options p d h.are)
 
 pub other_word : (rest : List Word) (word other : Word) (behind : List Word) → rest ≡ word ∷ behind → (word ≡ other → ⊥)
     → (more : List Word) → rest ≡ other ∷ more → ⊥

@@ -5,6 +5,9 @@ use Rattle.mg_words.specs.Words.{Word}
 abbrev pub translate : Word
 translate = codes "translate"
 
+abbrev pub client : Word
+client = codes "client"
+
 abbrev pub conform : Word
 conform = codes "conform"
 

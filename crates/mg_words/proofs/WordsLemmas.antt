@@ -9,15 +9,18 @@ use Rattle.std.specs.List.{ends_with, list_all}
 use Rattle.mg_read.specs.Passes.{AllPasses}
 use Rattle.scr_tree.specs.Words.{reserved, IsName}
 use Rattle.mg_sources.specs.Files.{EndsWith, Kind, Scribble, Typestates, Java, suffix_of, HaveKinds}
-use Rattle.mg_words.specs.Words.{Word, Command, Translate, Conform, Check, Compile, Run, Exec, Refine, Project, Load, Verify, Fit, Show, Asked}
-use Rattle.mg_words.specs.Words.{AreOptions}
+use Rattle.mg_words.specs.Words.{Word, Command, Translate, Client, Conform, Check, Compile, Run, Exec, Refine, Project, Load, Verify, Fit}
+use Rattle.mg_words.specs.Words.{Show, Asked}
+use Rattle.mg_words.specs.Words.{AreOptions, AreTargetsAndFiles}
 use Rattle.mg_words.specs.Words.{IsFileName, IsFileOf, IsSourceName, AreSourceNames, out_words, verb}
 use Rattle.mg_words.specs.Words.{IsBehind, IsCommand, AreCommand, CanBegin, AreWrong}
-use Rattle.mg_words.proofs.Verbs.{translate, conform, check, compile, run, exec, refine, project, load, verify, fit, show, mark}
+use Rattle.mg_words.proofs.Verbs.{translate, client, conform, check, compile, run, exec, refine, project, load, verify, fit, show, mark}
 use Rattle.mg_words.specs.declared.runs.Input.{Input}
 use Rattle.mg_words.specs.declared.runs.Input.TheVariants as input
+use Rattle.mg_words.specs.declared.targets.Made.{Made}
+use Rattle.mg_words.specs.declared.targets.Made.TheVariants as kinds
 use Rattle.mg_words.specs.declared.words.Placed.TheVariants as placed
-use Rattle.mg_words.specs.inner.Judging.{IsFirstOther, IsPlaced, made, verb_of, IsFor, AreFor, Keeps}
+use Rattle.mg_words.specs.inner.Judging.{IsFirstOther, IsPlaced, made, verb_of, IsFor, AreFor, Keeps, making, word_for}
 
 abbrev pub out : Word
 out = codes "--out"
@@ -157,12 +160,22 @@ none_is_none : (command : Command) → IsCommand command [] → ⊥
 none_is_none command (rest, e, b) = filled e
 
 -- its first word tells the command
-pub is_translate : (command : Command) (rest : List Word) → IsCommand command (translate ∷ rest)
-    → (package_name folder : Option Word) × (files : List Word) × (command ≡ Translate package_name folder files)
-    × IsBehind (Translate package_name folder files) rest
-is_translate (Translate package_name folder files) rest (r, e, b) =
-    (package_name, folder, files, refl, subst (IsBehind (Translate package_name folder files)) (sym (tail_is e)) b)
-is_translate other rest (r, e, b) = absurd (omega (arith, ap mark (head_is e)))
+pub is_making : (k : Made) (command : Command) (rest : List Word) → IsCommand command (word_for k ∷ rest)
+    → (package_name folder : Option Word) × (files : List Word) × (command ≡ making k package_name folder files)
+    × AreTargetsAndFiles package_name folder files rest
+is_making kinds.Api (Translate package_name folder files) rest (r, e, b) =
+    (package_name, folder, files, refl, subst (AreTargetsAndFiles package_name folder files) (sym (tail_is e)) b)
+is_making kinds.Api other rest (r, e, b) = absurd (omega (arith, ap mark (head_is e)))
+is_making kinds.Clients (Client package_name folder files) rest (r, e, b) =
+    (package_name, folder, files, refl, subst (AreTargetsAndFiles package_name folder files) (sym (tail_is e)) b)
+is_making kinds.Clients other rest (r, e, b) = absurd (omega (arith, ap mark (head_is e)))
+
+-- and such words are that command
+pub making_is : (k : Made) (package_name folder : Option Word) (files rest : List Word) →
+    AreTargetsAndFiles package_name folder files rest →
+    IsCommand (making k package_name folder files) (word_for k ∷ rest)
+making_is kinds.Api package_name folder files rest h = (rest, refl, h)
+making_is kinds.Clients package_name folder files rest h = (rest, refl, h)
 
 pub is_conform : (command : Command) (rest : List Word) → IsCommand command (conform ∷ rest)
     → (files : List Word) × (command ≡ Conform files) × IsBehind (Conform files) rest
@@ -303,13 +316,16 @@ pub wrong_at : (before rest : List Word) (word : Word) (more : List Word) → re
 wrong_at before rest word more e can cannot = subst (λ (ws : List Word). AreWrong (before ++ ws) (Some word)) (sym e)
     (first_wrong before word more can cannot)
 
-pub wrong_command : (word : Word) (rest : List Word) → (word ≡ fit → ⊥) → (word ≡ translate → ⊥) → (word ≡ conform → ⊥)
+pub wrong_command : (word : Word) (rest : List Word) → (word ≡ fit → ⊥) → (word ≡ translate → ⊥) → (word ≡ client → ⊥) →
+    (word ≡ conform → ⊥)
     → (word ≡ check → ⊥) → (word ≡ compile → ⊥) → (word ≡ run → ⊥) → (word ≡ exec → ⊥) → (word ≡ refine → ⊥)
     → (word ≡ project → ⊥) → (word ≡ load → ⊥) → (word ≡ verify → ⊥) → (word ≡ show → ⊥) → AreWrong (word ∷ rest) (Some word)
-wrong_command word rest no_fit no_translate no_conform no_check no_compile no_run no_exec no_refine no_project no_load no_verify no_show =
+wrong_command word rest no_fit no_translate no_client no_conform no_check no_compile no_run no_exec no_refine no_project no_load no_verify
+    no_show =
     first_wrong [] word rest begins_empty (λ b. cannot b.1.0 (head_is b.1.1.1)) where
       cannot : (command : Command) → word ≡ verb command → ⊥
       cannot (Translate package_name folder files) = no_translate
+      cannot (Client package_name folder files) = no_client
       cannot (Conform files) = no_conform
       cannot (Check all files) = no_check
       cannot (Compile folder files) = no_compile
@@ -395,6 +411,10 @@ kinds_of_run words asked files (r, e, (options, behind, how, are)) = have_kinds 
 pub protocols_of : (words files : List Word) (package_name folder : Option Word) → IsCommand (Translate package_name folder files) words
     → All (IsFileOf (codes ".scr")) files
 protocols_of words files package_name folder (r, e, (options, behind, how, are)) = are.1
+
+pub protocols_of_client : (words files : List Word) (package_name folder : Option Word) → IsCommand (Client package_name folder files) words
+    → All (IsFileOf (codes ".scr")) files
+protocols_of_client words files package_name folder (r, e, (options, behind, how, are)) = are.1
 
 -- words that are a command aren't wrong
 pub wrong_is_none : (words : List Word) (word : Option Word) (command : Command) → AreWrong words word → IsCommand command words → ⊥

@@ -64,6 +64,8 @@ are_named asked = are_several asked.roles
 pub data Command : Type 0 where
   -- write the typestates and the Java files of these files' protocols: the Java files in a package, all into a folder, where one is named
   Translate : (package_name folder : Option Word) → (files : List Word) → Command
+  -- write a client for each of these files' protocols, likewise
+  Client : (package_name folder : Option Word) → (files : List Word) → Command
   -- tell whether the calls of the second file follow the protocol of the first
   Conform : (files : List Word) → Command
   -- tell what the least tables of these files' program have; or else what is wrong with the files, at first or all of it
@@ -90,6 +92,7 @@ pub data Command : Type 0 where
 -- the files that a command reads, in their order
 abbrev pub files_of : Command → List Word
 files_of (Translate package_name folder files) = files
+files_of (Client package_name folder files) = files
 files_of (Conform files) = files
 files_of (Check all files) = files
 files_of (Compile folder files) = files
@@ -291,6 +294,7 @@ pub record AreOptions (asked : Asked) (words : List Word) : Type 0 where
 -- the first word of a command
 abbrev pub verb : Command → Word
 verb (Translate package_name folder files) = codes "translate"
+verb (Client package_name folder files) = codes "client"
 verb (Conform files) = codes "conform"
 verb (Check all files) = codes "check"
 verb (Compile folder files) = codes "compile"
@@ -303,11 +307,16 @@ verb (Verify files) = codes "verify"
 verb (Fit roles files) = codes "fit"
 verb (Show files) = codes "show"
 
--- the words behind the first: options and then files, or numbers
-abbrev pub IsBehind : Command → List Word → Type 0
-IsBehind (Translate package_name folder files) rest =
+-- options of a translation, and then files of protocols
+abbrev pub AreTargetsAndFiles : (package_name folder : Option Word) → (files rest : List Word) → Type 0
+AreTargetsAndFiles package_name folder files rest =
     (options : List TargetOption) × (rest ≡ flat_map target_words options ++ files) × AreTargets package_name folder options
     × AreFilesOf (codes ".scr") files
+
+-- the words behind the first: options and then files, or numbers
+abbrev pub IsBehind : Command → List Word → Type 0
+IsBehind (Translate package_name folder files) rest = AreTargetsAndFiles package_name folder files rest
+IsBehind (Client package_name folder files) rest = AreTargetsAndFiles package_name folder files rest
 IsBehind (Conform files) rest = (rest ≡ files) × AreProtocolAndCalls files
 IsBehind (Check all files) rest = (rest ≡ all_words all ++ files) × AreSourceNames files
 IsBehind (Compile folder files) rest = (rest ≡ out_words folder ++ files) × IfSome folder IsFileName × AreSourceNames files

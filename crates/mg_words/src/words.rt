@@ -11,7 +11,7 @@ use crate::fits::judge_fit;
 use crate::names::{is_file, is_file_name, is_word, other_file, other_source};
 use crate::numbers::{number_of, number_up_to};
 use crate::runs::{Input, judge_run};
-use crate::targets::judge_translate;
+use crate::targets::{Made, judge_targets};
 use mg_text::{Memory, Text};
 use std::alloc::Global;
 
@@ -24,6 +24,12 @@ pub enum Command<'a> {
     /// `translate`, a package where `--package` names one, a folder where `--out` names one, and
     /// the files.
     Translate {
+        package_name: Option<&'a Text>,
+        folder: Option<&'a Text>,
+        files: &'a [Text],
+    },
+    /// `client`, and the same.
+    Client {
         package_name: Option<&'a Text>,
         folder: Option<&'a Text>,
         files: &'a [Text],
@@ -89,6 +95,7 @@ impl<'a> Command<'a> {
     {
         match *self {
             Command::Translate { files, .. } => files,
+            Command::Client { files, .. } => files,
             Command::Conform { files } => files,
             Command::Check { files, .. } => files,
             Command::Compile { files, .. } => files,
@@ -137,7 +144,9 @@ fn judge_other<'a>(command: &'a Text, rest: &'a [Text]) -> Judged<'a>
     ensures { IsJudged (command.now ∷ rest.now) result }
 {
     if is_word(command, "translate") {
-        judge_translate(rest)
+        judge_targets(Made::Api, rest)
+    } else if is_word(command, "client") {
+        judge_targets(Made::Clients, rest)
     } else if is_word(command, "conform") {
         judge_conform(rest)
     } else if is_word(command, "check") {

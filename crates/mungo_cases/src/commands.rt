@@ -36,8 +36,9 @@ use std::alloc::Global;
 use std::rt::Files;
 
 /// The files of cases of commands, in the order in which they are answered.
-const FILES: [&str; 19] = [
+const FILES: [&str; 20] = [
     "translate.txt",
+    "client.txt",
     "conform.txt",
     "check.txt",
     "all.txt",

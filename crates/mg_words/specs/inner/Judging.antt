@@ -8,7 +8,8 @@ use Rattle.std.specs.List.{IsDistinct, list_any, list_all, slice_split, before_f
 use Rattle.std.specs.Str.{bytes_eq}
 use Rattle.mg_words.specs.declared.asked.Asked.{Asked as Kept}
 use Rattle.mg_words.specs.declared.asked.RoleClass.{RoleClass as KeptRole}
-use Rattle.mg_words.specs.Words.{Word, RoleClass, Roles, Alone, Several, role_names, Asked, Command, Translate, Conform, Check, Compile}
+use Rattle.mg_words.specs.Words.{Word, RoleClass, Roles, Alone, Several, role_names, Asked, Command, Translate, Client, Conform, Check}
+use Rattle.mg_words.specs.Words.{Compile}
 use Rattle.mg_words.specs.Words.{Run, Exec, Refine, Project, Load, Verify, Fit, Show, all_words, IsFileOf, IsSourceName, IsCommand, AreWrong, RunOption, Main}
 use Rattle.mg_words.specs.Words.{Role}
 use Rattle.mg_words.specs.Words.{Order, Steps, Trace, Out, option_words, IsOption, class_in, role_in, order_in, steps_in, is_trace}
@@ -25,6 +26,8 @@ use Rattle.mg_words.specs.declared.words.Placed.TheVariants as placed
 use Rattle.mg_words.specs.declared.roles.RoleWord.{RoleWord}
 use Rattle.mg_words.specs.declared.runs.Input.{Input}
 use Rattle.mg_words.specs.declared.runs.Input.TheVariants as input
+use Rattle.mg_words.specs.declared.targets.Made.{Made}
+use Rattle.mg_words.specs.declared.targets.Made.TheVariants as kinds
 use Rattle.mg_words.specs.declared.options.Named.{Named}
 use Rattle.mg_words.specs.declared.options.Named.TheVariants as named
 use Rattle.mg_words.specs.declared.options.Step.{Step}
@@ -95,6 +98,8 @@ cast_of cast = roles_in cast.words.now
 -- the command that was found
 abbrev pub command_of : Found → Command
 command_of (found.Translate package_name folder files) = Translate (option_map (λ w. w.now) package_name) (option_map (λ w. w.now) folder) files.now
+command_of (found.Client package_name folder files) = Client (option_map (λ w. w.now) package_name) (option_map (λ w. w.now) folder)
+    files.now
 command_of (found.Conform files) = Conform files.now
 command_of (found.Check all files) = Check all files.now
 command_of (found.Compile folder files) = Compile (option_map (λ w. w.now) folder) files.now
@@ -373,7 +378,16 @@ pub record AreTargeted (words : List Word) (package_name folder : Option Word) (
   pub stand : words ≡ flat_map target_words options ++ rest
   pub are : AreTargets package_name folder options
 
+-- the command that makes this of protocols, and its word
+abbrev pub making : Made → (package_name folder : Option Word) → (files : List Word) → Command
+making kinds.Api package_name folder files = Translate package_name folder files
+making kinds.Clients package_name folder files = Client package_name folder files
+
+abbrev pub word_for : Made → Word
+word_for kinds.Api = codes "translate"
+word_for kinds.Clients = codes "client"
+
 -- what the words are, where these files stand behind options that name this package and this folder
-abbrev pub IsTranslated : (package_name folder : Option Word) → List Word → Judged → Type 0
-IsTranslated package_name folder files result = (options : List TargetOption) → AreTargets package_name folder options →
-    IsJudged (codes "translate" ∷ (flat_map target_words options ++ files)) result
+abbrev pub IsTranslated : Made → (package_name folder : Option Word) → List Word → Judged → Type 0
+IsTranslated k package_name folder files result = (options : List TargetOption) → AreTargets package_name folder options →
+    IsJudged (word_for k ∷ (flat_map target_words options ++ files)) result

@@ -3,7 +3,7 @@ use Rattle.mg_words.specs.declared.words.Command.{Command}
 use Rattle.mg_words.specs.Words.{files_of, IsCommand}
 use Rattle.mg_words.specs.inner.Judging.{command_of, asked_of, cast_of}
 use Rattle.mg_words.proofs.LawLemmas.{asked_of_run, asked_of_exec}
-use Rattle.mg_words.proofs.WordsLemmas.{kinds_of, kinds_of_classes, kinds_of_run, kinds_of_show, protocols_of}
+use Rattle.mg_words.proofs.WordsLemmas.{kinds_of, kinds_of_classes, kinds_of_run, kinds_of_show, protocols_of, protocols_of_client}
 use Rattle.mg_words.proofs.RefineLemmas.{two_files, kinds_of_two}
 use Rattle.mg_words.proofs.ProjectLemmas.{one_file}
 use Rattle.mg_words.proofs.LoadLemmas.{workload_of}
@@ -18,6 +18,13 @@ translate-requires-clause-scribble c =
     protocols_of known.0 c.in-Translate.files.now (option_map (λ p. p.now) c.in-Translate.package_name)
     (option_map (λ f. f.now) c.in-Translate.folder)
     (subst (λ (z : Command). IsCommand (command_of z) known.0) c.in-Translate.is known.1)
+
+pub client-requires-clause-scribble : goal.client-requires-clause-scribble
+client-requires-clause-scribble c =
+    let known = c.requires.known in
+    λ k d lt. (protocols_of_client known.0 c.in-Client.files.now (option_map (λ p. p.now) c.in-Client.package_name)
+    (option_map (λ f. f.now) c.in-Client.folder)
+    (subst (λ (z : Command). IsCommand (command_of z) known.0) c.in-Client.is known.1) k d lt).1
 
 pub returns-in-Conform : goal.returns-in-Conform
 returns-in-Conform c =

@@ -1,0 +1,5 @@
+pub mod Apart
+pub mod Alike
+pub mod Each
+pub mod Whole
+pub mod Found

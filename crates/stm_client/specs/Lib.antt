@@ -1,0 +1,4 @@
+pub mod Counting
+pub mod Client
+pub mod View
+pub mod inner
