@@ -4,5 +4,4 @@ pub mod Trees
 pub mod Words
 pub mod Turns
 pub mod Playing
-pub mod Whole
 pub mod FreeLabels

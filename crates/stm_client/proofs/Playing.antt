@@ -18,7 +18,7 @@ use Rattle.scr_tree.specs.View.{front, statements, bodies, part_of}
 use Rattle.scr_tree.specs.Meaning.{message_of}
 use Rattle.scr_tree.proofs.ViewLemmas.{front-Message, front-Choice, front-Rec, front-Continue, front-Do}
 use Rattle.scr_tree.proofs.Behind.{each_front, statements-step, statements-past, bodies-step, bodies-past}
-use Rattle.jv_tree.specs.Source.{Stmt, Method, Eval, Return, Continue}
+use Rattle.jv_tree.specs.Source.{Stmt, Eval, Return, Continue}
 use Rattle.jv_tree.specs.View.{OneGroup, stmt_kind_of}
 use Rattle.jv_tree.specs.declared.tree.StmtKind.TheVariants as S
 use Rattle.jv_tree.proofs.ViewLaws.{kind-Continue, kind-Return}
@@ -252,15 +252,6 @@ module _ (e last new : End) (bs : List (Row Statement)) (i : ℕ) (x : Row State
         ∙ sym (append_assoc old (group w.place b (plays w loops e.numbers b ++ ended w.place None (falls b)) ∷ []) _)
         ∙ (λ k. sym (put ∙ (λ j. old ++ group w.place b (made j ++ ended w.place None (so j).falls) ∷ [])) k
         ++ groups w loops (sym numbers-new k) (bodies (drop (i + 1) bs)))
-
--- the loop of a `rec`, whose label and body are known
-pub looped : (w : Making) (loops inside : List Loop) (at : Numbers) (name label : Name) (body : Statements) (inner : List Stmt) (end : End) →
-    label ≡ label_for loops name → inside ≡ with_loop loops name → inner ≡ plays w inside at body → end ≡ end_of w.me at body →
-    looping w.place label (inner ++ ended w.place (Some label) end.falls)
-    ≡ looping w.place (label_for loops name) (plays w (with_loop loops name) at body
-    ++ ended w.place (Some (label_for loops name)) (falls body))
-looped w loops inside at name label body inner end l around made so = λ k. looping w.place (l k)
-    ((made ∙ ap (λ ls. plays w ls at body) around) k ++ ended w.place (Some (l k)) (so k).falls)
 
 -- the protocol at an index, and those behind it
 pub part-step : (w : Making) (at : Numbers) (ps : List Part) (i : ℕ) (x : Part) → i < length ps → x ≡ get_or ps i x →

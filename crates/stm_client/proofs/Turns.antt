@@ -1,5 +1,5 @@
 -- The blocks of an own choice, taken from the last to the first; loops and counters one by one.
-use Rattle.std.proofs.Common.{◌≡◌, ℕ, zero, suc, ◌+◌, ◌-◌, ◌<◌, ◌≤◌, Bool, true, false, List, [], ◌∷◌, ◌++◌, map, length, take, drop, get_or, refl, sym}
+use Rattle.std.proofs.Common.{◌≡◌, ℕ, zero, suc, ◌+◌, ◌-◌, ◌<◌, ◌≤◌, Bool, true, false, List, [], ◌∷◌, ◌++◌, map, length, take, get_or, refl, sym}
 use Rattle.std.proofs.Common.{ap, ◌∙◌, arith, codes, if◌then◌else◌, length-append}
 use Rattle.std.specs.List.{range_with_len}
 use Rattle.std.specs.Char.{to_ascii_lowercase}

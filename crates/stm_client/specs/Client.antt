@@ -18,7 +18,6 @@ use Rattle.scr_tree.specs.CallNames.{message_call, label_call}
 use Rattle.scr_tree.specs.Meaning.{message_of}
 use Rattle.scr_tree.specs.Control.{falls}
 use Rattle.scr_tree.specs.Said.{first_said}
-use Rattle.ts_tree.specs.declared.parts.TypeName.{TypeName}
 use Rattle.ts_tree.specs.declared.parts.TypeName.TheVariants as types
 use Rattle.jv_tree.specs.declared.tree.Op.TheVariants as ops
 use Rattle.jv_tree.specs.declared.tree.Param.{Param}

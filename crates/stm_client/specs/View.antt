@@ -1,6 +1,5 @@
 -- What the program's values say.
 use Rattle.std.specs.Prelude.{List, map, ◌&&◌, ◌||◌}
-use Rattle.std.specs.Borrow.{Bor}
 use Rattle.mg_text.specs.Call.{Name}
 use Rattle.scr_tree.specs.Local.{tree_of}
 use Rattle.scr_tree.specs.Tree.{Statements, Branches}

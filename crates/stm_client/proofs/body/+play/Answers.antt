@@ -1,4 +1,4 @@
-use Rattle.std.proofs.Common.{◌≡◌, ◌∙◌, ◌++◌, [], ◌∷◌, List, None, ap, sym, map}
+use Rattle.std.proofs.Common.{◌∙◌, ◌++◌, [], ◌∷◌, List, None, ap, sym, map}
 use Rattle.std.proofs.lemmas.Result.{on_ok_weaker}
 use Rattle.scr_tree.specs.View.{statements, bodies}
 use Rattle.scr_tree.specs.declared.syntax.Statement.{Statement}

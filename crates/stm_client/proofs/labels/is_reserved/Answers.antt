@@ -1,4 +1,3 @@
-use Rattle.std.proofs.Common.{◌≡◌, Bool, true, false, refl, sym}
 use Rattle.stm_client.proofs.Words.{reserved_is}
 use Rattle.stm_client.proofs.labels.is_reserved.Goals as goal
 

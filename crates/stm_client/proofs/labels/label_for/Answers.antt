@@ -1,4 +1,4 @@
-use Rattle.std.proofs.Common.{◌≡◌, ◌+◌, ◌-◌, ◌∙◌, Bool, true, false, sym, ap, map, length, string_bytes, arith}
+use Rattle.std.proofs.Common.{◌+◌, ◌-◌, ◌∙◌, sym, ap, map, length, string_bytes, arith}
 use Rattle.std.specs.Char.{to_ascii_lowercase}
 use Rattle.stm_client.specs.Client.{is_taken, label_for}
 use Rattle.stm_client.specs.View.{loops_of}

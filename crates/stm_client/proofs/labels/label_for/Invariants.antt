@@ -1,5 +1,4 @@
-use Rattle.std.proofs.Common.{◌≡◌, ◌+◌, ◌-◌, length, map, string_bytes}
-use Rattle.std.specs.Char.{to_ascii_lowercase}
+use Rattle.std.proofs.Common.{◌≡◌, ◌+◌, ◌-◌, length, string_bytes}
 use Rattle.stm_client.specs.Client.{free_label, label_for}
 use Rattle.stm_client.specs.View.{loops_of}
 use Rattle.stm_client.proofs.labels.label_for.Given as goal

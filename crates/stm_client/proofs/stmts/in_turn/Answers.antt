@@ -1,4 +1,4 @@
-use Rattle.std.proofs.Common.{◌≡◌, ◌-◌, ◌∙◌, sym, arith}
+use Rattle.std.proofs.Common.{◌-◌, ◌∙◌, sym, arith}
 use Rattle.jv_tree.specs.View.{stmt_of}
 use Rattle.stm_client.proofs.Turns.{turns-start, turns-more, one-less}
 use Rattle.stm_client.proofs.stmts.in_turn.Goals as goal

@@ -1,11 +1,11 @@
-use Rattle.std.proofs.Common.{◌≡◌, ◌∙◌, ◌∷◌, List, map, ap, sym}
+use Rattle.std.proofs.Common.{◌∙◌, List, map, ap}
 use Rattle.std.proofs.lemmas.Result.{IfOk-weaker}
 use Rattle.scr_tree.specs.declared.syntax.Part.{Part}
 use Rattle.scr_tree.specs.declared.syntax.Statement.{Statement}
 use Rattle.scr_tree.specs.Local.{tree_of}
-use Rattle.scr_tree.specs.Tree.{Statements, PartTree, other, titled}
+use Rattle.scr_tree.specs.Tree.{other, titled}
 use Rattle.scr_tree.specs.View.{statements, part_of}
-use Rattle.stm_client.specs.inner.Surveyed.{nothing_yet, survey, survey_all, survey_of}
+use Rattle.stm_client.specs.inner.Surveyed.{nothing_yet, survey, survey_all}
 use Rattle.stm_client.proofs.Surveyed.{survey-is}
 use Rattle.stm_client.proofs.survey.survey_of.Goals as goal
 
