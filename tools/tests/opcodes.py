@@ -127,5 +127,4 @@ def main(table, words_path, *classes):
     sys.exit(1 if wrong or len(rows) != 202 or not methods else 0)
 
 
-if __name__ == "__main__":
-    main(*sys.argv[1:])
+main(*sys.argv[1:])

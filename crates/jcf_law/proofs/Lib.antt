@@ -1,4 +1,0 @@
-mod Reads
-mod Named
-mod Consts
-mod Pools
