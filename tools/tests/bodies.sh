@@ -26,12 +26,15 @@ fn each(f: impl Fn(u32) -> u32) -> u32 {
     f(1)
 }
 
+const MOST: u32 = 2;
+
 fn last() -> u32 {
-    2
+    MOST
 }
 TEXT
     cat >"$room/bodies/wanted" <<'TEXT'
 Set::grow lib.rt sets
+SetDrop::drop None
 last None
 /// A set.
 pub struct Set { items: u32 }
@@ -54,10 +57,12 @@ fn each(f: impl Fn(u32) -> u32) -> u32 {
     f(1)
 }
 
+const MOST: u32 = 2;
+
 fn last() -> u32 {
-    2
+    MOST
 }
-last
+last last
 TEXT
     LC_ALL=C.UTF-8 python3 - "$top/tools/try-body" "$room/bodies/lib.rt" >"$room/bodies/got" <<'TEXT'
 import importlib.machinery, importlib.util, sys
@@ -70,7 +75,7 @@ found = tool.functions_of({"lib.rt": text})["lib.rt"]
 for one in found:
     print(one.path, one.cycle)
 print(tool.stubbed(text, [one for one in found if one.path == "Set::grow"]), end="")
-print(tool.touched(found, text, text.index("2\n}")).path)
+print(*(path for at in ("MOST\n}", "MOST: ") for path in tool.paths_of({"lib.rt": found}, "lib.rt", text, text.index(at))))
 TEXT
     diff "$room/bodies/wanted" "$room/bodies/got"
     count "try-body: stubs" $?
