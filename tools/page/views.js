@@ -63,6 +63,18 @@ const views = {
             return hint(text) + (seen.size ? seenTable(seen) : hint('No method of a typestate is called here.'));
         },
     },
+    client: {
+        title: 'Client',
+        controls: list('mungo client', 'played'),
+        async body({ at, judged: { program, sources } }) {
+            const chosen = fill('played', program.filter(name => name.endsWith('.scr')), at);
+            if (!chosen) return hint('No file here has a local protocol. The example `adder` has two.');
+            const made = await ask(['client', chosen], sources);
+            if (made.status !== 0) return given(made);
+            const text = 'A class that plays all of the protocol, to begin with: its own choices are made in turn.';
+            return hint(text) + writtenFiles(made.written);
+        },
+    },
     project: {
         title: 'Project',
         controls: list('mungo project', 'global'),
