@@ -2,18 +2,17 @@
 use Rattle.std.proofs.Common.{◌≡◌, ℕ, zero, suc, List, [], ◌∷◌, codes, Option, Some, None, Bool, true, false, sym, ap, ◌∙◌, subst}
 use Rattle.std.proofs.Common.{arith}
 use Rattle.mg_text.specs.Call.{Name}
-use Rattle.mg_text.specs.Places.{start_of}
 use Rattle.scr_tree.specs.Tree.{LocalTree}
 use Rattle.stm_api.specs.Api.{ApiText}
 use Rattle.stm_client.specs.Client.{client_of}
-use Rattle.mg_refusal.specs.Refusals.{Refusal, refusal_at}
+use Rattle.mg_refusal.specs.Refusals.{Refusal}
 use Rattle.mg_sources.specs.Files.{Source, EndsWith, Scribble, Java, HaveKinds, sources}
 use Rattle.mg_sources.specs.Reading.{Protocol, Reads}
 use Rattle.mg_sources.proofs.OneKind.{one_part}
 use Rattle.mg_accepted.specs.Accepted.{AreAccepted, FirstRefusal}
 use Rattle.mg_accepted.proofs.Apart.{not_refused}
 use Rattle.mg_client.specs.declared.files.ClientFile.{ClientFile}
-use Rattle.mg_client.specs.Clients.{packed, IsClient, IsPlayed, IsUnaccepted}
+use Rattle.mg_client.specs.Clients.{packed, IsClient, IsPlayed}
 use Rattle.mg_client.specs.inner.Answered.{IsJudged}
 use Rattle.mg_client.proofs.Apart.{same_local, one_client}
 use Rattle.mg_client.proofs.Whole.{no_file}
@@ -41,10 +40,6 @@ module _ (p : Option Name) (source : Source) (local : LocalTree) (spelled : Read
       let same : h.client.local ≡ local =
       same_local h.client.local local (one_part source (Protocol h.client.local) (Protocol local) h.client.spelled spelled) in
       no_file h.client.made (sym (ap client_of same ∙ e) ∙ h.client.is)
-
-  pub unaccepted_so : (role : Name) (r : Refusal) → role ≡ local.me → ((file : ClientFile) → IsPlayed p source file → ⊥) →
-      r ≡ refusal_at (codes "NotAccepted") (start_of source.number) role → IsUnaccepted p source r
-  unaccepted_so role r e never said = record { role = role; of_role = (local, spelled, sym e); never = never; said = said }
 
   module _ (made : ApiText) (file : ClientFile) (is : client_of local ≡ Some made) (packs : file ≡ packed p made) where
     made_so : IsClient p source file

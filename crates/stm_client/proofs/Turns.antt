@@ -8,7 +8,7 @@ use Rattle.mg_text.specs.Call.{Name}
 use Rattle.mg_text.specs.declared.place.Place.{Place}
 use Rattle.jv_tree.specs.Source.{Stmt, IfElse}
 use Rattle.stm_client.specs.declared.labels.Around.{Around}
-use Rattle.stm_client.specs.Client.{Loop, counter, counters, is_taken, free_label, label_for, is_turn, in_turn, next_turn, own_choice}
+use Rattle.stm_client.specs.Client.{Loop, counter, counters, is_taken, free_label, label_for, is_turn, in_turn}
 use Rattle.stm_client.specs.View.{loop_of, loops_of}
 
 -- ---- blocks
@@ -48,10 +48,6 @@ module _ {A : Type 0} (f : A → Stmt) (p : Place) (k n : ℕ) where
       ap (λ (l : List Stmt). turned p k n 1 l last) (ap (map f) e ∙ map_push f rest x)
       ∙ turned-behind p k n 1 (map f rest) (f x) last
       ∙ ap (turned p k n 1 (map f rest)) (ap (λ (j : ℕ). IfElse p (is_turn p k n j) (f x) last) here ∙ sym so)
-
-pub own-choice : {A : Type 0} (f : A → Stmt) (p : Place) (k : ℕ) (items : List A) →
-    own_choice p k (map f items) ≡ next_turn p k ∷ in_turn p k (length items) 1 (map f items) ∷ []
-own-choice f p k items = ap (λ (m : ℕ). next_turn p k ∷ in_turn p k m 1 (map f items) ∷ []) (length-map items f)
 
 -- ---- the label of a loop, one `_` after another
 
