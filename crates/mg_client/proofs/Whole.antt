@@ -1,15 +1,15 @@
 -- What the calls that make clients answer.
 use Rattle.std.proofs.Common.{◌≡◌, List, ◌++◌, All, codes, map, Option, Some, None, Bool, true, false, Result, Ok, Err, refl, sym}
 use Rattle.std.proofs.Common.{ap, ◌∙◌}
-use Rattle.std.proofs.Common.{append_assoc, ◌||◌, if◌then◌else◌}
+use Rattle.std.proofs.Common.{append_assoc, if◌then◌else◌}
 use Rattle.std.specs.Prelude.{nat_le}
 use Rattle.mg_text.specs.Call.{Name}
 use Rattle.mg_text.specs.Row.{Row}
 use Rattle.mg_read.specs.First.{Judged, with_earlier}
 use Rattle.scr_tree.specs.Tree.{LocalTree, titled}
 use Rattle.stm_api.specs.Api.{ApiText}
-use Rattle.stm_client.specs.Counting.{nothing_yet, survey_all}
-use Rattle.stm_client.specs.Client.{client_of, client_file, making_of, has_items}
+use Rattle.stm_client.specs.Counting.{deepest_of_all}
+use Rattle.stm_client.specs.Client.{client_of, client_file, making_of, is_several}
 use Rattle.mg_refusal.specs.Refusals.{Refusal}
 use Rattle.mg_refusal.specs.Order.{Answers, at_first, at_next}
 use Rattle.mg_refusal.specs.declared.stop.Stop.{Stop}
@@ -66,8 +66,7 @@ made_where false file made e = no_file made e
 pub made_is : (local : LocalTree) (made : ApiText) → client_of local ≡ Some made → made.name ≡ local.me ++ codes "Main.java"
 made_is local made e =
     ap (λ (x : ApiText). x.name)
-    (made_where (nat_le (survey_all local.me nothing_yet (titled local)).levels 200)
-    (client_file (making_of local) local (has_items local.others || (survey_all local.me nothing_yet (titled local)).goes_on)) made e)
+    (made_where (nat_le (deepest_of_all local.me (titled local)) 200) (client_file (making_of local) local (is_several local)) made e)
 
 packed_name : (p : Option Name) (made : ApiText) → (packed p made).name ≡ made.name
 packed_name None made = refl
