@@ -108,7 +108,7 @@ many() {
 ended_as() { says "$1" <(tail -qn 1 "$room/$2.out") "$3"; }
 
 part_amqp() {
-    local broker sealed inner names link limit patience classes options=()
+    local broker sealed inner names link limit patience classes repeated='' options=()
     by_mungo adder "$top"/examples/adder/*.*
     lacks_client
     has_broker || return
@@ -182,6 +182,7 @@ outage() {
 killed() {
     local s1 c1 limit
     for limit in 8 30 120; do
+        [ $limit -eq 8 ] || repeated=yes
         many s1 serves S Sleeps mungo.amqp.Amqp "$link#Adder/C/S" "$room/never"
         await grep -q serves "$room/s1.err"
         many c1 plays C CMain mungo.amqp.Amqp "$link#Adder/C/S" 1 1
@@ -209,6 +210,7 @@ by_settings() {
     is "AMQP by settings: S" $? 0 "$room/S.err"
     says "AMQP by settings: what is printed" <(cat "$room/out" "$room/S.out") $'1\n3\n6\nsum 6'
     for seconds in 3 12 60; do
+        [ $seconds -eq 3 ] || repeated=yes
         jvm -Dmungo.role=C -Dmungo.wire=S="$link#Adder/C/S" -Dmungo.patience=$seconds \
             -cp "$room/adder/class:$lib:$room/amqp:$client:$logs" CMain >"$room/out" 2>"$room/err"
         was=$?
@@ -228,6 +230,7 @@ broker_by_tls() {
             *) line="C: S: the broker at 127.0.0.1:$sealed: " ;;
         esac
         for seconds in 6 24 96; do
+            [ $seconds -eq 6 ] || repeated=yes
             # shellcheck disable=SC2046
             jvm -Dmungo.role=C -Dmungo.wire=S="amqps://${name#*:}:$sealed#Adder/C/S" -Dmungo.patience=$seconds $(by_tls "${name%:*}") \
                 -cp "$room/adder/class:$lib:$room/amqp:$client:$logs" CMain >"$room/out" 2>"$room/err"
@@ -247,14 +250,19 @@ is_empty() {
     [ ! -s "$room/queues" ]
 }
 
+# What a try that ran out of time has made may stay, so it isn't asked where one was repeated.
 nothing_is_left() {
+    if [ -n "$repeated" ]; then
+        lacking "a try was repeated with more time: whether a queue is left isn't asked"
+        return
+    fi
     await is_empty
     count "no queue is left" $? "$room/queues"
 }
 
 # The auction of examples/auction with a hundred bidders, in three processes.
 part_auction() {
-    local broker sealed inner names link house keeper path made=$room/auction
+    local broker sealed inner names link house keeper path repeated='' made=$room/auction
     mkdir -p "$made/source" "$made/class"
     has_broker || return
     begin_broker
