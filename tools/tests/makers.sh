@@ -1,7 +1,8 @@
 # A part of tools/test-tools: what those who change mungo run, beside commands that stand for others.
 # shellcheck shell=bash disable=SC2154
 
-# tools/test, beside tools that end in several ways: counts are added, and what ends badly or isn't there is told.
+# tools/test, beside tools that end in several ways: counts are added, what fails is run twice, and what ends badly or isn't there is
+# told.
 tried=$room/tried
 mkdir -p "$tried/tools" && cp tools/test "$tried/tools"
 printf '#!/bin/sh\nexit 2\n' >"$tried/mungo"
@@ -11,12 +12,17 @@ printf '#!/bin/sh\nexit 3\n' >"$tried/tools/test-page"
 chmod +x "$tried/mungo" "$tried"/tools/*
 said=$(env -u MUNGO "$tried/tools/test" 2>&1)
 [ $? -eq 1 ] && [ "$(grep -E '^[^ :]+ (passed|skipped|FAILED)' <<<"$said")" = "3 passed, 1 failed, 5 blocks not run
+3 passed, 1 failed, 5 blocks not run
 test-tools skipped: there is no tools/test-tools
 2 passed, 0 failed
 java-wires skipped: there is no tools/java-wires
 test-page FAILED: it ended with 3
 5 passed, 2 failed" ]
 count "test: counts" $?
+printf '#!/bin/sh\n[ -e once ] && { echo "2 passed, 0 failed"; exit 0; }\ntouch once\necho "1 passed, 1 failed"\nexit 1\n' >"$tried/tools/documents"
+said=$(env -u MUNGO "$tried/tools/test" documents 2>&1)
+[ $? -eq 0 ] && [ "$(tail -n 1 <<<"$said")" = "2 passed, 0 failed" ] && grep -qx 'documents is run a second time' <<<"$said"
+count "test: what fails is run a second time, which decides" $?
 env -u MUNGO "$tried/tools/test" java-roles >/dev/null
 count "test: one that passes" $?
 ! env -u MUNGO "$tried/tools/test" java-wires >/dev/null
