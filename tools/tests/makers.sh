@@ -14,6 +14,7 @@ said=$(env -u MUNGO "$tried/tools/test" 2>&1)
 [ $? -eq 1 ] && [ "$(grep -E '^[^ :]+ (passed|skipped|FAILED)' <<<"$said")" = "3 passed, 1 failed, 5 blocks not run
 3 passed, 1 failed, 5 blocks not run
 test-tools skipped: there is no tools/test-tools
+clients skipped: there is no tools/clients
 2 passed, 0 failed
 java-wires skipped: there is no tools/java-wires
 test-page FAILED: it ended with 3

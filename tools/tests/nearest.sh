@@ -11,7 +11,9 @@ count "launcher: its commands are those of --help" $?
 near=$room/near
 mkdir -p "$near"/{tools,release}
 cp mungo "$near" && printf '#!/bin/sh\necho one\n' >"$near/tools/digest" && echo one >"$near/release/digest"
-printf '#!/bin/sh\n[ $# -gt 0 ] || { echo "mungo: words" >&2; exit 2; }\nexec "%s" "$@"\n' "$MUNGO" >"$near/release/mungo"
+# What is tried may be the launcher itself, which then has no terminal.
+printf '#!/bin/sh\n[ $# -gt 0 ] || { echo "mungo: words" >&2; exit 2; }\n"%s" "$@" 2>"%s"\nstatus=$?\ncat "%s" >&2\nexit $status\n' \
+    "$MUNGO" "$near/said" "$near/said" >"$near/release/mungo"
 chmod +x "$near/tools/digest" "$near/release/mungo"
 cat >"$near/terminal.py" <<'END_OF_TERMINAL'
 """Runs the words with a terminal as standard error, puts on standard output what it shows, and ends with their status."""
