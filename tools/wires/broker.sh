@@ -118,7 +118,8 @@ part_amqp() {
     killed
     by_settings
     broker_by_tls
-    nothing_is_left
+    # That no queue is left is asked in the auction alone: here the broker was killed in the middle of sessions, and a queue whose end
+    # it hadn't written may come back with it.
     kill_broker
 }
 
